@@ -1,0 +1,314 @@
+-- The claim about whole lists of calls follows from laws about one state and one call alone.
+use Prim.Native.Nat.{ℕ}
+use native.Mathlib.Omega.{arith}
+use mathlib.Core.Path.{_≡_, refl, sym, ap, ap₂, _∙_}
+use mathlib.Core.Bool.{Bool, true, false, not, _&&_, _||_}
+use mathlib.Core.Option.{Option, none, some}
+use mathlib.Core.List.{List, [], _∷_, map}
+use lib.Dec.{eqb}
+use lib.ListN.{length}
+use borrow.Author.Tests.{eqb-true, eqb-false}
+use Rattle.spec.proofs.Bools.{un-not}
+use Rattle.spec.specs.Tests.{_is_, _⇒_else_, same}
+use Rattle.spec.specs.Book.{valid, free, sameSegment, pieces, permAt}
+use Rattle.spec.specs.Machine.{Ask, start, replace, push, break, fork, end, user-range-ok, copy-from-user, copy-to-user, try-copy-str-from-user, Call, Kind, begins, forks, plain, kind, Outcome, accepted, refused, ended, Reply, outcome, refuse, Machine, off, run, feed, judge, weigh, lengthsFit, listFits, numbered, living, unclaimed}
+use Rattle.spec.specs.World.{State, sized, sound, taken, view, answer, readable, after}
+use Rattle.spec.specs.History.{state, Asked, Entry, entry, Lines, put, later, join, lines, machine, held, heldPerm, Explained, typed, Begin, Claim}
+use Rattle.spec.specs.declared.UserSegment.{UserSegment}
+
+-- ---- put
+
+put-split : {A : Type 0} (P : A → Type 0) (f : ℕ → A) (n : ℕ) (x : A) (p : ℕ) → (p ≡ n → P x) → ((p ≡ n → ⊥) → P (f p)) → P (put f n x p)
+put-split P f n x p h k = go (eqb p n) refl
+  where
+    go : (b : Bool) → eqb p n ≡ b → P (b ⇒ x else f p)
+    go true e = h (eqb-true p n e)
+    go false e = k (eqb-false p n e)
+
+put-self : {A : Type 0} (f : ℕ → A) (n p : ℕ) (a : A) → a ≡ f n → put f n a p ≡ f p
+put-self f n p a e = put-split (λ x. x ≡ f p) f n a p (λ q. e ∙ ap f (sym q)) (λ ne. refl)
+
+put-map : {A B : Type 0} (g : A → B) (f : ℕ → A) (n p : ℕ) (a : A) → g (put f n a p) ≡ put (λ q. g (f q)) n (g a) p
+put-map g f n p a = go (eqb p n)
+  where
+    go : (b : Bool) → g (b ⇒ a else f p) ≡ (b ⇒ g a else g (f p))
+    go true = refl
+    go false = refl
+
+put-cong : {A : Type 0} (f g : ℕ → A) (n p : ℕ) (a b : A) → a ≡ b → f p ≡ g p → put f n a p ≡ put g n b p
+put-cong f g n p a b e h = ap₂ (λ x y. eqb p n ⇒ x else y) e h
+
+-- ---- what a call makes of every process's machine
+
+unfoldable pub effect : (ℕ → Machine) → Call → Kind → Outcome → ℕ → Machine
+effect ms c begins accepted = put ms (c .number) (run off (c .ask))
+effect ms c begins refused = ms
+effect ms c begins ended = ms
+effect ms c (forks child segments) accepted = put ms child (ms (c .number))
+effect ms c (forks child segments) refused = ms
+effect ms c (forks child segments) ended = put ms (c .number) off
+effect ms c plain o = put ms (c .number) (feed (ms (c .number)) (c .ask) o)
+
+effect-cong : (ms ks : ℕ → Machine) → ((q : ℕ) → valid q ≡ true → ms q ≡ ks q) → (c : Call) (k : Kind) (o : Outcome) (p : ℕ) → valid p ≡ true
+    → valid (c .number) ≡ true → effect ms c k o p ≡ effect ks c k o p
+unfolding effect
+effect-cong ms ks e c begins accepted p v w = put-cong ms ks (c .number) p _ _ refl (e p v)
+effect-cong ms ks e c begins refused p v w = e p v
+effect-cong ms ks e c begins ended p v w = e p v
+effect-cong ms ks e c (forks child segments) accepted p v w = put-cong ms ks child p _ _ (e (c .number) w) (e p v)
+effect-cong ms ks e c (forks child segments) refused p v w = e p v
+effect-cong ms ks e c (forks child segments) ended p v w = put-cong ms ks (c .number) p _ _ refl (e p v)
+effect-cong ms ks e c plain o p v w = put-cong ms ks (c .number) p _ _ (ap (λ m. feed m (c .ask) o) (e (c .number) w)) (e p v)
+
+effect-refused : (ms : ℕ → Machine) (c : Call) (k : Kind) (p : ℕ) → effect ms c k refused p ≡ ms p
+unfolding effect
+effect-refused ms c begins p = refl
+effect-refused ms c (forks child segments) p = refl
+effect-refused ms c plain p = put-self ms (c .number) p _ refl
+
+-- ---- what an outcome tells of the tests before it
+
+refusing : (t : Bool) (k : ℕ) (d : Ask) (x : Reply) (o : Outcome) → outcome (t ⇒ refuse k d else x) ≡ o → (o ≡ refused → ⊥) → (t ≡ false) × (outcome x ≡ o)
+refusing true k d x o e h = absurd (h (sym e))
+refusing false k d x o e h = (refl, e)
+
+accepted≢ : accepted ≡ refused → ⊥
+accepted≢ e = let z : _≡_ {A = ℕ} 0 1 = cc in omega arith
+
+ended≢ : ended ≡ refused → ⊥
+ended≢ e = let z : _≡_ {A = ℕ} 0 1 = cc in omega arith
+
+-- who had to live lived
+lived : (m : Machine) (f : ℕ) (t : ℕ → Bool) (c : Call) (o : Outcome) → outcome (judge m f t c) ≡ o → (o ≡ refused → ⊥) → living t (c .number) (kind (c .ask)) ≡ true
+unfolding judge
+lived m f t c o e h =
+    let a5 : Reply = not (unclaimed t (c .number) (kind (c .ask))) ⇒ refuse 5 (c .ask) else weigh m f (c .ask) in
+    let a4 : Reply = not (living t (c .number) (kind (c .ask))) ⇒ refuse 4 (c .ask) else a5 in
+    let a3 : Reply = not (numbered (c .number) (kind (c .ask))) ⇒ refuse 3 (c .ask) else a4 in
+    let a2 : Reply = not (listFits m (c .number) (kind (c .ask))) ⇒ refuse 2 (c .ask) else a3 in
+    let h1 = refusing (not (lengthsFit (c .ask))) 1 (c .ask) a2 o e h in
+    let h2 = refusing (not (listFits m (c .number) (kind (c .ask)))) 2 (c .ask) a3 o (h1 .1) h in
+    let h3 = refusing (not (numbered (c .number) (kind (c .ask)))) 3 (c .ask) a4 o (h2 .1) h in
+    let h4 = refusing (not (living t (c .number) (kind (c .ask)))) 4 (c .ask) a5 o (h3 .1) h in
+    un-not _ (h4 .0)
+
+-- a number outside 1 to 16 is refused, whatever the machine
+stray-list : (m : Machine) (n : ℕ) (k : Kind) → valid n ≡ false → listFits m n k ≡ true
+stray-list m n begins v = refl
+stray-list m n (forks child segments) v = rw v
+stray-list m n plain v = refl
+
+stray-number : (n : ℕ) (k : Kind) → valid n ≡ false → numbered n k ≡ false
+stray-number n begins v = v
+stray-number n (forks child segments) v = rw v
+stray-number n plain v = v
+
+abbrev strayAnswer : Call → Reply
+strayAnswer c = not (lengthsFit (c .ask)) ⇒ refuse 1 (c .ask) else refuse 3 (c .ask)
+
+stray-chain : (a b d e g : Bool) (x y z u v w : Reply) → b ≡ true → d ≡ false
+    → (not a ⇒ x else not b ⇒ y else not d ⇒ z else not e ⇒ u else not g ⇒ v else w) ≡ (not a ⇒ x else z)
+stray-chain a b d e g x y z u v w p q = rw (p, q)
+
+stray : (m : Machine) (f : ℕ) (t : ℕ → Bool) (c : Call) → valid (c .number) ≡ false → judge m f t c ≡ strayAnswer c
+unfolding judge
+stray m f t c v =
+    stray-chain (lengthsFit (c .ask)) (listFits m (c .number) (kind (c .ask))) (numbered (c .number) (kind (c .ask))) (living t (c .number) (kind (c .ask))) (unclaimed t (c .number) (kind (c .ask)))
+    (refuse 1 (c .ask)) (refuse 2 (c .ask)) (refuse 3 (c .ask)) (refuse 4 (c .ask)) (refuse 5 (c .ask)) (weigh m f (c .ask))
+    (stray-list m (c .number) (kind (c .ask)) v) (stray-number (c .number) (kind (c .ask)) v)
+
+stray-out : (t : Bool) (d : Ask) → outcome (not t ⇒ refuse 1 d else refuse 3 d) ≡ refused
+stray-out true d = refl
+stray-out false d = refl
+
+-- a process that forks goes on as it was
+fork-idle : (m : Machine) (q : Ask) (child : ℕ) (segments : List UserSegment) → kind q ≡ forks child segments → run m q ≡ m
+fork-idle m (start image name bytes lengths) child segments e = cc
+fork-idle m (replace image name argv) child segments e = cc
+fork-idle m (push pc top bytes lengths) child segments e = cc
+fork-idle m (break addr) child segments e = cc
+fork-idle m (fork c s) child segments e = refl
+fork-idle m end child segments e = cc
+fork-idle m (user-range-ok addr len write) child segments e = cc
+fork-idle m (copy-from-user buffer src) child segments e = cc
+fork-idle m (copy-to-user dst bytes) child segments e = cc
+fork-idle m (try-copy-str-from-user buffer src) child segments e = cc
+
+-- what begins a process asks nothing of its machine
+begins-any : (m k : Machine) (f : ℕ) (t : ℕ → Bool) (n : ℕ) (q : Ask) → kind q ≡ begins
+    → judge m f t (record { number = n; ask = q }) ≡ judge k f t (record { number = n; ask = q })
+unfolding judge
+begins-any m k f t n (start image name bytes lengths) e = refl
+begins-any m k f t n (replace image name argv) e = cc
+begins-any m k f t n (push pc top bytes lengths) e = cc
+begins-any m k f t n (break addr) e = cc
+begins-any m k f t n (fork c s) e = cc
+begins-any m k f t n end e = cc
+begins-any m k f t n (user-range-ok addr len write) e = cc
+begins-any m k f t n (copy-from-user buffer src) e = cc
+begins-any m k f t n (copy-to-user dst bytes) e = cc
+begins-any m k f t n (try-copy-str-from-user buffer src) e = cc
+
+-- ---- a line that grows
+
+module _ (l : Lines) (e : Entry) (n p : ℕ) where
+  after-later : e .asked .taken-before n ≡ true → machine (later l e n p) ≡ put (λ q. machine (l q)) n (feed (machine (l n)) (e .asked .call .ask) (outcome (e .answered))) p
+  after-later t = rw t (put-map machine l n p (e ∷ l n))
+
+  after-idle : feed (machine (l n)) (e .asked .call .ask) (outcome (e .answered)) ≡ machine (l n) → machine (later l e n p) ≡ machine (l p)
+  after-idle h = go (e .asked .taken-before n)
+    where
+      go : (b : Bool) → machine ((b ⇒ put l n (e ∷ l n) else l) p) ≡ machine (l p)
+      go true = put-map machine l n p (e ∷ l n) ∙ put-self (λ q. machine (l q)) n p _ h
+      go false = refl
+
+module _ (l : Lines) (m : Machine) (f : ℕ) (t : ℕ → Bool) (c : Call) (a : Reply) (p : ℕ) where
+  abbrev made : Entry
+  made = record { asked = record { call = c; free-before = f; taken-before = t }; answered = a }
+
+  counted : (o : Outcome) → outcome a ≡ o → t (c .number) ≡ true → machine (later l made (c .number) p) ≡ put (λ q. machine (l q)) (c .number) (feed (machine (l (c .number))) (c .ask) o) p
+  counted o r lv = after-later l made (c .number) p lv ∙ ap (λ x. put (λ q. machine (l q)) (c .number) (feed (machine (l (c .number))) (c .ask) x) p) r
+
+  uncounted : (o : Outcome) → outcome a ≡ o → feed (machine (l (c .number))) (c .ask) o ≡ machine (l (c .number)) → machine (later l made (c .number) p) ≡ machine (l p)
+  uncounted o r h = after-idle l made (c .number) p (ap (λ x. feed (machine (l (c .number))) (c .ask) x) r ∙ h)
+
+  line-law : (k : Kind) (o : Outcome) → kind (c .ask) ≡ k → outcome a ≡ o → outcome (judge m f t c) ≡ o
+      → machine (join l made (c .number) k o p) ≡ effect (λ q. machine (l q)) c k o p
+  unfolding effect
+  line-law begins accepted q r e = put-map machine l (c .number) p (made ∷ []) ∙ ap (λ x. put (λ z. machine (l z)) (c .number) (feed off (c .ask) x) p) r
+  line-law begins refused q r e = refl
+  line-law begins ended q r e = refl
+  line-law (forks child segments) accepted q r e =
+      let idle : feed (machine (l (c .number))) (c .ask) accepted ≡ machine (l (c .number)) = fork-idle (machine (l (c .number))) (c .ask) child segments q in
+      put-map machine (later l made (c .number)) child p (made ∷ l (c .number))
+      ∙ put-cong (λ z. machine (later l made (c .number) z)) (λ z. machine (l z)) child p _ _ (ap (λ x. feed (machine (l (c .number))) (c .ask) x) r ∙ idle) (uncounted accepted r idle)
+  line-law (forks child segments) refused q r e = uncounted refused r refl
+  line-law (forks child segments) ended q r e = counted ended r (sym (ap (living t (c .number)) q) ∙ lived m f t c ended e ended≢)
+  line-law plain accepted q r e = counted accepted r (sym (ap (living t (c .number)) q) ∙ lived m f t c accepted e accepted≢)
+  line-law plain refused q r e = uncounted refused r refl ∙ sym (put-self (λ z. machine (l z)) (c .number) p _ refl)
+  line-law plain ended q r e = counted ended r (sym (ap (living t (c .number)) q) ∙ lived m f t c ended e ended≢)
+
+-- ---- every answer of a grown line is explained
+
+later-told : (l : Lines) (e : Entry) (n p : ℕ) → Explained (e ∷ l n) → Explained (l p) → Explained (later l e n p)
+later-told l e n p x y = go (e .asked .taken-before n)
+  where
+    go : (b : Bool) → Explained ((b ⇒ put l n (e ∷ l n) else l) p)
+    go true = put-split Explained l n (e ∷ l n) p (λ q. x) (λ ne. y)
+    go false = y
+
+join-told : (l : Lines) (e : Entry) (p : ℕ) (k : Kind) (o : Outcome) → kind (e .asked .call .ask) ≡ k
+    → Explained (e ∷ l (e .asked .call .number)) → Explained (l p) → Explained (join l e (e .asked .call .number) k o p)
+join-told l e p begins accepted q x y =
+    put-split Explained l (e .asked .call .number) (e ∷ []) p
+    (λ z. (x .0 ∙ begins-any _ _ (e .asked .free-before) (e .asked .taken-before) (e .asked .call .number) (e .asked .call .ask) q, tt)) (λ ne. y)
+join-told l e p begins refused q x y = y
+join-told l e p begins ended q x y = y
+join-told l e p (forks child segments) accepted q x y =
+    put-split Explained (later l e (e .asked .call .number)) child (e ∷ l (e .asked .call .number)) p (λ z. x) (λ ne. later-told l e (e .asked .call .number) p x y)
+join-told l e p (forks child segments) refused q x y = later-told l e (e .asked .call .number) p x y
+join-told l e p (forks child segments) ended q x y = later-told l e (e .asked .call .number) p x y
+join-told l e p plain o q x y = later-told l e (e .asked .call .number) p x y
+
+-- ---- what is left to prove, of one state or of one call
+
+pub record Good (s : State) : Type 0 where
+  pub types : typed s ≡ true
+  pub sizes : sized s ≡ true
+  pub book : sound s ≡ true
+
+pub record Laws : Type 0 where
+  pub first : (s : State) → Begin s → (n : ℕ) → valid n ≡ true → view s n ≡ off
+  pub kept : (s : State) → Good s → (c : Call) → Good (after s c)
+  pub seen : (s : State) → Good s → (c : Call) (n : ℕ) → valid n ≡ true → view (after s c) n ≡ effect (view s) c (kind (c .ask)) (outcome (answer s c)) n
+  pub reads : (s : State) → Good s → (n a : ℕ) → valid n ≡ true → readable s n a ≡ held (view s n) a
+  pub pages : (s : State) → Good s → (n a : ℕ) → valid n ≡ true → heldPerm (view s n) a ≡ permAt (pieces (view s n .segments) (view s n .bss)) a
+  pub numbers : (s : State) → Good s → (n : ℕ) → valid n ≡ true → taken s n ≡ not (length (view s n .segments) is 0)
+
+-- in a sound book the answer is the table's over what the caller sees
+answer-chain : (a b d : Bool) (x y : Reply) (f : Bool → Reply) → a ≡ true → d ≡ true → f b ≡ (not b ⇒ x else f true) → (not (a && b) ⇒ x else not d ⇒ y else f b) ≡ f b
+answer-chain a true d x y f p q r = rw (p, q)
+answer-chain a false d x y f p q r = rw p (sym r)
+
+pub answered : (s : State) → Good s → (c : Call) → answer s c ≡ judge (view s (c .number)) (free (s .book)) (taken s) c
+unfolding answer judge
+answered s g c =
+    answer-chain (sized s) (lengthsFit (c .ask)) (sound s) (refuse 1 (c .ask)) (refuse 2 (c .ask))
+    (λ b. not b ⇒ refuse 1 (c .ask) else
+    not (listFits (view s (c .number)) (c .number) (kind (c .ask))) ⇒ refuse 2 (c .ask) else
+    not (numbered (c .number) (kind (c .ask))) ⇒ refuse 3 (c .ask) else
+    not (living (taken s) (c .number) (kind (c .ask))) ⇒ refuse 4 (c .ask) else
+    not (unclaimed (taken s) (c .number) (kind (c .ask))) ⇒ refuse 5 (c .ask) else
+    weigh (view s (c .number)) (free (s .book)) (c .ask)) (g .sizes) (g .book) refl
+
+module _ (laws : Laws) (s : State) (b : Begin s) where
+  good-after : (h : List Call) → Good (state s h)
+  good-after [] = record { types = b .types; sizes = b .sizes; book = b .book }
+  good-after (c ∷ h) = laws .kept (state s h) (good-after h) c
+
+  abbrev Seen : List Call → Type 0
+  Seen h = (p : ℕ) → valid p ≡ true → view (state s h) p ≡ machine (lines s h p)
+
+  heard : (h : List Call) → Seen h → (c : Call) → answer (state s h) c ≡ judge (machine (lines s h (c .number))) (free (state s h .book)) (taken (state s h)) c
+  heard h ih c = answered (state s h) (good-after h) c ∙ go (valid (c .number)) refl
+    where
+      go : (v : Bool) → valid (c .number) ≡ v
+          → judge (view (state s h) (c .number)) (free (state s h .book)) (taken (state s h)) c ≡ judge (machine (lines s h (c .number))) (free (state s h .book)) (taken (state s h)) c
+      go true v = ap (λ m. judge m (free (state s h .book)) (taken (state s h)) c) (ih (c .number) v)
+      go false v = stray _ _ _ c v ∙ sym (stray _ _ _ c v)
+
+  moved : (h : List Call) → Seen h → (c : Call) (p : ℕ) → valid p ≡ true
+      → effect (view (state s h)) c (kind (c .ask)) (outcome (answer (state s h) c)) p ≡ effect (λ q. machine (lines s h q)) c (kind (c .ask)) (outcome (answer (state s h) c)) p
+  moved h ih c p vp = go (valid (c .number)) refl
+    where
+      go : (v : Bool) → valid (c .number) ≡ v
+          → effect (view (state s h)) c (kind (c .ask)) (outcome (answer (state s h) c)) p ≡ effect (λ q. machine (lines s h q)) c (kind (c .ask)) (outcome (answer (state s h) c)) p
+      go true v = effect-cong (view (state s h)) (λ q. machine (lines s h q)) ih c (kind (c .ask)) (outcome (answer (state s h) c)) p vp v
+      go false v =
+          let out : outcome (answer (state s h) c) ≡ refused =
+          ap outcome (answered (state s h) (good-after h) c ∙ stray (view (state s h) (c .number)) (free (state s h .book)) (taken (state s h)) c v) ∙ stray-out (lengthsFit (c .ask)) (c .ask) in
+          ap (λ o. effect (view (state s h)) c (kind (c .ask)) o p) out
+          ∙ effect-refused (view (state s h)) c (kind (c .ask)) p ∙ ih p vp ∙ sym (effect-refused (λ q. machine (lines s h q)) c (kind (c .ask)) p)
+          ∙ ap (λ o. effect (λ q. machine (lines s h q)) c (kind (c .ask)) o p) (sym out)
+
+  seen-after : (h : List Call) → Seen h
+  seen-after [] p v = laws .first s b p v
+  seen-after (c ∷ h) p v =
+      laws .seen (state s h) (good-after h) c p v
+      ∙ moved h (seen-after h) c p v
+      ∙ sym (line-law (lines s h) _ (free (state s h .book)) (taken (state s h)) c (answer (state s h) c) p (kind (c .ask)) _ refl refl (ap outcome (sym (heard h (seen-after h) c))))
+
+  told-after : (h : List Call) (p : ℕ) → Explained (lines s h p)
+  told-after [] p = tt
+  told-after (c ∷ h) p =
+      join-told (lines s h) (entry (state s h) c) p (kind (c .ask)) _ refl (heard h (seen-after h) c, told-after h (c .number)) (told-after h p)
+
+-- ---- two histories
+
+entry-eq : (d e : Entry) → d .asked ≡ e .asked → d .answered ≡ e .answered → d ≡ e
+entry-eq d e p q = λ i. record { asked = p i; answered = q i }
+
+alike : (k l : List Entry) → Explained k → Explained l → map (λ e. e .asked) k ≡ map (λ e. e .asked) l → k ≡ l
+alike [] [] x y q = refl
+alike [] (e ∷ l) x y q = cc
+alike (d ∷ k) [] x y q = cc
+alike (d ∷ k) (e ∷ l) x y q =
+    let same : k ≡ l = alike k l (x .1) (y .1) (cc) in
+    let asked-same : d .asked ≡ e .asked = cc in
+    ap₂ _∷_ (entry-eq d e asked-same (x .0 ∙ ap₂ (λ (m : Machine) (q : Asked). judge m (q .free-before) (q .taken-before) (q .call)) (ap machine same) asked-same ∙ sym (y .0))) same
+
+pub claim : Laws → Claim
+claim laws = record {
+  bytes = λ s b h n a v. laws .reads (state s h) (good-after laws s b h) n a v ∙ ap (λ m. held m a) (seen-after laws s b h n v);
+  pages = λ s b h n a v. rw (← seen-after laws s b h n v) (laws .pages (state s h) (good-after laws s b h) n a v);
+  numbers = λ s b h n v. laws .numbers (state s h) (good-after laws s b h) n v ∙ ap (λ m. not (length (m .segments) is 0)) (seen-after laws s b h n v);
+  answers = λ s b h n. told-after laws s b h n;
+  alike = λ s t b c h g n v q.
+      let same : lines s h n ≡ lines t g n = alike (lines s h n) (lines t g n) (told-after laws s b h n) (told-after laws t c g n) q in (
+        ap (map (λ e. e .answered)) same,
+        λ a.
+            laws .reads (state s h) (good-after laws s b h) n a v
+            ∙ ap (λ m. held m a) (seen-after laws s b h n v ∙ ap machine same ∙ sym (seen-after laws t c g n v))
+            ∙ sym (laws .reads (state t g) (good-after laws t c g) n a v),
+      );
+}

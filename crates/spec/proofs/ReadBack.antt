@@ -1,0 +1,348 @@
+-- Pushed arguments read back as given.
+use Prim.Native.Nat.{ℕ, zero, suc, _+_, _*_, _-_, _/_, _%_, _^_, _≤_, _<_}
+use native.Mathlib.Omega.{arith}
+use native.Mathlib.Nat.{not-suc-le-zero, le-of-suc-le-suc, add-zero, add-suc, suc-add}
+use native.Mathlib.Numerals.{add-one}
+use mathlib.Core.Path.{_≡_, refl, sym, ap, ap₂, _∙_}
+use mathlib.Core.Bool.{Bool, true, false, not, _&&_, _||_}
+use mathlib.Core.Option.{Option, none, some}
+use mathlib.Core.List.{List, [], _∷_, _++_, append-assoc, append-nil}
+use lib.Dec.{eqb, ltb}
+use lib.ListN.{length, getD, take, drop, replicate, length-append, length-replicate, List·getD-append}
+use lib.Seq.{getD-append-add, take-at}
+use borrow.Author.Tests.{eqb-true, eqb-false, ltb-false, ltb-true, ne-eqb, eq-eqb}
+use Rattle.spec.proofs.Bools.{split, both, neither, not-true, not-above, clash}
+use Rattle.spec.specs.Tests.{_is_, _isnt_, _above_, _below_, within, _⇒_else_, any, has}
+use Rattle.spec.specs.Numbers.{uaddrtop, argLimit, pageDown, pageUp, le, leBytes, bytesFrom}
+use Rattle.spec.specs.Access.{Cell, Mem, cellOk, pagesOk, userRangeOk, byteOf, bytesAt, rewrite, write, Str, longer, copyStr}
+use Rattle.spec.specs.Exec.{strings, stackSize, argsError, stringsAt, argvAt, belowZero, pointers, pushOk, pushed, Argv, argBuffer, argvFrom, copyArgv}
+
+-- ---- ranges
+
+chain : (x y z : Bool) → (x ⇒ false else y ⇒ true else z) ≡ true → (x ≡ false) × (y ≡ false → z ≡ true)
+chain true y z e = absurd (let w : _≡_ {A = ℕ} 0 1 = cc in omega arith)
+chain false true z e = (refl, λ h. absurd (let w : _≡_ {A = ℕ} 0 1 = cc in omega arith))
+chain false false z e = (refl, λ h. e)
+
+page-at : (mem : Mem) (w : Bool) (k page : ℕ) → pagesOk mem w page k ≡ true → (i : ℕ) → i < k → cellOk w (mem (page + 4096 * i)) ≡ true
+page-at mem w zero page e i h = absurd (not-suc-le-zero h)
+page-at mem w (suc k) page e zero h = rw (add-zero page) (both (cellOk w (mem page)) (pagesOk mem w (page + 4096) k) e .0)
+page-at mem w (suc k) page e (suc i) h =
+    let q : page + 4096 + 4096 * i ≡ page + 4096 * suc i = omega arith in
+    rw (← q) (page-at mem w k (page + 4096) (both (cellOk w (mem page)) (pagesOk mem w (page + 4096) k) e .1) i (le-of-suc-le-suc h))
+
+pages-all : (mem : Mem) (w : Bool) (k page : ℕ) → ((i : ℕ) → i < k → cellOk w (mem (page + 4096 * i)) ≡ true) → pagesOk mem w page k ≡ true
+pages-all mem w zero page h = refl
+pages-all mem w (suc k) page h =
+    let e₀ : cellOk w (mem page) ≡ true = rw (add-zero page) at (h 0 (omega arith)) in
+    let more : pagesOk mem w (page + 4096) k ≡ true = pages-all mem w k (page + 4096)
+    (λ i l. let q : page + 4096 + 4096 * i ≡ page + 4096 * suc i = omega arith in rw q (h (suc i) (omega arith))) in
+    rw (e₀, more)
+
+-- what a passed range says of each of its addresses
+record InRange (mem : Mem) (w : Bool) (addr len : ℕ) : Type 0 where
+  top : addr + len ≤ uaddrtop
+  each : (a : ℕ) → addr ≤ a → a < addr + len → cellOk w (mem (pageDown a)) ≡ true
+
+range-means : (mem : Mem) (w : Bool) (addr len : ℕ) → userRangeOk mem w addr len ≡ true → InRange mem w addr len
+range-means mem w addr len e = record {
+  top = ltb-false _ _ (c .0);
+  each = λ a l h.
+      let p = c .1 (ne-eqb len 0 (λ z. omega arith)) in
+      let q : pageDown addr + 4096 * (a / 4096 - addr / 4096) ≡ pageDown a = omega arith in
+      rw q at (page-at mem w ((pageUp (addr + len) - pageDown addr) / 4096) (pageDown addr) p (a / 4096 - addr / 4096) (omega arith));
+}
+  where
+    c : ((addr + len above uaddrtop) ≡ false) × ((len is 0) ≡ false → pagesOk mem w (pageDown addr) ((pageUp (addr + len) - pageDown addr) / 4096) ≡ true)
+    c = chain (addr + len above uaddrtop) (len is 0) _ e
+
+range-all : (mem : Mem) (w : Bool) (addr len : ℕ) → 1 ≤ len → InRange mem w addr len → userRangeOk mem w addr len ≡ true
+range-all mem w addr len h r =
+    rw (not-above (addr + len) uaddrtop (r .top), ne-eqb len 0 (λ z. omega arith))
+    (pages-all mem w _ (pageDown addr) (λ i l. page i l))
+  where
+    page : (i : ℕ) → i < (pageUp (addr + len) - pageDown addr) / 4096 → cellOk w (mem (pageDown addr + 4096 * i)) ≡ true
+    page zero l = rw (add-zero (pageDown addr)) (r .each addr (omega arith) (omega arith))
+    page (suc i) l =
+        let a : ℕ = pageDown addr + 4096 * suc i in
+        let q : pageDown a ≡ pageDown addr + 4096 * suc i = omega arith in
+        rw q at (r .each a (omega arith) (omega arith))
+
+-- ---- writes
+
+weak : (o : Option Cell) → cellOk true o ≡ true → cellOk false o ≡ true
+weak none e = e
+weak (some c) e = refl
+
+rewrite-ok : (w : Bool) (b : ℕ) (o : Option Cell) → cellOk w (rewrite b o) ≡ cellOk w o
+rewrite-ok true b none = refl
+rewrite-ok true b (some c) = refl
+rewrite-ok false b none = refl
+rewrite-ok false b (some c) = refl
+
+write-ok : (w : Bool) (at : ℕ) (bs : List ℕ) (mem : Mem) (a : ℕ) → cellOk w (write at bs mem a) ≡ cellOk w (mem a)
+write-ok w at bs mem a = go (within at (at + length bs) a)
+  where
+    go : (t : Bool) → cellOk w (t ⇒ rewrite (getD bs (a - at) 0) (mem a) else mem a) ≡ cellOk w (mem a)
+    go true = rewrite-ok w (getD bs (a - at) 0) (mem a)
+    go false = refl
+
+inside : (low high a : ℕ) → low ≤ a → a < high → within low high a ≡ true
+inside low high a l h =
+    rw (not-below) (split (ltb a high) (λ q. q) (λ q. absurd (let w = ltb-false a high q in omega arith)))
+  where
+    not-below : (a below low) ≡ false
+    not-below = split (ltb a low) (λ q. absurd (let w = ltb-true a low q in omega arith)) (λ q. q)
+
+above-it : (low high a : ℕ) → high ≤ a → within low high a ≡ false
+above-it low high a h = split (ltb a high) (λ q. absurd (let w = ltb-true a high q in omega arith)) (λ q. rw q (and-no (not (a below low))))
+  where
+    and-no : (b : Bool) → (b && false) ≡ false
+    and-no true = refl
+    and-no false = refl
+
+rewrite-byte : (b : ℕ) (o : Option Cell) → cellOk true o ≡ true → byteOf (rewrite b o) ≡ b
+rewrite-byte b none e = absurd (let z : _≡_ {A = ℕ} 0 1 = cc in omega arith)
+rewrite-byte b (some c) e = refl
+
+write-byte : (at : ℕ) (bs : List ℕ) (mem : Mem) (j : ℕ) → j < length bs → cellOk true (mem (at + j)) ≡ true → byteOf (write at bs mem (at + j)) ≡ getD bs j 0
+write-byte at bs mem j h e =
+    rw (inside at (at + length bs) (at + j) (omega arith) (omega arith))
+    (rewrite-byte _ (mem (at + j)) e ∙ ap (λ (k : ℕ). getD bs k 0) (omega arith))
+
+write-past : (at : ℕ) (bs : List ℕ) (mem : Mem) (a : ℕ) → at + length bs ≤ a → write at bs mem a ≡ mem a
+write-past at bs mem a h = rw (above-it at (at + length bs) a h)
+
+-- ---- bytes and numbers
+
+bytes-are : (f : ℕ → ℕ) (xs : List ℕ) (a : ℕ) → ((j : ℕ) → j < length xs → f (a + j) ≡ getD xs j 0) → bytesFrom f a (length xs) ≡ xs
+bytes-are f [] a h = refl
+bytes-are f (x ∷ xs) a h =
+    let e : f a ≡ x = rw (add-zero a) at (h 0 (omega arith)) in
+    let more : bytesFrom f (a + 1) (length xs) ≡ xs = bytes-are f xs (a + 1)
+    (λ j l. let q : a + 1 + j ≡ a + suc j = omega arith in rw q (h (suc j) (omega arith))) in
+    ap₂ {C = List ℕ} (λ y ys. y ∷ ys) e more
+
+le-bytes : (s : ℕ) → s < 2 ^ 64 → le 8 (leBytes 8 s) 0 ≡ s
+le-bytes s h = omega arith
+
+-- ---- one string
+
+-- the two turns of a string copy, over tests that are variables
+first-turn : (t z : Bool) (u v w : Str) → t ≡ true → z ≡ true → (not t ⇒ u else z ⇒ v else w) ≡ v
+first-turn t z u v w e f = rw (e, f)
+
+next-turn : (t z : Bool) (u v w : Str) → t ≡ true → z ≡ false → (not t ⇒ u else z ⇒ v else w) ≡ w
+next-turn t z u v w e f = rw (e, f)
+
+first-is : (mem : Mem) (d : ℕ) (dst : List ℕ) (p : ℕ) → userRangeOk mem false p 1 ≡ true → byteOf (mem p) ≡ 0
+    → copyStr mem (d ∷ dst) p ≡ record { whole = true; size = 0; buffer = d ∷ dst }
+first-is mem d dst p r z = first-turn (userRangeOk mem false p 1) (byteOf (mem p) is 0) _ _ _ r (eq-eqb _ _ z)
+
+next-is : (mem : Mem) (x : ℕ) (xs : List ℕ) (d : ℕ) (dst : List ℕ) (p : ℕ) → userRangeOk mem false p 1 ≡ true → byteOf (mem p) ≡ x → (x is 0) ≡ false
+    → copyStr mem dst (p + 1) ≡ record { whole = true; size = length xs; buffer = xs ++ drop (length xs) dst }
+    → copyStr mem (d ∷ dst) p ≡ record { whole = true; size = suc (length xs); buffer = x ∷ xs ++ drop (length xs) dst }
+next-is mem x xs d dst p r b n e =
+    next-turn (userRangeOk mem false p 1) (byteOf (mem p) is 0) _ _ _ r (ap (λ (y : ℕ). y is 0) b ∙ n)
+    ∙ ap₂ {C = Str} longer b e ∙ ap (λ (k : ℕ). record { whole = true; size = k; buffer = x ∷ xs ++ drop (length xs) dst }) (add-one (length xs))
+
+copy-is : (mem : Mem) (a dst : List ℕ) (p : ℕ) → has 0 a ≡ false → length a < length dst
+    → ((j : ℕ) → j ≤ length a → userRangeOk mem false (p + j) 1 ≡ true)
+    → ((j : ℕ) → j < length a → byteOf (mem (p + j)) ≡ getD a j 0) → byteOf (mem (p + length a)) ≡ 0
+    → copyStr mem dst p ≡ record { whole = true; size = length a; buffer = a ++ drop (length a) dst }
+copy-is mem a [] p n l r b z = absurd (not-suc-le-zero l)
+copy-is mem [] (d ∷ dst) p n l r b z =
+    let r₀ : userRangeOk mem false p 1 ≡ true = rw (add-zero p) at (r 0 (omega arith)) in
+    let z₀ : byteOf (mem p) ≡ 0 = rw (add-zero p) at z in
+    first-is mem d dst p r₀ z₀
+copy-is mem (x ∷ xs) (d ∷ dst) p n l r b z =
+    let r₀ : userRangeOk mem false p 1 ≡ true = rw (add-zero p) at (r 0 (omega arith)) in
+    let b₀ : byteOf (mem p) ≡ x = rw (add-zero p) at (b 0 (omega arith)) in
+    let nx = neither (x is 0) (has 0 xs) n in
+    next-is mem x xs d dst p r₀ b₀ (nx .0) (copy-is mem xs dst (p + 1) (nx .1) (le-of-suc-le-suc l)
+    (λ j h. let q : p + 1 + j ≡ p + suc j = omega arith in rw q (r (suc j) (omega arith)))
+    (λ j h. let q : p + 1 + j ≡ p + suc j = omega arith in rw q (b (suc j) (omega arith)))
+    (let q : p + 1 + length xs ≡ p + suc (length xs) = omega arith in rw q z))
+
+-- ---- the list of arguments
+
+-- the pointer that stands before `rest`
+abbrev nextPtr : ℕ → List (List ℕ) → ℕ
+nextPtr p [] = 0
+nextPtr p (a ∷ args) = p
+
+strings-append : (x y : List (List ℕ)) → strings (x ++ y) ≡ strings x ++ strings y
+strings-append [] y = refl
+strings-append (a ∷ x) y = rw (strings-append x y, append-assoc a (0 ∷ strings x) (strings y)) refl
+
+length-string : (a : List ℕ) (x : List (List ℕ)) → length (strings (a ∷ x)) ≡ length a + 1 + length (strings x)
+length-string a x = let e = length-append a (0 ∷ strings x) in omega arith
+
+turn-end : (t z w f g : Bool) (u v x y q r : Argv) → t ≡ true → z ≡ true → (not t ⇒ u else z ⇒ v else not w ⇒ x else f ⇒ y else g ⇒ q else r) ≡ v
+turn-end t z w f g u v x y q r e₁ e₂ = rw (e₁, e₂)
+
+turn-next : (t z w f g : Bool) (u v x y q r : Argv) → t ≡ true → z ≡ false → w ≡ true → f ≡ false → g ≡ false
+    → (not t ⇒ u else z ⇒ v else not w ⇒ x else f ⇒ y else g ⇒ q else r) ≡ r
+turn-next t z w f g u v x y q r e₁ e₂ e₃ e₄ e₅ = rw (e₁, e₂, e₃, e₄, e₅)
+
+module _ (mem : Mem) (A S : ℕ) (args : List (List ℕ))
+    (ptr-ok : (i : ℕ) → i ≤ length args → userRangeOk mem false (A + 8 * i) 8 ≡ true)
+    (ptr : (before rest : List (List ℕ)) → args ≡ before ++ rest → le 8 (bytesAt mem (A + 8 * length before) 8) 0 ≡ nextPtr (S + length (strings before)) rest)
+    (str : (before : List (List ℕ)) (a : List ℕ) (ys : List (List ℕ)) → args ≡ before ++ a ∷ ys
+    → copyStr mem argBuffer (S + length (strings before)) ≡ record { whole = true; size = length a; buffer = a ++ drop (length a) argBuffer })
+    (pos : 1 ≤ S) (fit : stackSize (length (strings args)) (length args) ≤ argLimit) where
+  go : (rest before : List (List ℕ)) (turns : ℕ) → args ≡ before ++ rest → length rest < turns → argvFrom mem A before turns ≡ record { error = 0; args = args }
+  go [] before zero e l = absurd (not-suc-le-zero l)
+  go (a ∷ ys) before zero e l = absurd (not-suc-le-zero l)
+  go [] before (suc turns) e l =
+      let n : args ≡ before = e ∙ append-nil before in
+      let k : length before ≡ length args = ap length (sym n) in
+      let s : ℕ = le 8 (bytesAt mem (A + 8 * length before) 8) 0 in
+      let c : Str = copyStr mem argBuffer s in
+      let args′ : List (List ℕ) = before ++ take (c .size) (c .buffer) ∷ [] in
+      turn-end (userRangeOk mem false (A + 8 * length before) 8) (s is 0) (c .whole) (c .size is argLimit) (stackSize (length (strings args′)) (length args′) above argLimit)
+      (record { error = 35; args = [] }) (record { error = 0; args = before }) (record { error = 35; args = [] }) (record { error = 33; args = [] }) (record { error = 33; args = [] }) (argvFrom mem A args′ turns)
+      (ptr-ok (length before) (omega arith)) (eq-eqb s 0 (ptr before [] e))
+      ∙ ap (λ (x : List (List ℕ)). record { error = 0; args = x }) (sym n)
+  go (a ∷ ys) before (suc turns) e l =
+      let n : args ≡ (before ++ a ∷ []) ++ ys = e ∙ sym (append-assoc before (a ∷ []) ys) in
+      let k₀ : length args ≡ length before + suc (length ys) = ap length e ∙ length-append before (a ∷ ys) in
+      let p : ℕ = S + length (strings before) in
+      let s : ℕ = le 8 (bytesAt mem (A + 8 * length before) 8) 0 in
+      let es : s ≡ p = ptr before (a ∷ ys) e in
+      let st : copyStr mem argBuffer s ≡ record { whole = true; size = length a; buffer = a ++ drop (length a) argBuffer } = ap (copyStr mem argBuffer) es ∙ str before a ys e in
+      let ta : take (copyStr mem argBuffer s .size) (copyStr mem argBuffer s .buffer) ≡ a =
+      ap (λ (q : Str). take (q .size) (q .buffer)) st ∙ take-at a (drop (length a) argBuffer) (length a) refl in
+      let l₁ : length (strings args) ≡ length (strings (before ++ a ∷ [])) + length (strings ys) = ap (λ (x : List (List ℕ)). length (strings x)) n ∙ ap length (strings-append (before ++ a ∷ []) ys) ∙ length-append (strings (before ++ a ∷ [])) (strings ys) in
+      let l₂ : length (before ++ a ∷ []) ≡ length before + 1 = length-append before (a ∷ []) in
+      let l₃ : length (strings (before ++ a ∷ [])) ≡ length (strings before) + length (strings (a ∷ [])) = ap length (strings-append before (a ∷ [])) ∙ length-append (strings before) (strings (a ∷ [])) in
+      let l₄ : length (strings (a ∷ [])) ≡ length a + 1 + 0 = length-string a [] in
+      let args′ : List (List ℕ) = before ++ take (copyStr mem argBuffer s .size) (copyStr mem argBuffer s .buffer) ∷ [] in
+      let ea : args′ ≡ before ++ a ∷ [] = ap (λ (x : List ℕ). before ++ x ∷ []) ta in
+      let big : (stackSize (length (strings (before ++ a ∷ []))) (length (before ++ a ∷ [])) above argLimit) ≡ false = not-above (stackSize (length (strings (before ++ a ∷ []))) (length (before ++ a ∷ []))) argLimit (omega arith) in
+      turn-next (userRangeOk mem false (A + 8 * length before) 8) (s is 0) (copyStr mem argBuffer s .whole) (copyStr mem argBuffer s .size is argLimit) (stackSize (length (strings args′)) (length args′) above argLimit)
+      (record { error = 35; args = [] }) (record { error = 0; args = before }) (record { error = 35; args = [] }) (record { error = 33; args = [] }) (record { error = 33; args = [] }) (argvFrom mem A args′ turns)
+      (ptr-ok (length before) (omega arith))
+      (ne-eqb s 0 (λ z. omega arith))
+      (ap (λ (q : Str). q .whole) st)
+      (ap (λ (q : Str). q .size is argLimit) st ∙ ne-eqb (length a) argLimit (λ z. omega arith))
+      (ap (λ (x : List (List ℕ)). stackSize (length (strings x)) (length x) above argLimit) ea ∙ big)
+      ∙ ap (λ (x : List (List ℕ)). argvFrom mem A x turns) ea
+      ∙ go ys (before ++ a ∷ []) turns n (le-of-suc-le-suc l)
+
+-- ---- what stands in the pushed bytes
+
+length-pointers : (args : List (List ℕ)) (s : ℕ) → length (pointers s args) ≡ 8 * (length args + 1)
+length-pointers [] s = refl
+length-pointers (a ∷ args) s =
+    let e = length-append (leBytes 8 s) (pointers (s + length a + 1) args) in
+    let ih = length-pointers args (s + length a + 1) in
+    omega arith
+
+pointer-at : (before rest : List (List ℕ)) (s j : ℕ) → j < 8 → getD (pointers s (before ++ rest)) (8 * length before + j) 0 ≡ getD (leBytes 8 (nextPtr (s + length (strings before)) rest)) j 0
+pointer-at [] [] s j h = let q : 8 * 0 + j ≡ j = omega arith in ap (λ (k : ℕ). getD (leBytes 8 0) k 0) q
+pointer-at [] (a ∷ rest) s j h =
+    let q : 8 * 0 + j ≡ j = omega arith in
+    ap (λ (k : ℕ). getD (pointers s (a ∷ rest)) k 0) q
+    ∙ List·getD-append (leBytes 8 s) (pointers (s + length a + 1) rest) 0 j h
+    ∙ ap (λ (k : ℕ). getD (leBytes 8 k) j 0) (sym (add-zero s))
+pointer-at (b ∷ before) rest s j h =
+    let l = length-string b before in
+    let q : 8 * suc (length before) + j ≡ 8 + (8 * length before + j) = omega arith in
+    let q′ : s + length b + 1 + length (strings before) ≡ s + length (strings (b ∷ before)) = omega arith in
+    ap (λ (k : ℕ). getD (pointers s (b ∷ before ++ rest)) k 0) q
+    ∙ getD-append-add (leBytes 8 s) (pointers (s + length b + 1) (before ++ rest)) (8 * length before + j) 0
+    ∙ pointer-at before rest (s + length b + 1) j h
+    ∙ ap (λ (k : ℕ). getD (leBytes 8 (nextPtr k rest)) j 0) q′
+
+string-at : (before : List (List ℕ)) (a : List ℕ) (ys : List (List ℕ)) (j : ℕ) → getD (strings (before ++ a ∷ ys)) (length (strings before) + j) 0 ≡ getD (a ++ 0 ∷ strings ys) j 0
+string-at before a ys j = ap (λ (x : List ℕ). getD x (length (strings before) + j) 0) (strings-append before (a ∷ ys)) ∙ getD-append-add (strings before) (strings (a ∷ ys)) j 0
+
+no-nul : (before : List (List ℕ)) (a : List ℕ) (ys : List (List ℕ)) → any (has 0) (before ++ a ∷ ys) ≡ false → has 0 a ≡ false
+no-nul [] a ys e = neither (has 0 a) (any (has 0) ys) e .0
+no-nul (b ∷ before) a ys e = no-nul before a ys (neither (has 0 b) (any (has 0) (before ++ a ∷ ys)) e .1)
+
+args-chain : (a b : Bool) → _≡_ {A = ℕ} (a ⇒ 32 else b ⇒ 33 else 0) 0 → (a ≡ false) × (b ≡ false)
+args-chain true b e = absurd (omega arith)
+args-chain false true e = absurd (omega arith)
+args-chain false false e = (refl, refl)
+
+-- ---- all together
+
+module _ (mem : Mem) (top : ℕ) (args : List (List ℕ)) (whole : (a : ℕ) → cellOk true (mem a) ≡ cellOk true (mem (pageDown a)))
+    (low : 8 * (length args + 1) ≤ stringsAt top args / 8 * 8)
+    (r₁ : InRange mem true (stringsAt top args) (length (strings args)))
+    (r₂ : InRange mem true (argvAt top args) (8 * (length args + 1))) where
+  S : ℕ
+  S = stringsAt top args
+
+  kept : (w : Bool) (a : ℕ) → cellOk w (pushed top args mem a) ≡ cellOk w (mem a)
+  kept w a = write-ok w (argvAt top args) (pointers (stringsAt top args) args) (write (stringsAt top args) (strings args) mem) a ∙ write-ok w (stringsAt top args) (strings args) mem a
+
+  part : (addr len b k : ℕ) → InRange mem true addr len → 1 ≤ k → addr ≤ b → b + k ≤ addr + len → userRangeOk (pushed top args mem) false b k ≡ true
+  part addr len b k r h l u = range-all (pushed top args mem) false b k h (record {
+    top = omega (arith, r .top);
+    each = λ a x y. kept false (pageDown a) ∙ weak (mem (pageDown a)) (r .each a (omega arith) (omega arith));
+  })
+
+  ptr-byte : (j : ℕ) → j < 8 * (length args + 1) → byteOf (pushed top args mem (argvAt top args + j)) ≡ getD (pointers (stringsAt top args) args) j 0
+  ptr-byte j h =
+      write-byte (argvAt top args) (pointers (stringsAt top args) args) (write (stringsAt top args) (strings args) mem) j (rw (length-pointers args (stringsAt top args)) h)
+      (write-ok true (stringsAt top args) (strings args) mem (argvAt top args + j) ∙ whole (argvAt top args + j) ∙ r₂ .each (argvAt top args + j) (omega arith) (omega arith))
+
+  str-byte : (j : ℕ) → j < length (strings args) → byteOf (pushed top args mem (stringsAt top args + j)) ≡ getD (strings args) j 0
+  str-byte j h =
+      let l = length-pointers args (stringsAt top args) in
+      ap byteOf (write-past (argvAt top args) (pointers (stringsAt top args) args) (write (stringsAt top args) (strings args) mem) (stringsAt top args + j) (omega arith))
+      ∙ write-byte (stringsAt top args) (strings args) mem j h (whole (stringsAt top args + j) ∙ r₁ .each (stringsAt top args + j) (omega arith) (omega arith))
+
+  ptrs : (before rest : List (List ℕ)) → args ≡ before ++ rest → le 8 (bytesAt (pushed top args mem) (argvAt top args + 8 * length before) 8) 0 ≡ nextPtr (stringsAt top args + length (strings before)) rest
+  ptrs before rest e =
+      let n : length args ≡ length before + length rest = ap length e ∙ length-append before rest in
+      ap (λ (x : List ℕ). le 8 x 0) (bytes-are (λ a. byteOf (pushed top args mem a)) (leBytes 8 (nextPtr (stringsAt top args + length (strings before)) rest)) (argvAt top args + 8 * length before)
+      (λ j h.
+      let q : argvAt top args + 8 * length before + j ≡ argvAt top args + (8 * length before + j) = omega arith in
+      ap (λ (a : ℕ). byteOf (pushed top args mem a)) q
+      ∙ ptr-byte (8 * length before + j) (omega arith)
+      ∙ ap (λ (x : List (List ℕ)). getD (pointers (stringsAt top args) x) (8 * length before + j) 0) e
+      ∙ pointer-at before rest (stringsAt top args) j h))
+      ∙ le-bytes _ (small rest e)
+    where
+      small : (r : List (List ℕ)) → args ≡ before ++ r → nextPtr (stringsAt top args + length (strings before)) r < 2 ^ 64
+      small [] q = omega arith
+      small (a ∷ r) q =
+          let m : length (strings args) ≡ length (strings before) + length (strings (a ∷ r)) = ap (λ (x : List (List ℕ)). length (strings x)) q ∙ ap length (strings-append before (a ∷ r)) ∙ length-append (strings before) (strings (a ∷ r)) in
+          omega (arith, r₁ .top)
+
+  strs : any (has 0) args ≡ false → stackSize (length (strings args)) (length args) ≤ argLimit → (before : List (List ℕ)) (a : List ℕ) (ys : List (List ℕ)) → args ≡ before ++ a ∷ ys
+      → copyStr (pushed top args mem) argBuffer (stringsAt top args + length (strings before)) ≡ record { whole = true; size = length a; buffer = a ++ drop (length a) argBuffer }
+  unfolding argBuffer
+  strs nul fit before a ys e =
+      let m : length (strings args) ≡ length (strings before) + length (strings (a ∷ ys)) = ap (λ (x : List (List ℕ)). length (strings x)) e ∙ ap length (strings-append before (a ∷ ys)) ∙ length-append (strings before) (strings (a ∷ ys)) in
+      let l = length-string a ys in
+      let b : (j : ℕ) → j ≤ length a → byteOf (pushed top args mem (stringsAt top args + length (strings before) + j)) ≡ getD (a ++ 0 ∷ strings ys) j 0 =
+      λ j h.
+      let q : stringsAt top args + length (strings before) + j ≡ stringsAt top args + (length (strings before) + j) = omega arith in
+      ap (λ (x : ℕ). byteOf (pushed top args mem x)) q ∙ str-byte (length (strings before) + j) (omega arith)
+      ∙ ap (λ (x : List (List ℕ)). getD (strings x) (length (strings before) + j) 0) e ∙ string-at before a ys j in
+      copy-is (pushed top args mem) a argBuffer (stringsAt top args + length (strings before)) (no-nul before a ys (rw e at nul)) (rw (length-replicate {A = ℕ} argLimit 0) (omega arith))
+      (λ j h. part (stringsAt top args) (length (strings args)) (stringsAt top args + length (strings before) + j) 1 r₁ (omega arith) (omega arith) (omega arith))
+      (λ j h. b j (omega arith) ∙ List·getD-append a (0 ∷ strings ys) 0 j h)
+      (b (length a) (omega arith) ∙ ap (λ (k : ℕ). getD (a ++ 0 ∷ strings ys) k 0) (sym (add-zero (length a))) ∙ getD-append-add a (0 ∷ strings ys) 0 0)
+
+pub read-back : (mem : Mem) (top : ℕ) (args : List (List ℕ)) → ((a : ℕ) → cellOk true (mem a) ≡ cellOk true (mem (pageDown a)))
+    → argsError args ≡ 0 → pushOk mem top args ≡ true
+    → copyArgv (pushed top args mem) (argvAt top args) ≡ record { error = 0; args = args }
+unfolding copyArgv
+read-back mem top args whole e p =
+    let ac = args-chain (any (has 0) args) (stackSize (length (strings args)) (length args) above argLimit) e in
+    let fit : stackSize (length (strings args)) (length args) ≤ argLimit = ltb-false _ _ (ac .1) in
+    let b₁ = both (not (belowZero top args) && userRangeOk mem true (stringsAt top args) (length (strings args))) (userRangeOk mem true (argvAt top args) (8 * (length args + 1))) p in
+    let b₂ = both (not (belowZero top args)) (userRangeOk mem true (stringsAt top args) (length (strings args))) (b₁ .0) in
+    let low : 8 * (length args + 1) ≤ stringsAt top args / 8 * 8 = ltb-false _ _ (not-true (belowZero top args) (b₂ .0)) in
+    let r₁ = range-means mem true (stringsAt top args) (length (strings args)) (b₂ .1) in
+    let r₂ = range-means mem true (argvAt top args) (8 * (length args + 1)) (b₁ .1) in
+    go (pushed top args mem) (argvAt top args) (stringsAt top args) args
+    (λ i h. part mem top args whole low r₁ r₂ (argvAt top args) (8 * (length args + 1)) (argvAt top args + 8 * i) 8 r₂ (omega arith) (omega arith) (omega arith))
+    (ptrs mem top args whole low r₁ r₂) (strs mem top args whole low r₁ r₂ (ac .0) fit) (omega arith) fit
+    args [] argLimit refl (omega arith)

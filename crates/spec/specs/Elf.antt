@@ -1,0 +1,120 @@
+-- Item 4, elf.rs: the checks 11 to 27 of an image, in their order, and its loadable segments.
+-- Assumes nothing.
+use Prim.Native.Nat.{ℕ, zero, suc, _+_, _*_, _-_, _%_, _^_}
+use mathlib.Core.Bool.{Bool, true, false, not, _&&_, _||_}
+use mathlib.Core.List.{List, [], _∷_, map}
+use lib.ListN.{length, take, drop, getD}
+use Rattle.spec.specs.Tests.{_is_, _isnt_, _below_, _above_, within, _⇒_else_, _orElse_, all, any, filter, same}
+use Rattle.spec.specs.Numbers.{pageUp, pageDown, le}
+
+-- the first four bytes: 127 `ELF`
+abbrev pub magic : List ℕ
+magic = 127 ∷ 69 ∷ 76 ∷ 70 ∷ []
+
+-- the entry at 24; the header table's offset at 32 and its count at 56
+abbrev pub entry : List ℕ → ℕ
+entry image = le 8 image 24
+
+abbrev pub phoff : List ℕ → ℕ
+phoff image = le 8 image 32
+
+abbrev pub phnum : List ℕ → ℕ
+phnum image = le 2 image 56
+
+-- checks 11 to 20, in this order
+unfoldable pub ehdrError : List ℕ → ℕ
+ehdrError image =
+    length image below 64 ⇒ 11 else
+    not (same _is_ (take 4 image) magic) ⇒ 12 else
+    le 1 image 4 isnt 2 ⇒ 13 else
+    le 1 image 5 isnt 1 ⇒ 14 else
+    le 1 image 6 isnt 1 || le 4 image 20 isnt 1 ⇒ 15 else
+    le 2 image 16 isnt 2 ⇒ 16 else
+    le 2 image 18 isnt 183 ⇒ 17 else
+    le 2 image 54 isnt 56 ⇒ 18 else
+    entry image % 4 isnt 0 ⇒ 19 else
+    phoff image + 56 * phnum image above length image ⇒ 20 else
+    0
+
+-- the eight values of the low three flag bits: 5 text (1), 4 rodata (2), 6 data (3), others refused (0)
+abbrev pub flagTable : List ℕ
+flagTable = 0 ∷ 0 ∷ 0 ∷ 0 ∷ 2 ∷ 1 ∷ 3 ∷ 0 ∷ []
+
+-- a program header; the alignment field isn't read
+pub record Phdr : Type 0 where
+  pub type : ℕ
+  pub flags : ℕ
+  pub offset : ℕ
+  pub vaddr : ℕ
+  pub filesz : ℕ
+  pub memsz : ℕ
+
+-- the program header at a place of the image
+abbrev pub phdrAt : List ℕ → ℕ → Phdr
+phdrAt image at = record {
+  type = le 4 image at;
+  flags = le 4 image (at + 4);
+  offset = le 8 image (at + 8);
+  vaddr = le 8 image (at + 16);
+  filesz = le 8 image (at + 32);
+  memsz = le 8 image (at + 40);
+}
+
+-- k headers from place `at` on, in table order
+abbrev pub phdrsFrom : List ℕ → ℕ → ℕ → List Phdr
+phdrsFrom image at zero = []
+phdrsFrom image at (suc k) = phdrAt image at ∷ phdrsFrom image (at + 56) k
+
+-- a header whose type isn't 1 or whose memory size is 0 is skipped, before its other checks
+abbrev pub loads : Phdr → Bool
+loads p = p .type is 1 && p .memsz isnt 0
+
+-- the program headers that are not skipped, in table order
+unfoldable pub phdrs : List ℕ → List Phdr
+phdrs image = filter loads (phdrsFrom image (phoff image) (phnum image))
+
+-- of the flags only the low three bits count
+abbrev pub flagPerm : Phdr → ℕ
+flagPerm p = getD flagTable (p .flags % 8) 0
+
+-- checks 21 to 26 for each header; `end` is the page end of the segment before it
+unfoldable pub phdrError : List ℕ → ℕ → List Phdr → ℕ
+phdrError image end [] = 0
+phdrError image end (p ∷ ps) =
+    p .filesz above p .memsz ⇒ 21 else
+    p .offset + p .filesz above length image ⇒ 22 else
+    p .vaddr % 4096 isnt p .offset % 4096 ⇒ 23 else
+    p .vaddr + p .memsz above 2 ^ 64 - 4096 ⇒ 24 else
+    flagPerm p is 0 ⇒ 25 else
+    pageDown (p .vaddr) below end ⇒ 26 else
+    phdrError image (pageUp (p .vaddr + p .memsz)) ps
+
+-- a loadable segment: `memsz` bytes at `vaddr`, of which the first are `file`, and the rest zero
+pub record Segment : Type 0 where
+  pub vaddr : ℕ
+  pub memsz : ℕ
+  pub file : List ℕ
+  pub perm : ℕ
+
+-- the segment that a header describes, and all that an image has
+abbrev pub segmentOf : List ℕ → Phdr → Segment
+segmentOf image p = record { vaddr = p .vaddr; memsz = p .memsz; file = take (p .filesz) (drop (p .offset) image); perm = flagPerm p }
+
+unfoldable pub segmentsOf : List ℕ → List Segment
+unfolding phdrs
+segmentsOf image = map (segmentOf image) (phdrs image)
+
+-- an address lies in the file bytes of a segment
+abbrev pub inFile : ℕ → Segment → Bool
+inFile a g = within (g .vaddr) (g .vaddr + length (g .file)) a
+
+-- the entry must lie in the file bytes of some text segment
+abbrev pub entryInText : List ℕ → Bool
+entryInText image = any (λ g. g .perm is 1 && inFile (entry image) g) (segmentsOf image)
+
+-- what an image is refused for: 11 to 20, then 21 to 26, then 27; or 0
+unfoldable pub elfError : List ℕ → ℕ
+elfError image =
+    ehdrError image orElse
+    phdrError image 0 (phdrs image) orElse
+    (entryInText image ⇒ 0 else 27)

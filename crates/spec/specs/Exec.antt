@@ -1,0 +1,149 @@
+-- Item 5, exec.rs: layout, segments, the contents of pages, and arguments.
+-- Assumes nothing.
+use Prim.Native.Nat.{ℕ, zero, suc, _+_, _*_, _-_, _/_}
+use mathlib.Core.Bool.{Bool, true, false, not, _&&_, _||_}
+use mathlib.Core.Option.{Option, none, some}
+use mathlib.Core.List.{List, [], _∷_, _++_, map}
+use lib.ListN.{length, take, drop, getD, replicate}
+use Rattle.spec.specs.Tests.{_is_, _isnt_, _below_, _above_, _⇒_else_, any, has, filter}
+use Rattle.spec.specs.Numbers.{utzero, limit, argLimit, pageUp, pageDown, le, leBytes}
+use Rattle.spec.specs.Book.{range, segment, stack, bssSegment, permAt}
+use Rattle.spec.specs.Access.{Cell, Mem, userRangeOk, bytesAt, write, Str, copyStr}
+use Rattle.spec.specs.Elf.{Segment, segmentsOf, elfError, inFile}
+use Rattle.spec.specs.declared.VirtRange.{VirtRange}
+use Rattle.spec.specs.declared.UserSegment.{UserSegment}
+use Rattle.spec.specs.declared.UserRegs.{UserRegs}
+
+-- ---- layout
+
+-- `layout`: each segment starts at UTZERO or above and ends at most at limit, and nothing follows a data segment
+abbrev pub layoutOk : List Segment → Bool
+layoutOk [] = true
+layoutOk (g ∷ gs) = not (g .vaddr below utzero) && not (g .vaddr + g .memsz above limit) && (g .perm isnt 3 || length gs is 0) && layoutOk gs
+
+-- bss: from data's address + file size to the page end of data's memory; without data, empty at the page end of the last segment
+abbrev pub bssOf : List Segment → VirtRange
+bssOf [] = range utzero utzero
+bssOf (g ∷ []) = range (g .perm is 3 ⇒ g .vaddr + length (g .file) else pageUp (g .vaddr + g .memsz)) (pageUp (g .vaddr + g .memsz))
+bssOf (g ∷ h ∷ gs) = bssOf (h ∷ gs)
+
+-- `segments`: each segment's pages, but the data's recorded pages end at bss start rounded up; empty ranges are dropped
+abbrev pub userSegment : VirtRange → Segment → UserSegment
+userSegment bss g = segment (pageDown (g .vaddr)) (g .perm is 3 ⇒ pageUp (bss .start) else pageUp (g .vaddr + g .memsz)) (g .perm)
+
+abbrev pub imageSegments : List ℕ → List UserSegment
+imageSegments image = filter (λ s. s .range .start below s .range .end) (map (userSegment (bssOf (segmentsOf image))) (segmentsOf image))
+
+-- the bss of an image
+abbrev pub imageBss : List ℕ → VirtRange
+imageBss image = bssOf (segmentsOf image)
+
+-- 30 for any of 11 to 27 or the layout; 31 for over 15 recorded segments; or 0
+abbrev pub imageError : List ℕ → ℕ
+imageError image =
+    elfError image isnt 0 ⇒ 30 else
+    not (layoutOk (segmentsOf image)) ⇒ 30 else
+    length (imageSegments image) above 15 ⇒ 31 else
+    0
+
+-- the pages that a start takes, ascending: the image's, the bss's, the stack's
+abbrev pub startPieces : List ℕ → List UserSegment
+startPieces image = imageSegments image ++ bssSegment (imageBss image) ∷ stack ∷ []
+
+-- a page holds its file bytes and zero elsewhere
+abbrev pub fileByte : List Segment → ℕ → ℕ
+fileByte [] a = 0
+fileByte (g ∷ gs) a = inFile a g ⇒ getD (g .file) (a - g .vaddr) 0 else fileByte gs a
+
+-- what stands at each address of an image's pages before arguments are pushed
+abbrev pub cellOf : ℕ → Option ℕ → Option Cell
+cellOf byte none = none
+cellOf byte (some perm) = some (record { perm = perm; byte = byte })
+
+abbrev pub loaded : List ℕ → Mem
+loaded image a = cellOf (fileByte (segmentsOf image) a) (permAt (startPieces image) a)
+
+-- ---- arguments
+
+-- bytes and lengths stand for a list of arguments
+abbrev pub argsOf : List ℕ → List ℕ → List (List ℕ)
+argsOf bytes [] = []
+argsOf bytes (n ∷ ns) = take n bytes ∷ argsOf (drop n bytes) ns
+
+-- the strings, each with its NUL
+abbrev pub strings : List (List ℕ) → List ℕ
+strings [] = []
+strings (a ∷ args) = a ++ 0 ∷ strings args
+
+-- `stack_size`: strings with NULs rounded up to 8, + 8 × (count + 1) + 8
+abbrev pub stackSize : ℕ → ℕ → ℕ
+stackSize size count = (size + 7) / 8 * 8 + 8 * (count + 1) + 8
+
+-- 32 for a NUL in an argument; 33 for arguments over the limit; or 0
+abbrev pub argsError : List (List ℕ) → ℕ
+argsError args =
+    any (has 0) args ⇒ 32 else
+    stackSize (length (strings args)) (length args) above argLimit ⇒ 33 else
+    0
+
+-- `push_args`: strings end at top; pointers and a null lie below from an 8-aligned place; sp is that place rounded down to 16
+abbrev pub stringsAt : ℕ → List (List ℕ) → ℕ
+stringsAt top args = top - length (strings args)
+
+abbrev pub argvAt : ℕ → List (List ℕ) → ℕ
+argvAt top args = stringsAt top args / 8 * 8 - 8 * (length args + 1)
+
+abbrev pub registers : ℕ → ℕ → List (List ℕ) → UserRegs
+registers pc top args = record { pc = pc; sp = argvAt top args / 16 * 16; argc = length args; argv = argvAt top args }
+
+-- a pointer to each string from place s on, then a null
+abbrev pub pointers : ℕ → List (List ℕ) → List ℕ
+pointers s [] = leBytes 8 0
+pointers s (a ∷ args) = leBytes 8 s ++ pointers (s + length a + 1) args
+
+-- a push below address 0
+abbrev pub belowZero : ℕ → List (List ℕ) → Bool
+belowZero top args = stringsAt top args / 8 * 8 below 8 * (length args + 1)
+
+-- it may write its strings and its pointers
+abbrev pub pushOk : Mem → ℕ → List (List ℕ) → Bool
+pushOk mem top args =
+    not (belowZero top args)
+    && userRangeOk mem true (stringsAt top args) (length (strings args))
+    && userRangeOk mem true (argvAt top args) (8 * (length args + 1))
+
+-- and what it leaves
+abbrev pub pushed : ℕ → List (List ℕ) → Mem → Mem
+pushed top args mem = write (argvAt top args) (pointers (stringsAt top args) args) (write (stringsAt top args) (strings args) mem)
+
+-- ---- the arguments of replace
+
+-- what `copy_argv` comes to: 35, 33 or 0, and the arguments
+pub record Argv : Type 0 where
+  pub error : ℕ
+  pub args : List (List ℕ)
+
+-- the buffer that each string is copied to
+unfoldable pub argBuffer : List ℕ
+argBuffer = replicate argLimit 0
+
+-- in reading order: pointer, string, limit, next. `before` are the arguments read so far; each takes 8 bytes of the limit or more,
+-- so that argLimit turns are never used up
+abbrev pub argvFrom : Mem → ℕ → List (List ℕ) → ℕ → Argv
+argvFrom mem argv before zero = record { error = 33; args = [] }
+argvFrom mem argv before (suc turns) =
+    let at : ℕ = argv + 8 * length before in
+    let s : ℕ = le 8 (bytesAt mem at 8) 0 in
+    let str : Str = copyStr mem argBuffer s in
+    let args : List (List ℕ) = before ++ take (str .size) (str .buffer) ∷ [] in
+    let more : Argv = argvFrom mem argv args turns in
+    not (userRangeOk mem false at 8) ⇒ record { error = 35; args = [] } else
+    s is 0 ⇒ record { error = 0; args = before } else
+    not (str .whole) ⇒ record { error = 35; args = [] } else
+    str .size is argLimit ⇒ record { error = 33; args = [] } else
+    stackSize (length (strings args)) (length args) above argLimit ⇒ record { error = 33; args = [] } else
+    more
+
+-- the arguments in the array of pointers at `argv`
+unfoldable pub copyArgv : Mem → ℕ → Argv
+copyArgv mem argv = argvFrom mem argv [] argLimit

@@ -1,0 +1,14 @@
+-- Everything that a reader must believe, one module for each of the scope's items, in its order.
+pub mod Tests
+pub mod Numbers
+pub mod Name
+pub mod Book
+pub mod Sound
+pub mod Access
+pub mod Elf
+pub mod Exec
+pub mod Segment
+pub mod Machine
+pub mod World
+pub mod History
+pub mod Listing

@@ -1,0 +1,50 @@
+-- The listing program: what it prints for an image.
+-- Assumes nothing.
+use Prim.Native.Nat.{ℕ, zero, suc, _+_, _/_, _%_}
+use mathlib.Core.List.{List, [], _∷_, _++_}
+use lib.ListN.{length}
+use Rattle.spec.specs.Tests.{_is_, _isnt_, _below_, _above_, _⇒_else_, ascii}
+use Rattle.spec.specs.Book.{pageCount}
+use Rattle.spec.specs.Elf.{entry, elfError}
+use Rattle.spec.specs.Exec.{imageError, imageSegments, imageBss, startPieces}
+use Rattle.spec.specs.declared.UserSegment.{UserSegment}
+use Rattle.spec.specs.declared.VirtRange.{VirtRange}
+
+-- over 32,768 bytes 1; otherwise 11 to 27, 30 or 31; or 0
+unfoldable pub listError : List ℕ → ℕ
+listError image =
+    length image above 32768 ⇒ 1 else
+    elfError image isnt 0 ⇒ elfError image else
+    imageError image
+
+-- a number in decimal, of at most k digits; 20 digits hold every number below 2^64
+abbrev pub decimalOf : ℕ → ℕ → List ℕ
+decimalOf zero n = []
+decimalOf (suc k) n = n below 10 ⇒ (48 + n) ∷ [] else decimalOf k (n / 10) ++ (48 + n % 10) ∷ []
+
+abbrev pub decimal : ℕ → List ℕ
+decimal n = decimalOf 20 n
+
+-- start and end, and the end of the line (byte 10)
+abbrev pub rangeText : VirtRange → List ℕ
+rangeText r = decimal (r .start) ++ ascii " " ++ decimal (r .end) ++ 10 ∷ []
+
+-- a segment's kind
+abbrev pub kindText : ℕ → List ℕ
+kindText perm =
+    perm is 1 ⇒ ascii "text " else
+    perm is 2 ⇒ ascii "rodata " else
+    ascii "data "
+
+-- each segment's kind, start and end
+abbrev pub segmentLines : List UserSegment → List ℕ
+segmentLines [] = []
+segmentLines (g ∷ gs) = ascii "segment=" ++ kindText (g .perm) ++ rangeText (g .range) ++ segmentLines gs
+
+-- a refusal's number; or entry; segments; bss; pages with stack
+unfoldable pub listing : List ℕ → List ℕ
+listing image =
+    listError image isnt 0 ⇒ ascii "refused=" ++ decimal (listError image) ++ 10 ∷ [] else
+    (ascii "entry=" ++ decimal (entry image) ++ 10 ∷ segmentLines (imageSegments image)
+    ++ ascii "bss=" ++ rangeText (imageBss image)
+    ++ ascii "pages=" ++ decimal (pageCount (startPieces image)) ++ 10 ∷ [])

@@ -1,0 +1,275 @@
+-- The ten calls and their answers; the plain machine: what one process holds, what a call answers over it, what a call makes of it.
+-- Nothing here knows of frames, a book or other processes. Assumes nothing.
+use Prim.Native.Nat.{ℕ, _+_, _%_}
+use mathlib.Core.Bool.{Bool, true, false, not, _&&_, _||_}
+use mathlib.Core.Option.{Option, none, some}
+use mathlib.Core.List.{List, [], _∷_, _++_}
+use lib.ListN.{length}
+use Rattle.spec.specs.Tests.{_is_, _isnt_, _above_, _⇒_else_, same, sum}
+use Rattle.spec.specs.Numbers.{ustktop, pageUp}
+use Rattle.spec.specs.Book.{valid, range, stack, sameSegment, pieces, pageCount}
+use Rattle.spec.specs.Access.{Mem, userRangeOk, bytesAt, write, Str, copyStr}
+use Rattle.spec.specs.Elf.{entry}
+use Rattle.spec.specs.Exec.{imageError, imageSegments, imageBss, startPieces, loaded, argsOf, argsError, registers, pushOk, pushed, Argv, copyArgv}
+use Rattle.spec.specs.Segment.{Break, ibrk, moved}
+use Rattle.spec.specs.declared.VirtRange.{VirtRange}
+use Rattle.spec.specs.declared.UserSegment.{UserSegment}
+use Rattle.spec.specs.declared.UserRegs.{UserRegs}
+use Rattle.spec.specs.declared.Answer.{Answer}
+use Rattle.spec.specs.declared.Answer.the-variants.{Regs, Value, Done, Refused, Ended}
+
+-- ---- calls and answers
+
+-- the ten calls with their arguments: bytes of lent buffers and fork's lent list among them
+pub data Ask : Type 0 where
+  start : (image name bytes lengths : List ℕ) → Ask
+  replace : (image name : List ℕ) (argv : ℕ) → Ask
+  push : (pc top : ℕ) (bytes lengths : List ℕ) → Ask
+  break : (addr : ℕ) → Ask
+  fork : (child : ℕ) (segments : List UserSegment) → Ask
+  end : Ask
+  user-range-ok : (addr len : ℕ) (write : Bool) → Ask
+  copy-from-user : (buffer : List ℕ) (src : ℕ) → Ask
+  copy-to-user : (dst : ℕ) (bytes : List ℕ) → Ask
+  try-copy-str-from-user : (buffer : List ℕ) (src : ℕ) → Ask
+
+-- all that a call is given but frames, book and records
+pub record Call : Type 0 where
+  pub number : ℕ  -- the process's; of fork the parent's
+  pub ask : Ask
+
+-- all that a call gives back but frames, book and records: its answer, and its lent buffer afterwards
+pub record Reply : Type 0 where
+  pub says : Answer
+  pub buffer : List ℕ
+
+-- a call was accepted, refused, or ended the process
+pub data Outcome : Type 0 where
+  accepted refused ended : Outcome
+
+abbrev pub outcomeOf : Answer → Outcome
+outcomeOf (Regs regs) = accepted
+outcomeOf (Value value) = accepted
+outcomeOf Done = accepted
+outcomeOf (Refused number) = refused
+outcomeOf (Ended number) = ended
+
+abbrev pub outcome : Reply → Outcome
+outcome r = outcomeOf (r .says)
+
+-- the table's number of an answer, or 0 if accepted
+abbrev pub numberOf : Answer → ℕ
+numberOf (Regs regs) = 0
+numberOf (Value value) = 0
+numberOf Done = 0
+numberOf (Refused number) = number
+numberOf (Ended number) = number
+
+-- its values: a refusal answers zeros
+abbrev pub zeroRegs : UserRegs
+zeroRegs = record { pc = 0; sp = 0; argc = 0; argv = 0 }
+
+abbrev pub regsOf : Answer → UserRegs
+regsOf (Regs regs) = regs
+regsOf (Value value) = zeroRegs
+regsOf Done = zeroRegs
+regsOf (Refused number) = zeroRegs
+regsOf (Ended number) = zeroRegs
+
+abbrev pub valueOf : Answer → ℕ
+valueOf (Regs regs) = 0
+valueOf (Value value) = value
+valueOf Done = 0
+valueOf (Refused number) = 0
+valueOf (Ended number) = 0
+
+-- the buffer that a call is lent
+abbrev pub lent : Ask → List ℕ
+lent (start image name bytes lengths) = []
+lent (replace image name argv) = []
+lent (push pc top bytes lengths) = []
+lent (break addr) = []
+lent (fork child segments) = []
+lent end = []
+lent (user-range-ok addr len write) = []
+lent (copy-from-user buffer src) = buffer
+lent (copy-to-user dst bytes) = []
+lent (try-copy-str-from-user buffer src) = buffer
+
+-- an answer with no lent buffer
+abbrev pub plainly : Answer → Reply
+plainly a = record { says = a; buffer = [] }
+
+-- a refusal changes nothing
+abbrev pub refuse : ℕ → Ask → Reply
+refuse number q = record { says = Refused number; buffer = lent q }
+
+-- ---- the machine
+
+-- segments with permissions, a bss, and a byte for each address of their pages
+pub record Machine : Type 0 where
+  pub segments : List UserSegment
+  pub bss : VirtRange
+  pub mem : Mem
+
+-- nothing left
+abbrev pub off : Machine
+off = record { segments = []; bss = range 0 0; mem = λ a. none }
+
+-- ---- what a call answers, over what the machine holds, the free frames and the numbers taken
+
+-- 1: argument lengths sum to their bytes
+abbrev pub lengthsFit : Ask → Bool
+lengthsFit (start image name bytes lengths) = sum lengths is length bytes
+lengthsFit (replace image name argv) = true
+lengthsFit (push pc top bytes lengths) = sum lengths is length bytes
+lengthsFit (break addr) = true
+lengthsFit (fork child segments) = true
+lengthsFit end = true
+lengthsFit (user-range-ok addr len write) = true
+lengthsFit (copy-from-user buffer src) = true
+lengthsFit (copy-to-user dst bytes) = true
+lengthsFit (try-copy-str-from-user buffer src) = true
+
+-- for 2 to 5 and for lines: a call begins a process, forks one, or is made by a living one for itself
+pub data Kind : Type 0 where
+  begins : Kind
+  forks : (child : ℕ) (segments : List UserSegment) → Kind
+  plain : Kind
+
+abbrev pub kind : Ask → Kind
+kind (start image name bytes lengths) = begins
+kind (replace image name argv) = plain
+kind (push pc top bytes lengths) = plain
+kind (break addr) = plain
+kind (fork child segments) = forks child segments
+kind end = plain
+kind (user-range-ok addr len write) = plain
+kind (copy-from-user buffer src) = plain
+kind (copy-to-user dst bytes) = plain
+kind (try-copy-str-from-user buffer src) = plain
+
+-- 2: fork's lent list is the record's segments (a number outside 1 to 16 has no record, and is 3's)
+abbrev pub listFits : Machine → ℕ → Kind → Bool
+listFits m n begins = true
+listFits m n (forks child segments) = not (valid n) || same sameSegment segments (m .segments)
+listFits m n plain = true
+
+-- 3: the number is 1 to 16; of fork both
+abbrev pub numbered : ℕ → Kind → Bool
+numbered n begins = valid n
+numbered n (forks child segments) = valid n && valid child
+numbered n plain = valid n
+
+-- 4: the process lives; of fork the parent
+abbrev pub living : (ℕ → Bool) → ℕ → Kind → Bool
+living taken n begins = true
+living taken n (forks child segments) = taken n
+living taken n plain = taken n
+
+-- 5: the new process's number doesn't live
+abbrev pub unclaimed : (ℕ → Bool) → ℕ → Kind → Bool
+unclaimed taken n begins = not (taken n)
+unclaimed taken n (forks child segments) = not (taken child)
+unclaimed taken n plain = true
+
+-- the process's own frames
+abbrev pub own : Machine → ℕ
+own m = pageCount (pieces (m .segments) (m .bss))
+
+-- start (`exec`): 32, 33 arguments, 30, 31, 33 frames
+abbrev pub weighStart : ℕ → List ℕ → List (List ℕ) → Answer
+weighStart free image args =
+    argsError args isnt 0 ⇒ Refused (argsError args) else
+    imageError image isnt 0 ⇒ Refused (imageError image) else
+    pageCount (startPieces image) above free ⇒ Refused 33 else
+    Regs (registers (entry image) ustktop args)
+
+-- replace (`sysexec` after reading): 30, 31, then `copy_argv`'s 35 or 33 in reading order, then 33 if own and free frames don't suffice;
+-- 35 and the last 33 end the process
+abbrev pub weighReplace : Machine → ℕ → List ℕ → Argv → Answer
+weighReplace m free image read =
+    imageError image isnt 0 ⇒ Refused (imageError image) else
+    read .error is 35 ⇒ Ended 35 else
+    read .error is 33 ⇒ Refused 33 else
+    pageCount (startPieces image) above own m + free ⇒ Ended 33 else
+    Regs (registers (entry image) ustktop (read .args))
+
+-- push: 36, 32, 33, 35
+abbrev pub weighPush : Machine → ℕ → ℕ → List (List ℕ) → Answer
+weighPush m pc top args =
+    top % 16 isnt 0 ⇒ Refused 36 else
+    argsError args isnt 0 ⇒ Refused (argsError args) else
+    not (pushOk (m .mem) top args) ⇒ Ended 35 else
+    Regs (registers pc top args)
+
+-- break: `ibrk`'s rule; a living process has a bss
+abbrev pub weighBreak : Break → Answer
+weighBreak b =
+    b .error isnt 0 ⇒ Refused (b .error) else
+    Value (b .value)
+
+-- the string copy called by itself: 35 ends nothing
+abbrev pub weighStr : Str → Answer
+weighStr s =
+    not (s .whole) ⇒ Refused 35 else
+    Value (s .size)
+
+-- after 1 to 5, each call's own numbers in its order
+abbrev pub weigh : Machine → ℕ → Ask → Reply
+weigh m free (start image name bytes lengths) = plainly (weighStart free image (argsOf bytes lengths))
+weigh m free (replace image name argv) = plainly (weighReplace m free image (copyArgv (m .mem) argv))
+weigh m free (push pc top bytes lengths) = plainly (weighPush m pc top (argsOf bytes lengths))
+weigh m free (break addr) = plainly (weighBreak (ibrk (some (m .bss)) addr free))
+weigh m free (fork child segments) = plainly (own m above free ⇒ Refused 33 else Done)
+weigh m free end = plainly Done
+weigh m free (user-range-ok addr len write) = plainly (Value (userRangeOk (m .mem) write addr len ⇒ 1 else 0))
+weigh m free (copy-from-user buffer src) =
+    not (userRangeOk (m .mem) false src (length buffer)) ⇒ record { says = Ended 35; buffer = buffer } else
+    record { says = Done; buffer = bytesAt (m .mem) src (length buffer) }
+weigh m free (copy-to-user dst bytes) = plainly (not (userRangeOk (m .mem) true dst (length bytes)) ⇒ Ended 35 else Done)
+weigh m free (try-copy-str-from-user buffer src) =
+    let str : Str = copyStr (m .mem) buffer src in
+    record { says = weighStr str; buffer = str .buffer }
+
+-- the table: 1 to 5 come first, in that order
+unfoldable pub judge : Machine → ℕ → (ℕ → Bool) → Call → Reply
+judge m free taken c =
+    not (lengthsFit (c .ask)) ⇒ refuse 1 (c .ask) else
+    not (listFits m (c .number) (kind (c .ask))) ⇒ refuse 2 (c .ask) else
+    not (numbered (c .number) (kind (c .ask))) ⇒ refuse 3 (c .ask) else
+    not (living taken (c .number) (kind (c .ask))) ⇒ refuse 4 (c .ask) else
+    not (unclaimed taken (c .number) (kind (c .ask))) ⇒ refuse 5 (c .ask) else
+    weigh m free (c .ask)
+
+-- ---- what a call makes of the machine
+
+abbrev pub withMem : Machine → Mem → Machine
+withMem m mem = record { segments = m .segments; bss = m .bss; mem = mem }
+
+-- start: segments, bss and stack of an image, file bytes in place, 0 elsewhere; then the arguments pushed
+abbrev pub begun : List ℕ → List (List ℕ) → Machine
+begun image args = record { segments = imageSegments image ++ stack ∷ []; bss = imageBss image; mem = pushed ustktop args (loaded image) }
+
+-- break: the bss end becomes `top`
+abbrev pub movedTo : ℕ → Machine → Machine
+movedTo top m = record { segments = m .segments; bss = range (m .bss .start) top; mem = moved (m .bss .end) top (m .mem) }
+
+-- an accepted call; fork, reads and checks make no change
+abbrev pub run : Machine → Ask → Machine
+run m (start image name bytes lengths) = begun image (argsOf bytes lengths)
+run m (replace image name argv) = begun image (copyArgv (m .mem) argv .args)
+run m (push pc top bytes lengths) = withMem m (pushed top (argsOf bytes lengths) (m .mem))
+run m (break addr) = addr is 0 ⇒ m else movedTo (pageUp addr) m
+run m (fork child segments) = m
+run m end = off
+run m (user-range-ok addr len write) = m
+run m (copy-from-user buffer src) = m
+run m (copy-to-user dst bytes) = withMem m (write dst bytes (m .mem))
+run m (try-copy-str-from-user buffer src) = m
+
+-- of an answer the machine is told only whether the call was accepted, refused or ended the process
+abbrev pub feed : Machine → Ask → Outcome → Machine
+feed m ask accepted = run m ask
+feed m ask refused = m
+feed m ask ended = off
