@@ -13,7 +13,8 @@ use Rattle.spec.specs.Tests.{_is_, _isnt_, _⇒_else_, all}
 use Rattle.spec.specs.Numbers.{pageDown}
 use Rattle.spec.specs.Book.{pageOf, ownerOf, permOf, valid, highest, owns, frameOf, range, zeroProc, used, procAt}
 use Rattle.spec.specs.Machine.{Machine, off}
-use Rattle.spec.specs.World.{State, view, cellIn, release, forget}
+use Rattle.spec.specs.World.{State, view, forget}
+use Rattle.spec.specs.Frames.{cellIn, release}
 use Rattle.spec.specs.History.{put, typed}
 use Rattle.spec.specs.declared.Proc.{Proc}
 use Rattle.history.proofs.Whole.{Good}
@@ -60,16 +61,16 @@ frame-stays n p book page ne =
     ap (highest (λ k. owns p page (getD (map (clear n) book) k 0))) (length-map book (clear n))
     ∙ highest-ext (λ k. owns p page (getD (map (clear n) book) k 0)) (λ k. owns p page (getD book k 0)) (length book) (λ k l. ap (owns p page) (getD-clear n book k) ∙ stay n p page (getD book k 0) ne)
 
-cell-stays : (s : State) (n p a : ℕ) → (p ≡ n → ⊥) → (o : Option ℕ) → frameOf (s .book) p (pageDown a) ≡ o → cellIn (forget s n) a o ≡ cellIn s a o
+cell-stays : (s : State) (n p a : ℕ) → (p ≡ n → ⊥) → (o : Option ℕ) → frameOf (s .store .book) p (pageDown a) ≡ o → cellIn (forget s n .store) a o ≡ cellIn (s .store) a o
 unfolding release
 cell-stays s n p a ne none e = refl
 cell-stays s n p a ne (some k) e =
-    let w : ℕ = getD (s .book) k 0 in
-    let r = hit (λ j. owns p (pageDown a) (getD (s .book) j 0)) (length (s .book)) k e in
+    let w : ℕ = getD (s .store .book) k 0 in
+    let r = hit (λ j. owns p (pageDown a) (getD (s .store .book) j 0)) (length (s .store .book)) k e in
     let o₁ = both (w isnt 0 && ownerOf w is p) (pageOf w is pageDown a) (r .1) in
     let o₂ = both (w isnt 0) (ownerOf w is p) (o₁ .0) in
     let q : (ownerOf w is n) ≡ false = ne-eqb (ownerOf w) n (λ z. ne (sym (eqb-true (ownerOf w) p (o₂ .1)) ∙ z)) in
-    ap (λ (x : ℕ). some (record { perm = permOf x; byte = getD (s .frames) (4096 * k + a % 4096) 0 })) (getD-clear n (s .book) k ∙ ap (λ (b : Bool). b ⇒ 0 else w) q)
+    ap (λ (x : ℕ). some (record { perm = permOf x; byte = getD (s .store .frames) (4096 * k + a % 4096) 0 })) (getD-clear n (s .store .book) k ∙ ap (λ (b : Bool). b ⇒ 0 else w) q)
 
 pub forgotten : (s : State) → Good s → (n p : ℕ) → valid n ≡ true → valid p ≡ true → view (forget s n) p ≡ put (view s) n off p
 unfolding release
@@ -83,7 +84,7 @@ forgotten s g n p vn vp = go (eqb p n) refl
         let i = valid-means n vn in
         let same : p ≡ n = eqb-true p n e in
         let proc : procAt (forget s n .procs) p ≡ zeroProc = ap (procAt (forget s n .procs)) same ∙ getD-set-same (s .procs .all) (n - 1) zeroProc zeroProc (omega (arith, i .0, i .1, long)) in
-        let cell : (a : ℕ) → view (forget s n) p .mem a ≡ none = λ a. ap (λ (q : ℕ). cellIn (forget s n) a (frameOf (forget s n .book) q (pageDown a))) same ∙ ap (cellIn (forget s n) a) (frame-gone n (s .book) (pageDown a)) in
+        let cell : (a : ℕ) → view (forget s n) p .mem a ≡ none = λ a. ap (λ (q : ℕ). cellIn (forget s n .store) a (frameOf (forget s n .store .book) q (pageDown a))) same ∙ ap (cellIn (forget s n .store) a) (frame-gone n (s .store .book) (pageDown a)) in
         λ j. record { segments = used (proc j .segments); bss = proc j .bss; mem = λ a. cell a j }
     go false e =
         let i = valid-means n vn in
@@ -91,5 +92,5 @@ forgotten s g n p vn vp = go (eqb p n) refl
         let ne = eqb-false p n e in
         let proc : procAt (forget s n .procs) p ≡ procAt (s .procs) p = getD-set-other (s .procs .all) (n - 1) (p - 1) zeroProc zeroProc (λ z. ne (omega (arith, i .0, k .0))) in
         let cell : (a : ℕ) → view (forget s n) p .mem a ≡ view s p .mem a =
-        λ a. ap (cellIn (forget s n) a) (frame-stays n p (s .book) (pageDown a) ne) ∙ cell-stays s n p a ne (frameOf (s .book) p (pageDown a)) refl in
+        λ a. ap (cellIn (forget s n .store) a) (frame-stays n p (s .store .book) (pageDown a) ne) ∙ cell-stays s n p a ne (frameOf (s .store .book) p (pageDown a)) refl in
         λ j. record { segments = used (proc j .segments); bss = proc j .bss; mem = λ a. cell a j }

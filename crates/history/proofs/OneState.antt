@@ -15,9 +15,10 @@ use Rattle.spec.specs.Tests.{_is_, _isnt_, _below_, _above_, within, _⇒_else_
 use Rattle.spec.specs.Numbers.{utzero, uaddrtop, limit, pageDown, pageUp}
 use Rattle.spec.specs.Book.{pageOf, ownerOf, permOf, valid, highest, owns, frameOf, range, sameSegment, zeroSegment, unused, lives, used, stack, piecesOf, procAt}
 use Rattle.spec.specs.Sound.{wordOk, once, segmentsOk, bssOk, gives, booked, recorded, procOk, soundBook}
-use Rattle.spec.specs.Access.{Cell, Mem, cellOk, userRangeOk, byteOf, bytesAt}
+use Rattle.spec.specs.Frames.{Cell, Mem, cellIn}
+use Rattle.spec.specs.Access.{cellOk, userRangeOk, byteOf, bytesAt}
 use Rattle.spec.specs.Machine.{copy-from-user, Call, Outcome, accepted, refused, ended, Reply, outcome, refuse, judge, Machine, off}
-use Rattle.spec.specs.World.{State, sound, taken, view, cellIn, given, readable, answer}
+use Rattle.spec.specs.World.{State, sound, taken, view, given, readable, answer}
 use Rattle.spec.specs.History.{Begin, byteIn, held}
 use Rattle.spec.specs.declared.VirtRange.{VirtRange}
 use Rattle.spec.specs.declared.UserSegment.{UserSegment}
@@ -99,9 +100,9 @@ numbers s g n v =
     taken-is s n v
     ∙ split (lives p)
     (λ q.
-    let ok = living-ok (lives p) (segmentsOk utzero (p .bss) (p .segments) && all (booked (s .book) n) (piecesOf p) && all (recorded n (piecesOf p)) (s .book)) (all (recorded n []) (s .book)) (proc-ok (s .book) (s .procs) n (g .book) v) q in
-    let a = both (segmentsOk utzero (p .bss) (p .segments) && all (booked (s .book) n) (piecesOf p)) (all (recorded n (piecesOf p)) (s .book)) ok in
-    let b = both (segmentsOk utzero (p .bss) (p .segments)) (all (booked (s .book) n) (piecesOf p)) (a .0) in
+    let ok = living-ok (lives p) (segmentsOk utzero (p .bss) (p .segments) && all (booked (s .store .book) n) (piecesOf p) && all (recorded n (piecesOf p)) (s .store .book)) (all (recorded n []) (s .store .book)) (proc-ok (s .store .book) (s .procs) n (g .book) v) q in
+    let a = both (segmentsOk utzero (p .bss) (p .segments) && all (booked (s .store .book) n) (piecesOf p)) (all (recorded n (piecesOf p)) (s .store .book)) ok in
+    let b = both (segmentsOk utzero (p .bss) (p .segments)) (all (booked (s .store .book) n) (piecesOf p)) (a .0) in
     q ∙ sym (ap not (some-used utzero (p .bss) (p .segments) (b .0))))
     (λ q. q ∙ sym (ap (λ (x : List UserSegment). not (length x is 0)) (dead-proc p q .segments)))
 
@@ -112,12 +113,12 @@ not-owned true b c e = refl
 not-owned false true c e = clash false e refl
 not-owned false false c e = refl
 
-pub dead-cell : (s : State) → sound s ≡ true → (n : ℕ) → valid n ≡ true → lives (procAt (s .procs) n) ≡ false → (page : ℕ) → frameOf (s .book) n page ≡ none
+pub dead-cell : (s : State) → sound s ≡ true → (n : ℕ) → valid n ≡ true → lives (procAt (s .procs) n) ≡ false → (page : ℕ) → frameOf (s .store .book) n page ≡ none
 dead-cell s g n v d page =
     let p : Proc = procAt (s .procs) n in
-    let ok = dead-ok (lives p) (segmentsOk utzero (p .bss) (p .segments) && all (booked (s .book) n) (piecesOf p) && all (recorded n (piecesOf p)) (s .book)) (all (recorded n []) (s .book)) (proc-ok (s .book) (s .procs) n g v) d in
-    highest-none (λ k. owns n page (getD (s .book) k 0)) (length (s .book))
-    (λ k l. not-owned (getD (s .book) k 0 is 0) (ownerOf (getD (s .book) k 0) is n) (pageOf (getD (s .book) k 0) is page) (all-at (recorded n []) 0 (s .book) ok k l))
+    let ok = dead-ok (lives p) (segmentsOk utzero (p .bss) (p .segments) && all (booked (s .store .book) n) (piecesOf p) && all (recorded n (piecesOf p)) (s .store .book)) (all (recorded n []) (s .store .book)) (proc-ok (s .store .book) (s .procs) n g v) d in
+    highest-none (λ k. owns n page (getD (s .store .book) k 0)) (length (s .store .book))
+    (λ k l. not-owned (getD (s .store .book) k 0 is 0) (ownerOf (getD (s .store .book) k 0) is n) (pageOf (getD (s .store .book) k 0) is page) (all-at (recorded n []) 0 (s .store .book) ok k l))
 
 pub first : (s : State) → Begin s → (n : ℕ) → valid n ≡ true → view s n ≡ off
 first s b n v =
@@ -125,22 +126,22 @@ first s b n v =
     let p = dead-proc (procAt (s .procs) n) d in
     let seg = p .segments in
     let bs = p .bss in
-    let cell : (a : ℕ) → cellIn s a (frameOf (s .book) n (pageDown a)) ≡ none = λ a. ap (cellIn s a) (dead-cell s (b .book) n v d (pageDown a)) in
+    let cell : (a : ℕ) → cellIn (s .store) a (frameOf (s .store .book) n (pageDown a)) ≡ none = λ a. ap (cellIn (s .store) a) (dead-cell s (b .book) n v d (pageDown a)) in
     λ i. record { segments = seg i; bss = bs i; mem = λ a. cell a i }
 
 -- ---- readable
 
-word-ok : (s : State) → sound s ≡ true → (k : ℕ) → k < length (s .book) → wordOk (getD (s .book) k 0) ≡ true
+word-ok : (s : State) → sound s ≡ true → (k : ℕ) → k < length (s .store .book) → wordOk (getD (s .store .book) k 0) ≡ true
 unfolding soundBook
 word-ok s g k h =
-    let p = both (all wordOk (s .book) && once (s .book)) (allBelow 16 (λ i. procOk (s .book) (i + 1) (procAt (s .procs) (i + 1)))) g in
-    all-at wordOk 0 (s .book) (both (all wordOk (s .book)) (once (s .book)) (p .0) .0) k h
+    let p = both (all wordOk (s .store .book) && once (s .store .book)) (allBelow 16 (λ i. procOk (s .store .book) (i + 1) (procAt (s .procs) (i + 1)))) g in
+    all-at wordOk 0 (s .store .book) (both (all wordOk (s .store .book)) (once (s .store .book)) (p .0) .0) k h
 
 -- a page that is found lies below UADDRTOP
-found-low : (s : State) → sound s ≡ true → (n a k : ℕ) → frameOf (s .book) n (pageDown a) ≡ some k → a + 1 ≤ uaddrtop
+found-low : (s : State) → sound s ≡ true → (n a k : ℕ) → frameOf (s .store .book) n (pageDown a) ≡ some k → a + 1 ≤ uaddrtop
 found-low s g n a k e =
-    let w : ℕ = getD (s .book) k 0 in
-    let r = hit (λ j. owns n (pageDown a) (getD (s .book) j 0)) (length (s .book)) k e in
+    let w : ℕ = getD (s .store .book) k 0 in
+    let r = hit (λ j. owns n (pageDown a) (getD (s .store .book) j 0)) (length (s .store .book)) k e in
     let o₁ = both (w isnt 0 && ownerOf w is n) (pageOf w is pageDown a) (r .1) in
     let o₂ = both (w isnt 0) (ownerOf w is n) (o₁ .0) in
     let ok = or-not (w is 0) (valid (ownerOf w) && within 1 4 (permOf w) && within utzero uaddrtop (pageOf w)) (word-ok s g k (r .0)) (o₂ .0) in
@@ -159,14 +160,14 @@ down-down a = omega arith
 range-one : (mem : Mem) (a : ℕ) (x : Bool) → (a + 1 above uaddrtop) ≡ x → userRangeOk mem false a 1 ≡ (x ⇒ false else cellOk false (mem (pageDown a)) && true)
 range-one mem a x e = rw (e, one-page a)
 
-cell-range : (s : State) → sound s ≡ true → (n a : ℕ) (o : Option ℕ) → frameOf (s .book) n (pageDown a) ≡ o → userRangeOk (view s n .mem) false a 1 ≡ cellOk false (cellIn s a o)
+cell-range : (s : State) → sound s ≡ true → (n a : ℕ) (o : Option ℕ) → frameOf (s .store .book) n (pageDown a) ≡ o → userRangeOk (view s n .mem) false a 1 ≡ cellOk false (cellIn (s .store) a o)
 cell-range s g n a none e =
     split (a + 1 above uaddrtop)
     (λ q. range-one (view s n .mem) a true q)
-    (λ q. range-one (view s n .mem) a false q ∙ ap (λ (x : Option ℕ). cellOk false (cellIn s (pageDown a) x) && true) (ap (frameOf (s .book) n) (down-down a) ∙ e))
+    (λ q. range-one (view s n .mem) a false q ∙ ap (λ (x : Option ℕ). cellOk false (cellIn (s .store) (pageDown a) x) && true) (ap (frameOf (s .store .book) n) (down-down a) ∙ e))
 cell-range s g n a (some k) e =
     range-one (view s n .mem) a false (not-above (a + 1) uaddrtop (found-low s g n a k e))
-    ∙ ap (λ (x : Option ℕ). cellOk false (cellIn s (pageDown a) x) && true) (ap (frameOf (s .book) n) (down-down a) ∙ e)
+    ∙ ap (λ (x : Option ℕ). cellOk false (cellIn (s .store) (pageDown a) x) && true) (ap (frameOf (s .store .book) n) (down-down a) ∙ e)
 
 abbrev oneByte : ℕ → ℕ → Call
 oneByte n a = record { number = n; ask = copy-from-user (0 ∷ []) a }
@@ -191,18 +192,18 @@ reads s g n a v =
     ∙ split (taken s n)
     (λ t.
     ap given-of (read-chain (valid n) (taken s n) r (refuse 3 (oneByte n a .ask)) (refuse 4 (oneByte n a .ask)) z w v t)
-    ∙ go (frameOf (s .book) n (pageDown a)) refl)
+    ∙ go (frameOf (s .store .book) n (pageDown a)) refl)
     (λ t.
     let d : lives (procAt (s .procs) n) ≡ false = sym (taken-is s n v) ∙ t in
     ap given-of (dead-chain (valid n) (taken s n) r (refuse 3 (oneByte n a .ask)) (refuse 4 (oneByte n a .ask)) z w v t)
-    ∙ sym (ap (λ (o : Option ℕ). byteIn (cellIn s a o)) (dead-cell s (g .book) n v d (pageDown a))))
+    ∙ sym (ap (λ (o : Option ℕ). byteIn (cellIn (s .store) a o)) (dead-cell s (g .book) n v d (pageDown a))))
   where
-    go : (o : Option ℕ) → frameOf (s .book) n (pageDown a) ≡ o
+    go : (o : Option ℕ) → frameOf (s .store .book) n (pageDown a) ≡ o
         → given-of (not (userRangeOk (view s n .mem) false a 1) ⇒ record { says = Ended 35; buffer = 0 ∷ [] } else record { says = Done; buffer = bytesAt (view s n .mem) a 1 }) ≡ held (view s n) a
     go none e =
         ap (λ (b : Bool). given-of (not b ⇒ record { says = Ended 35; buffer = 0 ∷ [] } else record { says = Done; buffer = bytesAt (view s n .mem) a 1 })) (cell-range s (g .book) n a none e)
-        ∙ sym (ap (λ (o : Option ℕ). byteIn (cellIn s a o)) e)
+        ∙ sym (ap (λ (o : Option ℕ). byteIn (cellIn (s .store) a o)) e)
     go (some k) e =
         ap (λ (b : Bool). given-of (not b ⇒ record { says = Ended 35; buffer = 0 ∷ [] } else record { says = Done; buffer = bytesAt (view s n .mem) a 1 })) (cell-range s (g .book) n a (some k) e)
-        ∙ ap (λ (o : Option ℕ). some (byteOf (cellIn s a o))) e
-        ∙ sym (ap (λ (o : Option ℕ). byteIn (cellIn s a o)) e)
+        ∙ ap (λ (o : Option ℕ). some (byteOf (cellIn (s .store) a o))) e
+        ∙ sym (ap (λ (o : Option ℕ). byteIn (cellIn (s .store) a o)) e)

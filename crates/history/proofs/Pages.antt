@@ -12,7 +12,8 @@ use Rattle.spec.specs.Tests.{_is_, _isnt_, _below_, _above_, within, _⇒_else_
 use Rattle.spec.specs.Numbers.{utzero, limit, pageDown, pageUp}
 use Rattle.spec.specs.Book.{pageOf, ownerOf, permOf, valid, owns, frameOf, permIn, bookPerm, sameSegment, unused, lives, used, stack, bssSegment, inSegment, permAt, piecesOf, pieces, procAt}
 use Rattle.spec.specs.Sound.{segmentsOk, bssOk, gives, booked, recorded}
-use Rattle.spec.specs.World.{State, view, cellIn}
+use Rattle.spec.specs.World.{State, view}
+use Rattle.spec.specs.Frames.{cellIn}
 use Rattle.spec.specs.History.{permIn as cellPerm, heldPerm}
 use Rattle.spec.specs.declared.VirtRange.{VirtRange}
 use Rattle.spec.specs.declared.UserSegment.{UserSegment}
@@ -107,7 +108,7 @@ in-book book n (g ∷ gs) a q al bk z e =
     (λ i. booked-at book n g a (p .0) (r .0) i z ∙ (let w : some (g .perm) ≡ some q = rw i at e in w))
     (λ i. in-book book n gs a q (p .1) (r .1) z (rw i at e))
 
-permCell : (s : State) (a : ℕ) (o : Option ℕ) → cellPerm (cellIn s a o) ≡ permIn (s .book) o
+permCell : (s : State) (a : ℕ) (o : Option ℕ) → cellPerm (cellIn (s .store) a o) ≡ permIn (s .store .book) o
 permCell s a none = refl
 permCell s a (some k) = refl
 
@@ -119,37 +120,37 @@ unrecorded false false c e f = clash false f refl
 pub pages : (s : State) → Good s → (n a : ℕ) → valid n ≡ true → heldPerm (view s n) a ≡ permAt (pieces (view s n .segments) (view s n .bss)) a
 pages s g n a v =
     let p : Proc = procAt (s .procs) n in
-    permCell s a (frameOf (s .book) n (pageDown a))
+    permCell s a (frameOf (s .store .book) n (pageDown a))
     ∙ split (lives p)
     (λ q.
-    let ok = living-ok (lives p) (segmentsOk utzero (p .bss) (p .segments) && all (booked (s .book) n) (piecesOf p) && all (recorded n (piecesOf p)) (s .book)) (all (recorded n []) (s .book)) (proc-ok (s .book) (s .procs) n (g .book) v) q in
-    let x = both (segmentsOk utzero (p .bss) (p .segments) && all (booked (s .book) n) (piecesOf p)) (all (recorded n (piecesOf p)) (s .book)) ok in
-    let y = both (segmentsOk utzero (p .bss) (p .segments)) (all (booked (s .book) n) (piecesOf p)) (x .0) in
+    let ok = living-ok (lives p) (segmentsOk utzero (p .bss) (p .segments) && all (booked (s .store .book) n) (piecesOf p) && all (recorded n (piecesOf p)) (s .store .book)) (all (recorded n []) (s .store .book)) (proc-ok (s .store .book) (s .procs) n (g .book) v) q in
+    let x = both (segmentsOk utzero (p .bss) (p .segments) && all (booked (s .store .book) n) (piecesOf p)) (all (recorded n (piecesOf p)) (s .store .book)) ok in
+    let y = both (segmentsOk utzero (p .bss) (p .segments)) (all (booked (s .store .book) n) (piecesOf p)) (x .0) in
     let u = used-aligned utzero (p .bss) (p .segments) (y .0) in
     let al : all aligned (piecesOf p) ≡ true = all-app aligned (used (p .segments)) (bssSegment (p .bss) ∷ []) (u .0) (bss-aligned (p .bss) (u .1)) in
-    found (frameOf (s .book) n (pageDown a)) refl (y .1) (x .1) al ∙ sym (perm-page (piecesOf p) a al))
+    found (frameOf (s .store .book) n (pageDown a)) refl (y .1) (x .1) al ∙ sym (perm-page (piecesOf p) a al))
     (λ q.
     let d = dead-proc p q in
-    ap (permIn (s .book)) (dead-cell s (g .book) n v q (pageDown a))
+    ap (permIn (s .store .book)) (dead-cell s (g .book) n v q (pageDown a))
     ∙ sym (ap₂ (λ (x : List UserSegment) (b : VirtRange). permAt (pieces x b) a) (d .segments) (d .bss) ∙ empty a))
   where
     empty : (b : ℕ) → permAt (pieces [] (record { start = 0; end = 0 })) b ≡ none
     empty b = split (ltb b 0) (λ q. absurd (let l = ltb-true b 0 q in omega arith)) (λ q. rw q)
 
-    found : (o : Option ℕ) → frameOf (s .book) n (pageDown a) ≡ o → all (booked (s .book) n) (piecesOf (procAt (s .procs) n)) ≡ true → all (recorded n (piecesOf (procAt (s .procs) n))) (s .book) ≡ true
-        → all aligned (piecesOf (procAt (s .procs) n)) ≡ true → permIn (s .book) (frameOf (s .book) n (pageDown a)) ≡ permAt (piecesOf (procAt (s .procs) n)) (pageDown a)
-    found none e bk rc al = ap (permIn (s .book)) e ∙ sym (absent (permAt (piecesOf (procAt (s .procs) n)) (pageDown a)) refl)
+    found : (o : Option ℕ) → frameOf (s .store .book) n (pageDown a) ≡ o → all (booked (s .store .book) n) (piecesOf (procAt (s .procs) n)) ≡ true → all (recorded n (piecesOf (procAt (s .procs) n))) (s .store .book) ≡ true
+        → all aligned (piecesOf (procAt (s .procs) n)) ≡ true → permIn (s .store .book) (frameOf (s .store .book) n (pageDown a)) ≡ permAt (piecesOf (procAt (s .procs) n)) (pageDown a)
+    found none e bk rc al = ap (permIn (s .store .book)) e ∙ sym (absent (permAt (piecesOf (procAt (s .procs) n)) (pageDown a)) refl)
       where
         absent : (o : Option ℕ) → permAt (piecesOf (procAt (s .procs) n)) (pageDown a) ≡ o → permAt (piecesOf (procAt (s .procs) n)) (pageDown a) ≡ none
         absent none f = f
         absent (some q) f =
-            let h : bookPerm (s .book) n (pageDown a) ≡ some q = in-book (s .book) n (piecesOf (procAt (s .procs) n)) (pageDown a) q al bk (omega arith) f in
-            let k : bookPerm (s .book) n (pageDown a) ≡ none = ap (permIn (s .book)) e in
+            let h : bookPerm (s .store .book) n (pageDown a) ≡ some q = in-book (s .store .book) n (piecesOf (procAt (s .procs) n)) (pageDown a) q al bk (omega arith) f in
+            let k : bookPerm (s .store .book) n (pageDown a) ≡ none = ap (permIn (s .store .book)) e in
             absurd (let w : some q ≡ none = sym h ∙ k in let z : _≡_ {A = ℕ} 0 1 = cc in omega arith)
     found (some k) e bk rc al =
-        let w : ℕ = getD (s .book) k 0 in
-        let r = hit (λ j. owns n (pageDown a) (getD (s .book) j 0)) (length (s .book)) k e in
+        let w : ℕ = getD (s .store .book) k 0 in
+        let r = hit (λ j. owns n (pageDown a) (getD (s .store .book) j 0)) (length (s .store .book)) k e in
         let o₁ = both (w isnt 0 && ownerOf w is n) (pageOf w is pageDown a) (r .1) in
         let page = eqb-true (pageOf w) (pageDown a) (o₁ .1) in
-        let t = unrecorded (w is 0) (ownerOf w is n) (gives (permAt (piecesOf (procAt (s .procs) n)) (pageOf w)) (permOf w)) (all-at (recorded n (piecesOf (procAt (s .procs) n))) 0 (s .book) rc k (r .0)) (o₁ .0) in
-        ap (permIn (s .book)) e ∙ sym (ap (permAt (piecesOf (procAt (s .procs) n))) (sym page) ∙ gives-means _ (permOf w) t)
+        let t = unrecorded (w is 0) (ownerOf w is n) (gives (permAt (piecesOf (procAt (s .procs) n)) (pageOf w)) (permOf w)) (all-at (recorded n (piecesOf (procAt (s .procs) n))) 0 (s .store .book) rc k (r .0)) (o₁ .0) in
+        ap (permIn (s .store .book)) e ∙ sym (ap (permAt (piecesOf (procAt (s .procs) n))) (sym page) ∙ gives-means _ (permOf w) t)

@@ -12,7 +12,8 @@ use Rattle.spec.proofs.Bools.{un-not}
 use Rattle.spec.specs.Tests.{_is_, _⇒_else_, same}
 use Rattle.spec.specs.Book.{valid, free, sameSegment, pieces, permAt}
 use Rattle.spec.specs.Machine.{Ask, start, replace, push, break, fork, end, user-range-ok, copy-from-user, copy-to-user, try-copy-str-from-user, Call, Kind, begins, forks, plain, kind, Outcome, accepted, refused, ended, Reply, outcome, refuse, Machine, off, run, feed, judge, weigh, lengthsFit, listFits, numbered, living, unclaimed}
-use Rattle.spec.specs.World.{State, sized, sound, taken, view, answer, readable, after}
+use Rattle.spec.specs.Frames.{sized}
+use Rattle.spec.specs.World.{State, sound, taken, view, answer, readable, after}
 use Rattle.spec.specs.History.{state, Asked, Entry, entry, Lines, put, later, join, lines, machine, held, heldPerm, Explained, typed, Begin, Claim}
 use Rattle.spec.specs.declared.UserSegment.{UserSegment}
 
@@ -214,7 +215,7 @@ join-told l e p plain o q x y = later-told l e (e .asked .call .number) p x y
 
 pub record Good (s : State) : Type 0 where
   pub types : typed s ≡ true
-  pub sizes : sized s ≡ true
+  pub sizes : sized (s .store) ≡ true
   pub book : sound s ≡ true
 
 pub record Laws : Type 0 where
@@ -230,16 +231,16 @@ answer-chain : (a b d : Bool) (x y : Reply) (f : Bool → Reply) → a ≡ true 
 answer-chain a true d x y f p q r = rw (p, q)
 answer-chain a false d x y f p q r = rw p (sym r)
 
-pub answered : (s : State) → Good s → (c : Call) → answer s c ≡ judge (view s (c .number)) (free (s .book)) (taken s) c
+pub answered : (s : State) → Good s → (c : Call) → answer s c ≡ judge (view s (c .number)) (free (s .store .book)) (taken s) c
 unfolding answer judge
 answered s g c =
-    answer-chain (sized s) (lengthsFit (c .ask)) (sound s) (refuse 1 (c .ask)) (refuse 2 (c .ask))
+    answer-chain (sized (s .store)) (lengthsFit (c .ask)) (sound s) (refuse 1 (c .ask)) (refuse 2 (c .ask))
     (λ b. not b ⇒ refuse 1 (c .ask) else
     not (listFits (view s (c .number)) (c .number) (kind (c .ask))) ⇒ refuse 2 (c .ask) else
     not (numbered (c .number) (kind (c .ask))) ⇒ refuse 3 (c .ask) else
     not (living (taken s) (c .number) (kind (c .ask))) ⇒ refuse 4 (c .ask) else
     not (unclaimed (taken s) (c .number) (kind (c .ask))) ⇒ refuse 5 (c .ask) else
-    weigh (view s (c .number)) (free (s .book)) (c .ask)) (g .sizes) (g .book) refl
+    weigh (view s (c .number)) (free (s .store .book)) (c .ask)) (g .sizes) (g .book) refl
 
 module _ (laws : Laws) (s : State) (b : Begin s) where
   good-after : (h : List Call) → Good (state s h)
@@ -249,12 +250,12 @@ module _ (laws : Laws) (s : State) (b : Begin s) where
   abbrev Seen : List Call → Type 0
   Seen h = (p : ℕ) → valid p ≡ true → view (state s h) p ≡ machine (lines s h p)
 
-  heard : (h : List Call) → Seen h → (c : Call) → answer (state s h) c ≡ judge (machine (lines s h (c .number))) (free (state s h .book)) (taken (state s h)) c
+  heard : (h : List Call) → Seen h → (c : Call) → answer (state s h) c ≡ judge (machine (lines s h (c .number))) (free (state s h .store .book)) (taken (state s h)) c
   heard h ih c = answered (state s h) (good-after h) c ∙ go (valid (c .number)) refl
     where
       go : (v : Bool) → valid (c .number) ≡ v
-          → judge (view (state s h) (c .number)) (free (state s h .book)) (taken (state s h)) c ≡ judge (machine (lines s h (c .number))) (free (state s h .book)) (taken (state s h)) c
-      go true v = ap (λ m. judge m (free (state s h .book)) (taken (state s h)) c) (ih (c .number) v)
+          → judge (view (state s h) (c .number)) (free (state s h .store .book)) (taken (state s h)) c ≡ judge (machine (lines s h (c .number))) (free (state s h .store .book)) (taken (state s h)) c
+      go true v = ap (λ m. judge m (free (state s h .store .book)) (taken (state s h)) c) (ih (c .number) v)
       go false v = stray _ _ _ c v ∙ sym (stray _ _ _ c v)
 
   moved : (h : List Call) → Seen h → (c : Call) (p : ℕ) → valid p ≡ true
@@ -266,7 +267,7 @@ module _ (laws : Laws) (s : State) (b : Begin s) where
       go true v = effect-cong (view (state s h)) (λ q. machine (lines s h q)) ih c (kind (c .ask)) (outcome (answer (state s h) c)) p vp v
       go false v =
           let out : outcome (answer (state s h) c) ≡ refused =
-          ap outcome (answered (state s h) (good-after h) c ∙ stray (view (state s h) (c .number)) (free (state s h .book)) (taken (state s h)) c v) ∙ stray-out (lengthsFit (c .ask)) (c .ask) in
+          ap outcome (answered (state s h) (good-after h) c ∙ stray (view (state s h) (c .number)) (free (state s h .store .book)) (taken (state s h)) c v) ∙ stray-out (lengthsFit (c .ask)) (c .ask) in
           ap (λ o. effect (view (state s h)) c (kind (c .ask)) o p) out
           ∙ effect-refused (view (state s h)) c (kind (c .ask)) p ∙ ih p vp ∙ sym (effect-refused (λ q. machine (lines s h q)) c (kind (c .ask)) p)
           ∙ ap (λ o. effect (λ q. machine (lines s h q)) c (kind (c .ask)) o p) (sym out)
@@ -276,7 +277,7 @@ module _ (laws : Laws) (s : State) (b : Begin s) where
   seen-after (c ∷ h) p v =
       laws .seen (state s h) (good-after h) c p v
       ∙ moved h (seen-after h) c p v
-      ∙ sym (line-law (lines s h) _ (free (state s h .book)) (taken (state s h)) c (answer (state s h) c) p (kind (c .ask)) _ refl refl (ap outcome (sym (heard h (seen-after h) c))))
+      ∙ sym (line-law (lines s h) _ (free (state s h .store .book)) (taken (state s h)) c (answer (state s h) c) p (kind (c .ask)) _ refl refl (ap outcome (sym (heard h (seen-after h) c))))
 
   told-after : (h : List Call) (p : ℕ) → Explained (lines s h p)
   told-after [] p = tt

@@ -14,7 +14,8 @@ use borrow.Author.Tests.{eqb-true, eqb-false, ltb-false, ltb-true, ne-eqb, eq-eq
 use Rattle.spec.proofs.Bools.{split, both, neither, not-true, not-above, clash}
 use Rattle.spec.specs.Tests.{_is_, _isnt_, _above_, _below_, within, _⇒_else_, any, has}
 use Rattle.spec.specs.Numbers.{uaddrtop, argLimit, pageDown, pageUp, le, leBytes, bytesFrom}
-use Rattle.spec.specs.Access.{Cell, Mem, cellOk, pagesOk, userRangeOk, byteOf, bytesAt, rewrite, write, Str, longer, copyStr}
+use Rattle.spec.specs.Frames.{Cell, Mem}
+use Rattle.spec.specs.Access.{cellOk, pagesOk, userRangeOk, byteOf, bytesAt, rewrite, write, Str, longer, copyStr}
 use Rattle.spec.specs.Exec.{strings, stackSize, argsError, stringsAt, argvAt, belowZero, pointers, pushOk, pushed, Argv, argBuffer, argvFrom, copyArgv}
 
 -- ---- ranges

@@ -17,7 +17,8 @@ use Rattle.spec.specs.Numbers.{ustktop, pageDown, pageBytes}
 use Rattle.spec.specs.Elf.{segmentsOf, entry}
 use Rattle.spec.specs.Exec.{startPieces, fileByte, argsOf, argsError, imageError, registers}
 use Rattle.spec.specs.Machine.{Ask, start, Call, Outcome, accepted, refused, ended, Reply, outcome, outcomeOf, refuse, plainly, judge}
-use Rattle.spec.specs.World.{State, sized, sound, taken, view, answer, after, leave, place, hold, Page, pagesFrom, pagesOf, pokes, poke, load}
+use Rattle.spec.specs.World.{State, sound, taken, view, answer, after, leave, load}
+use Rattle.spec.specs.Frames.{Store, sized, place, hold, Page, pagesFrom, pagesOf, pokes, poke}
 use Rattle.spec.specs.declared.UserSegment.{UserSegment}
 use Rattle.spec.specs.declared.Answer.{Answer}
 use Rattle.spec.specs.declared.Answer.the-variants.{Regs, Refused}
@@ -41,18 +42,18 @@ set-free (x ∷ xs) (suc k) w l z ne =
 
 -- ---- a list of pages
 
-placed : (n : ℕ) → 1 ≤ n → (ps : List Page) (s : State) → length ps ≤ free (s .book) → free (place s n ps .book) + length ps ≡ free (s .book)
+pub placed : (n : ℕ) → 1 ≤ n → (ps : List Page) (m : Store) → length ps ≤ free (m .book) → free (place m n ps .book) + length ps ≡ free (m .book)
 unfolding place
-placed n h [] s l = omega arith
-placed n h (p ∷ ps) s l = go (freeFrame (s .book)) refl (λ t. placed n h ps t)
+placed n h [] m l = omega arith
+placed n h (p ∷ ps) m l = go (freeFrame (m .book)) refl (λ t. placed n h ps t)
   where
-    go : (o : Option ℕ) → freeFrame (s .book) ≡ o → ((t : State) → length ps ≤ free (t .book) → free (place t n ps .book) + length ps ≡ free (t .book))
-        → free (place (hold s n p o) n ps .book) + length (p ∷ ps) ≡ free (s .book)
-    go none e more = absurd (omega (arith, none-free (s .book) (miss (λ k. getD (s .book) k 0 is 0) (length (s .book)) e)))
+    go : (o : Option ℕ) → freeFrame (m .book) ≡ o → ((t : Store) → length ps ≤ free (t .book) → free (place t n ps .book) + length ps ≡ free (t .book))
+        → free (place (hold m n p o) n ps .book) + length (p ∷ ps) ≡ free (m .book)
+    go none e more = absurd (omega (arith, none-free (m .book) (miss (λ k. getD (m .book) k 0 is 0) (length (m .book)) e)))
     go (some k) e more =
-        let r = hit (λ j. getD (s .book) j 0 is 0) (length (s .book)) k e in
-        let f = set-free (s .book) k (wordOf (p .page) n (p .perm)) (r .0) (eqb-true _ _ (r .1)) (λ z. omega arith) in
-        let ih = more (hold s n p (some k)) (omega arith) in
+        let r = hit (λ j. getD (m .book) j 0 is 0) (length (m .book)) k e in
+        let f = set-free (m .book) k (wordOf (p .page) n (p .perm)) (r .0) (eqb-true _ _ (r .1)) (λ z. omega arith) in
+        let ih = more (hold m n p (some k)) (omega arith) in
         omega arith
 
 length-from : (f : ℕ → List ℕ) (perm a k : ℕ) → length (pagesFrom f perm a k) ≡ k
@@ -64,21 +65,21 @@ length-pages f [] = refl
 length-pages f (g ∷ gs) =
     rw (length-append (pagesFrom f (g .perm) (g .range .start) ((g .range .end - g .range .start) / 4096)) (pagesOf f gs), length-from, length-pages f gs) refl
 
-poked : (s : State) (a b : ℕ) (o : Option ℕ) → poke s a b o .book ≡ s .book
-poked s a b none = refl
-poked s a b (some k) = refl
+poked : (m : Store) (a b : ℕ) (o : Option ℕ) → poke m a b o .book ≡ m .book
+poked m a b none = refl
+poked m a b (some k) = refl
 
-pokes-book : (bs : List ℕ) (s : State) (n a : ℕ) → pokes s n a bs .book ≡ s .book
+pub pokes-book : (bs : List ℕ) (m : Store) (n a : ℕ) → pokes m n a bs .book ≡ m .book
 unfolding pokes
-pokes-book [] s n a = refl
-pokes-book (b ∷ bs) s n a = pokes-book bs (poke s a b (frameOf (s .book) n (pageDown a))) n (a + 1) ∙ poked s a b (frameOf (s .book) n (pageDown a))
+pokes-book [] m n a = refl
+pokes-book (b ∷ bs) m n a = pokes-book bs (poke m a b (frameOf (m .book) n (pageDown a))) n (a + 1) ∙ poked m a b (frameOf (m .book) n (pageDown a))
 
-loaded-frames : (s : State) (n : ℕ) (image name : List ℕ) (args : List (List ℕ)) → 1 ≤ n → pageCount (startPieces image) ≤ free (s .book)
-    → free (load s n image name args .book) + pageCount (startPieces image) ≡ free (s .book)
+loaded-frames : (s : State) (n : ℕ) (image name : List ℕ) (args : List (List ℕ)) → 1 ≤ n → pageCount (startPieces image) ≤ free (s .store .book)
+    → free (load s n image name args .store .book) + pageCount (startPieces image) ≡ free (s .store .book)
 loaded-frames s n image name args h l =
     let f : ℕ → List ℕ = pageBytes (fileByte (segmentsOf image)) in
     let e = length-pages f (startPieces image) in
-    let p = placed n h (pagesOf f (startPieces image)) s (rw e l) in
+    let p = placed n h (pagesOf f (startPieces image)) (s .store) (rw e l) in
     rw (pokes-book, pokes-book, ← e) p
 
 -- ---- a start that is accepted
@@ -93,25 +94,25 @@ passed-answer false k b e = (refl, e)
 
 pub start-takes : (s : State) (n : ℕ) (image name bytes lengths : List ℕ)
     → let c : Call = record { number = n; ask = start image name bytes lengths } in
-    outcome (answer s c) ≡ accepted → free (after s c .book) + pageCount (startPieces image) ≡ free (s .book)
+    outcome (answer s c) ≡ accepted → free (after s c .store .book) + pageCount (startPieces image) ≡ free (s .store .book)
 unfolding answer judge after
 start-takes s n image name bytes lengths e =
     let q : Ask = start image name bytes lengths in
     let args : List (List ℕ) = argsOf bytes lengths in
     let a8 : Answer = Regs (registers (entry image) ustktop args) in
-    let a7 : Answer = pageCount (startPieces image) above free (s .book) ⇒ Refused 33 else a8 in
+    let a7 : Answer = pageCount (startPieces image) above free (s .store .book) ⇒ Refused 33 else a8 in
     let a6 : Answer = imageError image isnt 0 ⇒ Refused (imageError image) else a7 in
     let a5 : Reply = plainly (argsError args isnt 0 ⇒ Refused (argsError args) else a6) in
     let a4 : Reply = not (not (taken s n)) ⇒ refuse 5 q else a5 in
     let a3 : Reply = not (valid n) ⇒ refuse 3 q else a4 in
     let a2 : Reply = not (sum lengths is length bytes) ⇒ refuse 1 q else a3 in
     let a1 : Reply = not (sound s) ⇒ refuse 2 q else a2 in
-    let p1 = passed (not (sized s && sum lengths is length bytes)) 1 q a1 e in
+    let p1 = passed (not (sized (s .store) && sum lengths is length bytes)) 1 q a1 e in
     let p2 = passed (not (sound s)) 2 q a2 (p1 .1) in
     let p3 = passed (not (sum lengths is length bytes)) 1 q a3 (p2 .1) in
     let p4 = passed (not (valid n)) 3 q a4 (p3 .1) in
     let p5 = passed (not (not (taken s n))) 5 q a5 (p4 .1) in
     let p6 = passed-answer (argsError args isnt 0) (argsError args) a6 (p5 .1) in
     let p7 = passed-answer (imageError image isnt 0) (imageError image) a7 (p6 .1) in
-    let p8 = passed-answer (pageCount (startPieces image) above free (s .book)) 33 a8 (p7 .1) in
+    let p8 = passed-answer (pageCount (startPieces image) above free (s .store .book)) 33 a8 (p7 .1) in
     rw e (loaded-frames s n image name args (within-means 1 17 n (un-not (valid n) (p4 .0)) .0) (ltb-false _ _ (p8 .0)))

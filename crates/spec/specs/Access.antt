@@ -6,16 +6,8 @@ use mathlib.Core.Option.{Option, none, some}
 use mathlib.Core.List.{List, [], _∷_}
 use lib.ListN.{length, getD}
 use Rattle.spec.specs.Tests.{_is_, _above_, within, _⇒_else_}
+use Rattle.spec.specs.Frames.{Cell, Mem}
 use Rattle.spec.specs.Numbers.{uaddrtop, pageUp, pageDown, bytesFrom}
-
--- a byte, and the permission of its page
-pub record Cell : Type 0 where
-  pub perm : ℕ
-  pub byte : ℕ
-
--- what stands at each address, or none where no page is mapped
-abbrev pub Mem : Type 0
-Mem = ℕ → Option Cell
 
 -- a page is mapped, and is data for writing
 abbrev pub cellOk : Bool → Option Cell → Bool

@@ -8,7 +8,8 @@ use lib.ListN.{length, take, drop, getD, replicate}
 use Rattle.spec.specs.Tests.{_is_, _isnt_, _below_, _above_, _⇒_else_, any, has, filter}
 use Rattle.spec.specs.Numbers.{utzero, limit, argLimit, pageUp, pageDown, le, leBytes}
 use Rattle.spec.specs.Book.{range, segment, stack, bssSegment, permAt}
-use Rattle.spec.specs.Access.{Cell, Mem, userRangeOk, bytesAt, write, Str, copyStr}
+use Rattle.spec.specs.Frames.{Cell, Mem}
+use Rattle.spec.specs.Access.{userRangeOk, bytesAt, write, Str, copyStr}
 use Rattle.spec.specs.Elf.{Segment, segmentsOf, elfError, inFile}
 use Rattle.spec.specs.declared.VirtRange.{VirtRange}
 use Rattle.spec.specs.declared.UserSegment.{UserSegment}

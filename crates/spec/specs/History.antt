@@ -8,9 +8,9 @@ use mathlib.Core.List.{List, [], _∷_, map}
 use lib.ListN.{length}
 use Rattle.spec.specs.Tests.{_is_, _⇒_else_, all}
 use Rattle.spec.specs.Book.{valid, free, pieces, permAt}
-use Rattle.spec.specs.Access.{Cell}
+use Rattle.spec.specs.Frames.{Cell, sized}
 use Rattle.spec.specs.Machine.{Ask, end, Call, Kind, begins, forks, plain, kind, Outcome, accepted, refused, ended, Reply, outcome, Machine, off, feed, judge}
-use Rattle.spec.specs.World.{State, sized, sound, taken, view, answer, readable, after, Does}
+use Rattle.spec.specs.World.{State, sound, taken, view, answer, readable, after, Does}
 use Rattle.spec.specs.declared.Proc.{Proc}
 use Rattle.spec.specs.declared.Procs.{Procs}
 
@@ -33,7 +33,7 @@ pub record Entry : Type 0 where
   pub answered : Reply
 
 abbrev pub entry : State → Call → Entry
-entry s c = record { asked = record { call = c; free-before = free (s .book); taken-before = taken s }; answered = answer s c }
+entry s c = record { asked = record { call = c; free-before = free (s .store .book); taken-before = taken s }; answered = answer s c }
 
 -- a line for each number
 abbrev pub Lines : Type 0
@@ -100,7 +100,7 @@ typed s = length (s .procs .all) is 16 && all (λ p. length (p .segments) is 16 
 -- a sound book with no process, sized as number 1 wants
 pub record Begin (s : State) : Type 0 where
   pub types : typed s ≡ true
-  pub sizes : sized s ≡ true
+  pub sizes : sized (s .store) ≡ true
   pub book : sound s ≡ true
   pub nobody : (n : ℕ) → taken s n ≡ false
 

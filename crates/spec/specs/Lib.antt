@@ -3,6 +3,7 @@ pub mod Tests
 pub mod Numbers
 pub mod Name
 pub mod Book
+pub mod Frames
 pub mod Sound
 pub mod Access
 pub mod Elf

@@ -8,7 +8,8 @@ use lib.ListN.{length}
 use Rattle.spec.specs.Tests.{_is_, _isnt_, _above_, _⇒_else_, same, sum}
 use Rattle.spec.specs.Numbers.{ustktop, pageUp}
 use Rattle.spec.specs.Book.{valid, range, stack, sameSegment, pieces, pageCount}
-use Rattle.spec.specs.Access.{Mem, userRangeOk, bytesAt, write, Str, copyStr}
+use Rattle.spec.specs.Frames.{Mem}
+use Rattle.spec.specs.Access.{userRangeOk, bytesAt, write, Str, copyStr}
 use Rattle.spec.specs.Elf.{entry}
 use Rattle.spec.specs.Exec.{imageError, imageSegments, imageBss, startPieces, loaded, argsOf, argsError, registers, pushOk, pushed, Argv, copyArgv}
 use Rattle.spec.specs.Segment.{Break, ibrk, moved}
