@@ -1,6 +1,7 @@
 -- Laws of the definitions, which every crate's proofs cite, and the theorems that a reader wants of the definitions alone.
 pub mod Bools
 pub mod Search
+pub mod Words
 pub mod Near
 pub mod Taken
 pub mod ReadBack

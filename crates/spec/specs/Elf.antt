@@ -6,6 +6,28 @@ use mathlib.Core.List.{List, [], _∷_, map}
 use lib.ListN.{length, take, drop, getD}
 use Rattle.spec.specs.Tests.{_is_, _isnt_, _below_, _above_, within, _⇒_else_, _orElse_, all, any, filter, same}
 use Rattle.spec.specs.Numbers.{pageUp, pageDown, le}
+use Rattle.spec.specs.declared.ElfError.{ElfError}
+use Rattle.spec.specs.declared.ElfError.the-variants.{Truncated, BadMagic, NotElf64, NotLittleEndian, BadVersion, NotExecutable, NotAarch64, BadPhentsize, MisalignedEntry, PhdrsOutOfRange, FileszOverMemsz, SegmentOutOfRange, Misaligned, Overflow, BadFlags, Unordered, EntryNotInText}
+
+-- the numbers and their words
+abbrev pub errorNumber : ElfError → ℕ
+errorNumber Truncated = 11
+errorNumber BadMagic = 12
+errorNumber NotElf64 = 13
+errorNumber NotLittleEndian = 14
+errorNumber BadVersion = 15
+errorNumber NotExecutable = 16
+errorNumber NotAarch64 = 17
+errorNumber BadPhentsize = 18
+errorNumber MisalignedEntry = 19
+errorNumber PhdrsOutOfRange = 20
+errorNumber FileszOverMemsz = 21
+errorNumber SegmentOutOfRange = 22
+errorNumber Misaligned = 23
+errorNumber Overflow = 24
+errorNumber BadFlags = 25
+errorNumber Unordered = 26
+errorNumber EntryNotInText = 27
 
 -- the first four bytes: 127 `ELF`
 abbrev pub magic : List ℕ

@@ -92,8 +92,8 @@ load s n image name args = record {
 abbrev pub brk : State → ℕ → Proc → ℕ → State
 brk s n p top = record {
   store =
-    place (release (s .store) (λ w. ownerOf w is n && within top (p .bss .end) (pageOf w))) n
-    (pagesOf zeroPage (segment (p .bss .end) top 3 ∷ []));
+      place (release (s .store) (λ w. ownerOf w is n && within top (p .bss .end) (pageOf w))) n
+      (pagesOf zeroPage (segment (p .bss .end) top 3 ∷ []));
   procs = setProc (s .procs) n (record { segments = p .segments; text = p .text; bss = range (p .bss .start) top });
 }
 

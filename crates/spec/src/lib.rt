@@ -1,6 +1,55 @@
 // The types that calls take and give back, as r9's dat.rs and mem.rs declare them, and the types of their answers.
 // Every definition that a contract cites is over these; the definitions stand in specs/.
 
+// The machine's numbers, as fake.rs has them for its own. A page is mem.rs's.
+pub const PAGE_SIZE_4K: u64 = 4096;
+
+pub const UTZERO: u64 = 65536;
+
+pub const UADDRTOP: u64 = 140737488355328;
+
+pub const USTKTOP: u64 = 140737488355328;
+
+pub const USTKSIZE: u64 = 16384;
+
+// The highest address that an image or a bss may end at: one guard page lies between it and the stack.
+pub const LIMIT: u64 = USTKTOP - USTKSIZE - PAGE_SIZE_4K;
+
+// What arguments may take of a stack.
+pub const ARG_LIMIT: u64 = USTKSIZE / 4;
+
+// Permissions of segments and pages, in records and in book words.
+pub const TEXT: u64 = 1;
+
+pub const RODATA: u64 = 2;
+
+pub const DATA: u64 = 3;
+
+// The numbers of refusals that calls give, but for the image's own, which are ElfError's.
+pub const SIZES: u64 = 1;
+
+pub const TORN: u64 = 2;
+
+pub const NUMBER: u64 = 3;
+
+pub const DEAD: u64 = 4;
+
+pub const TAKEN: u64 = 5;
+
+pub const EBADEXEC: u64 = 30;
+
+pub const SEGMENTS: u64 = 31;
+
+pub const EBADARG: u64 = 32;
+
+pub const ENOVMEM: u64 = 33;
+
+pub const ESOVERLAP: u64 = 34;
+
+pub const BAD_ADDRESS: u64 = 35;
+
+pub const TOP: u64 = 36;
+
 // A range of user addresses, from `start` up to, but not including, `end`.
 #[repr(C)]
 pub struct VirtRange {
@@ -51,4 +100,41 @@ pub enum Answer {
     Refused(u64),
     // Refused with a number of the table, and the process has ended.
     Ended(u64),
+}
+
+// What a search for a frame comes to.
+pub enum Found {
+    At(usize),
+    Nothing,
+}
+
+// Why an image isn't a loadable executable, in the order of the numbers 11 to 27.
+pub enum ElfError {
+    // Shorter than an ELF header.
+    Truncated,
+    BadMagic,
+    NotElf64,
+    NotLittleEndian,
+    BadVersion,
+    // Not ET_EXEC: shared objects and PIEs aren't supported.
+    NotExecutable,
+    NotAarch64,
+    BadPhentsize,
+    // The entry point isn't on an instruction boundary.
+    MisalignedEntry,
+    // The program headers aren't all within the image.
+    PhdrsOutOfRange,
+    FileszOverMemsz,
+    // A segment's file bytes aren't all within the image.
+    SegmentOutOfRange,
+    // A segment's address and file offset differ within a page.
+    Misaligned,
+    // A segment ends past the top of the address space.
+    Overflow,
+    // A segment is writable and executable, or isn't readable.
+    BadFlags,
+    // Segments aren't in ascending order, or two share a page.
+    Unordered,
+    // The entry point isn't in a text segment.
+    EntryNotInText,
 }

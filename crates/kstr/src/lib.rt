@@ -1,0 +1,1 @@
+// kstr: to come.

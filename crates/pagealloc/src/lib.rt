@@ -1,0 +1,1 @@
+// pagealloc: to come.

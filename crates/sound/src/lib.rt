@@ -1,0 +1,1 @@
+// sound: to come.
