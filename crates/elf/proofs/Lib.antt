@@ -1,0 +1,4 @@
+pub mod Join
+pub mod Same
+pub mod Chain
+pub mod Flags
