@@ -1,6 +1,7 @@
 -- What the reader's types stand for in the specification: a header's fields, a segment, and the answer of `parse` with the scope's number.
 -- Assumes nothing.
 use Prim.Native.Nat.{ℕ, zero, suc, _+_, _*_, _%_}
+use mathlib.Core.Path.{_≡_}
 use mathlib.Core.Bool.{Bool, true, false, not, _&&_, _||_}
 use mathlib.Core.List.{List, [], _∷_, map}
 use lib.ListN.{length, take, drop}
@@ -10,6 +11,9 @@ use Rattle.spec.specs.Elf.{Phdr, Segment, phdrsFrom, loads, flagPerm, phdrError
 use Rattle.spec.specs.declared.ElfError.{ElfError}
 use Rattle.elf.specs.declared.Ehdr.{Ehdr}
 use Rattle.elf.specs.declared.Phdr.{Phdr as Read}
+use Rattle.elf.specs.declared.Seen.{Seen}
+use Rattle.elf.specs.declared.Step.{Step}
+use Rattle.elf.specs.declared.Step.the-variants.{Stop, Next}
 use Rattle.elf.specs.declared.Verdict.{Verdict}
 use Rattle.elf.specs.declared.Verdict.the-variants.{Fine, Refused}
 
@@ -53,3 +57,28 @@ fieldsError n h =
 -- a program header that was read, as the specification has it
 abbrev pub phdrOf : Read → Phdr
 phdrOf p = record { type = p .kind; flags = p .flags; offset = p .offset; vaddr = p .vaddr; filesz = p .filesz; memsz = p .memsz }
+
+-- ---- the walk over the headers
+
+-- the entry lies in the file bytes of a text segment
+abbrev pub inText : ℕ → Segment → Bool
+inText a g = g .perm is 1 && inFile a g
+
+-- a header in front of others, unless it is skipped
+abbrev pub keep : Phdr → List Phdr → List Phdr
+keep p ps = loads p ⇒ p ∷ ps else ps
+
+-- checks 21 to 27 of the headers that are left: the segment before them ends its page at `end`, and `found` says whether the entry was in one
+unfoldable pub scanError : List ℕ → ℕ → ℕ → Bool → List Phdr → ℕ
+scanError image a end found ps =
+    phdrError image end ps orElse
+    (found || any (inText a) (map (segmentOf image) ps) ⇒ 0 else 27)
+
+-- what a step over one header comes to: its refusal, or the checks of those behind it
+abbrev pub stepError : List ℕ → ℕ → Step → List Phdr → ℕ
+stepError image a (Stop e) ps = errorNumber e
+stepError image a (Next t) ps = scanError image a (t .end) (t .found) ps
+
+-- a step from what was seen over header p, whatever headers are behind it
+abbrev pub Steps : List ℕ → ℕ → Seen → Phdr → Step → Type 0
+Steps image a seen p r = (ps : List Phdr) → scanError image a (seen .end) (seen .found) (keep p ps) ≡ stepError image a r ps

@@ -1,14 +1,16 @@
 // ELF-64 executables, as r9's elf.rs: an image is checked as a static aarch64 executable, and its loadable segments are read.
 // The image is untrusted, so that every read lies in it and no sum wraps. Where segments may go in memory is the loader's business.
 ghost use mathlib.Core.Path.{_≡_};
-ghost use mathlib.Core.Bool.{Bool, false};
+ghost use mathlib.Core.Bool.{Bool, false, _&&_};
 ghost use mathlib.Core.List.{List, [], _∷_};
 ghost use Prim.Native.Nat.{ℕ, _+_, _*_, _%_, _≤_, _<_};
 ghost use lib.ListN.{length, take, getD};
 ghost use Rattle.spec.specs.Tests.{same, _is_};
 ghost use Rattle.spec.specs.Numbers.{le};
 ghost use Rattle.spec.specs.Elf.{magic, flagTable, phdrAt, phdrError};
-ghost use Rattle.elf.specs.Reader.{verdictNumber, ehdrOf, fieldsError, phdrOf};
+ghost use Rattle.spec.specs.Elf.{loads, flagPerm, phdrsFrom};
+ghost use Rattle.spec.specs.Tests.{filter, within};
+ghost use Rattle.elf.specs.Reader.{verdictNumber, ehdrOf, fieldsError, phdrOf, Steps};
 use spec::ElfError;
 
 pub const EHDR_SIZE: usize = 64;
@@ -64,6 +66,18 @@ pub struct Phdr {
 pub enum Verdict {
     Fine,
     Refused(ElfError),
+}
+
+// What the program headers so far have shown: where the last segment ends its page, and whether the entry point was found in a text segment.
+pub struct Seen {
+    pub end: u64,
+    pub found: bool,
+}
+
+// What one more program header comes to.
+pub enum Step {
+    Stop(ElfError),
+    Next(Seen),
 }
 
 // The byte at a place.
@@ -234,4 +248,37 @@ fn judge_phdr(image: &[u8], end: u64, p: Phdr) -> Verdict
         return Verdict::Refused(ElfError::Unordered);
     }
     Verdict::Fine
+}
+
+// Whether a program header is loaded: a non-empty PT_LOAD.
+fn is_load(p: Phdr) -> bool
+    ensures { λ r. ⌜ r ≡ loads (phdrOf p) ⌝ }
+{
+    (p.kind == PT_LOAD) & (p.memsz != 0)
+}
+
+// Whether an entry point lies in the file bytes of a text segment.
+fn in_text(entry: u64, p: Phdr) -> bool
+    requires { ⌜ p .vaddr + p .filesz < 18446744073709551616 ⌝ }
+    ensures { λ r. ⌜ r ≡ (flagPerm (phdrOf p) is 1 && within (p .vaddr) (p .vaddr + p .filesz) entry) ⌝ }
+{
+    let perm = perm(p.flags);
+    (perm == 1) & (!(entry < p.vaddr) & (entry < p.vaddr + p.filesz))
+}
+
+// One program header: skipped, or checked and its end and its text noted.
+fn advance(image: &[u8], entry: u64, seen: Seen, p: Phdr) -> Step
+    ensures { λ r. ⌜ Steps (now (image .entry)) entry seen (phdrOf p) r ⌝ }
+{
+    if !is_load(p) {
+        return Step::Next(seen);
+    }
+    let v = judge_phdr(image, seen.end, p);
+    match v {
+        Verdict::Refused(e) => Step::Stop(e),
+        Verdict::Fine => Step::Next(Seen {
+            end: (p.vaddr + p.memsz + 4095) / 4096 * 4096,
+            found: seen.found | in_text(entry, p),
+        }),
+    }
 }

@@ -1,0 +1,58 @@
+-- The walk over all headers of the table, skipped ones too, against the specification's list without them.
+-- Assumes nothing.
+use mathlib.Core.Path.{_≡_, refl, sym, ap, _∙_}
+use mathlib.Core.Bool.{Bool, true, false, not, _&&_, _||_}
+use mathlib.Core.List.{List, [], _∷_, map}
+use Prim.Native.Nat.{ℕ, zero, suc, _+_, _-_, _*_, _<_, _≤_}
+use native.Mathlib.Nat.{not-suc-le-zero}
+use native.Mathlib.Omega.{arith}
+use lib.Dec.{eqb}
+use borrow.Author.Tests.{ne-eqb}
+use Rattle.spec.specs.Tests.{_is_, _⇒_else_, _orElse_, any, filter, within}
+use Rattle.spec.specs.Numbers.{pageUp}
+use Rattle.spec.specs.Elf.{Phdr, phdrAt, phdrsFrom, loads, flagPerm, phdrError, segmentOf}
+use Rattle.elf.specs.Reader.{inText, keep, scanError}
+use Rattle.elf.proofs.Checks.{checks, passed, passes, through, stops}
+use Rattle.elf.proofs.Fine.{tests, one-header, Fine, fine, file-length}
+
+-- k headers from a place on, without the skipped ones: a walk takes the first, or skips it, and goes on 56 bytes further
+abbrev pub left : List ℕ → ℕ → ℕ → List Phdr
+left image at k = filter loads (phdrsFrom image at k)
+
+pub left-none : (image : List ℕ) (at k : ℕ) → k ≤ 0 → left image at k ≡ []
+left-none image at zero h = refl
+left-none image at (suc k) h = absurd (not-suc-le-zero h)
+
+pub left-some : (image : List ℕ) (at k : ℕ) → 0 < k → left image at k ≡ keep (phdrAt image at) (left image (at + 56) (k - 1))
+left-some image at zero h = absurd (not-suc-le-zero h)
+left-some image at (suc k) h = let one : suc k - 1 ≡ k = omega arith in rw one
+
+-- ---- one header of the scan
+
+or-assoc : (a b c : Bool) → (a || (b || c)) ≡ ((a || b) || c)
+or-assoc true b c = refl
+or-assoc false b c = refl
+
+no-headers : (image : List ℕ) (end : ℕ) → phdrError image end [] ≡ 0
+unfolding phdrError
+no-headers image end = refl
+
+module _ (image : List ℕ) (a end : ℕ) (found : Bool) (p : Phdr) (ps : List Phdr) where
+  -- it is skipped
+  pub skips : loads p ≡ false → scanError image a end found (keep p ps) ≡ scanError image a end found ps
+  skips e = rw e
+
+  -- it is refused
+  pub refuses : (n : ℕ) → loads p ≡ true → phdrError image end (p ∷ []) ≡ n → (n ≡ 0 → ⊥) → scanError image a end found (keep p ps) ≡ n
+  unfolding scanError
+  refuses n l e nz =
+      let same : phdrError image end (p ∷ ps) ≡ phdrError image end (p ∷ []) = one-header image end p ps ∙ stops (tests image end p) (phdrError image (pageUp (p .vaddr + p .memsz)) []) (phdrError image (pageUp (p .vaddr + p .memsz)) ps) (λ z. nz (sym e ∙ one-header image end p [] ∙ z ∙ no-headers image (pageUp (p .vaddr + p .memsz)))) ∙ sym (one-header image end p []) in
+      rw (l, same, e, ne-eqb n 0 nz)
+
+  -- it passes: the scan goes on from its page end, and the entry may have been found in it
+  pub goes-on : loads p ≡ true → phdrError image end (p ∷ []) ≡ 0
+      → scanError image a end found (keep p ps) ≡ scanError image a (pageUp (p .vaddr + p .memsz)) (found || (flagPerm p is 1 && within (p .vaddr) (p .vaddr + p .filesz) a)) ps
+  unfolding scanError
+  goes-on l e =
+      let on : phdrError image end (p ∷ ps) ≡ phdrError image (pageUp (p .vaddr + p .memsz)) ps = one-header image end p ps ∙ through (tests image end p) _ (passes (tests image end p) _ refl (sym (one-header image end p []) ∙ e) .0) in
+      rw (l, on, file-length image p (fine image end p [] e .within), or-assoc found (flagPerm p is 1 && within (p .vaddr) (p .vaddr + p .filesz) a) (any (inText a) (map (segmentOf image) ps)))
