@@ -7,9 +7,9 @@ use Prim.Native.Nat.{ℕ, _<_}
 use native.Mathlib.Omega.{arith}
 use lib.Dec.{eqb}
 use lib.ListN.{length, getD}
-use borrow.Author.Tests.{eqb-false, not-true}
-use Rattle.spec.specs.Tests.{_isnt_, _⇒_else_, all}
-use Rattle.spec.proofs.Bools.{both, all-at}
+use borrow.Author.Tests.{eqb-true, eqb-false, ne-eqb, not-true}
+use Rattle.spec.specs.Tests.{_is_, _isnt_, _⇒_else_, _orElse_, all}
+use Rattle.spec.proofs.Bools.{split, both, all-at}
 
 abbrev pub checks : List (Bool × ℕ) → ℕ → ℕ
 checks [] x = x
@@ -43,3 +43,14 @@ stops ((false, n) ∷ l) x y h = stops l x y h
 -- of checks that were passed no test held
 pub failed : (l : List (Bool × ℕ)) → passed l ≡ true → (k : ℕ) → k < length l → getD l k (true, 0) .0 ≡ false
 failed l h k lt = not-true _ (all-at (λ r. not (r .0)) (true, 0) l h k lt)
+
+-- a number that is not 0 stands before the next, and 0 gives way to it
+pub first : (a b n : ℕ) → n ≡ a → (n ≡ 0 → ⊥) → n ≡ (a orElse b)
+first a b n e nz = rw (ne-eqb a 0 (λ z. nz (e ∙ z))) e
+
+pub next : (a b n : ℕ) → 0 ≡ a → n ≡ b → n ≡ (a orElse b)
+next a b n e f = rw (← e) f
+
+-- where the two come to 0, both are 0
+pub neither : (a b : ℕ) → (a orElse b) ≡ 0 → (a ≡ 0) × (b ≡ 0)
+neither a b e = split (a is 0) (λ q. (eqb-true a 0 q, rw q at e)) (λ q. absurd (eqb-false a 0 q (rw q at e)))

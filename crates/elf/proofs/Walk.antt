@@ -11,14 +11,13 @@ use borrow.Author.Tests.{ne-eqb}
 use Rattle.spec.specs.Tests.{_is_, _⇒_else_, _orElse_, any, filter, within}
 use Rattle.spec.specs.Numbers.{pageUp}
 use Rattle.spec.specs.Elf.{Phdr, phdrAt, phdrsFrom, loads, flagPerm, phdrError, segmentOf}
-use Rattle.elf.specs.Reader.{inText, keep, scanError}
+use Rattle.elf.specs.Reader.{inText, left, keep, scanError, stepError, Steps}
+use Rattle.elf.specs.declared.Seen.{Seen}
+use Rattle.elf.specs.declared.Step.{Step}
 use Rattle.elf.proofs.Checks.{checks, passed, passes, through, stops}
 use Rattle.elf.proofs.Fine.{tests, one-header, Fine, fine, file-length}
 
--- k headers from a place on, without the skipped ones: a walk takes the first, or skips it, and goes on 56 bytes further
-abbrev pub left : List ℕ → ℕ → ℕ → List Phdr
-left image at k = filter loads (phdrsFrom image at k)
-
+-- of the headers that are left a walk takes the first, or skips it, and goes on 56 bytes further
 pub left-none : (image : List ℕ) (at k : ℕ) → k ≤ 0 → left image at k ≡ []
 left-none image at zero h = refl
 left-none image at (suc k) h = absurd (not-suc-le-zero h)
@@ -56,3 +55,19 @@ module _ (image : List ℕ) (a end : ℕ) (found : Bool) (p : Phdr) (ps : List P
   goes-on l e =
       let on : phdrError image end (p ∷ ps) ≡ phdrError image (pageUp (p .vaddr + p .memsz)) ps = one-header image end p ps ∙ through (tests image end p) _ (passes (tests image end p) _ refl (sym (one-header image end p []) ∙ e) .0) in
       rw (l, on, file-length image p (fine image end p [] e .within), or-assoc found (flagPerm p is 1 && within (p .vaddr) (p .vaddr + p .filesz) a) (any (inText a) (map (segmentOf image) ps)))
+
+-- one turn of the scan: a step over the header at its place
+pub turn : (image : List ℕ) (a : ℕ) (seen : Seen) (at k : ℕ) (p : Phdr) (r : Step) → 0 < k → p ≡ phdrAt image at → Steps image a seen p r
+    → scanError image a (seen .end) (seen .found) (left image at k) ≡ stepError image a r (left image (at + 56) (k - 1))
+turn image a seen at k p r h e s =
+    let ps = left image (at + 56) (k - 1) in
+    ap (scanError image a (seen .end) (seen .found)) (left-some image at k h ∙ ap (λ (q : Phdr). keep q ps) (sym e)) ∙ s ps
+
+or-false : (b : Bool) → (b || false) ≡ b
+or-false true = refl
+or-false false = refl
+
+-- its end: 27 unless the entry was found
+pub ends : (image : List ℕ) (a end : ℕ) (found : Bool) (at k : ℕ) → k ≤ 0 → scanError image a end found (left image at k) ≡ (found ⇒ 0 else 27)
+unfolding scanError phdrError
+ends image a end found at k h = rw (left-none image at k h, or-false found)

@@ -7,13 +7,17 @@ use mathlib.Core.List.{List, [], _∷_, map}
 use lib.ListN.{length, take, drop}
 use Rattle.spec.specs.Tests.{_is_, _isnt_, _above_, _⇒_else_, _orElse_, any, filter}
 use Rattle.spec.specs.Numbers.{le}
-use Rattle.spec.specs.Elf.{Phdr, Segment, phdrsFrom, loads, flagPerm, phdrError, segmentOf, inFile, errorNumber, entry, phoff, phnum, elfError}
+use Rattle.spec.specs.Elf.{Phdr, Segment as Loadable, phdrsFrom, loads, flagPerm, phdrError, segmentOf, inFile, errorNumber, entry, phoff, phnum, elfError}
 use Rattle.spec.specs.declared.ElfError.{ElfError}
 use Rattle.elf.specs.declared.Ehdr.{Ehdr}
 use Rattle.elf.specs.declared.Phdr.{Phdr as Read}
 use Rattle.elf.specs.declared.Seen.{Seen}
 use Rattle.elf.specs.declared.Step.{Step}
 use Rattle.elf.specs.declared.Step.the-variants.{Stop, Next}
+use Rattle.elf.specs.declared.Parsed.{Parsed}
+use Rattle.elf.specs.declared.Parsed.the-variants.{Elf, Refused as No}
+use Rattle.elf.specs.declared.Load.{Load}
+use Rattle.elf.specs.declared.Load.the-variants.{Skip, Segment}
 use Rattle.elf.specs.declared.Verdict.{Verdict}
 use Rattle.elf.specs.declared.Verdict.the-variants.{Fine, Refused}
 
@@ -23,6 +27,28 @@ use Rattle.elf.specs.declared.Verdict.the-variants.{Fine, Refused}
 abbrev pub verdictNumber : Verdict → ℕ
 verdictNumber Fine = 0
 verdictNumber (Refused e) = errorNumber e
+
+-- what `parse` says: the scope's number, 0 for an image that is accepted, and then where it is entered and where its headers stand
+pub record Said : Type 0 where
+  pub number : ℕ
+  pub entry : ℕ
+  pub phoff : ℕ
+  pub phnum : ℕ
+
+abbrev pub said : Parsed → Said
+said (Elf e) = record { number = 0; entry = e .entry; phoff = e .phoff; phnum = e .phnum }
+said (No e) = record { number = errorNumber e; entry = 0; phoff = 0; phnum = 0 }
+
+unfoldable pub parsed : List ℕ → Said
+parsed image =
+    elfError image is 0 ⇒ record { number = 0; entry = entry image; phoff = phoff image; phnum = phnum image } else
+    record { number = elfError image; entry = 0; phoff = 0; phnum = 0 }
+
+-- what a loader reads at a header: the segment that it describes, unless it is skipped
+abbrev pub loadOf : Phdr → Load
+loadOf p =
+    loads p ⇒ Segment (record { vaddr = p .vaddr; memsz = p .memsz; offset = p .offset; filesz = p .filesz; perm = flagPerm p }) else
+    Skip
 
 -- ---- headers
 
@@ -61,8 +87,12 @@ phdrOf p = record { type = p .kind; flags = p .flags; offset = p .offset; vaddr 
 -- ---- the walk over the headers
 
 -- the entry lies in the file bytes of a text segment
-abbrev pub inText : ℕ → Segment → Bool
+abbrev pub inText : ℕ → Loadable → Bool
 inText a g = g .perm is 1 && inFile a g
+
+-- k headers from a place on, without the skipped ones
+abbrev pub left : List ℕ → ℕ → ℕ → List Phdr
+left image at k = filter loads (phdrsFrom image at k)
 
 -- a header in front of others, unless it is skipped
 abbrev pub keep : Phdr → List Phdr → List Phdr
@@ -82,3 +112,7 @@ stepError image a (Next t) ps = scanError image a (t .end) (t .found) ps
 -- a step from what was seen over header p, whatever headers are behind it
 abbrev pub Steps : List ℕ → ℕ → Seen → Phdr → Step → Type 0
 Steps image a seen p r = (ps : List Phdr) → scanError image a (seen .end) (seen .found) (keep p ps) ≡ stepError image a r ps
+
+-- checks 13 to 27 of an image with header h
+abbrev pub imageError : List ℕ → Ehdr → ℕ
+imageError image h = fieldsError (length image) h orElse scanError image (h .entry) 0 false (left image (h .phoff) (h .phnum))

@@ -10,7 +10,7 @@ ghost use Rattle.spec.specs.Numbers.{le};
 ghost use Rattle.spec.specs.Elf.{magic, flagTable, phdrAt, phdrError};
 ghost use Rattle.spec.specs.Elf.{loads, flagPerm, phdrsFrom};
 ghost use Rattle.spec.specs.Tests.{filter, within};
-ghost use Rattle.elf.specs.Reader.{verdictNumber, ehdrOf, fieldsError, phdrOf, Steps};
+ghost use Rattle.elf.specs.Reader.{verdictNumber, ehdrOf, fieldsError, phdrOf, left, scanError, imageError, Steps, said, parsed, loadOf};
 use spec::ElfError;
 
 pub const EHDR_SIZE: usize = 64;
@@ -37,6 +37,34 @@ pub const LAST_PAGE: u64 = 18446744073709547520;
 
 // The permission that the low three flag bits (PF_X 1, PF_W 2, PF_R 4) stand for, or 0 where they are refused.
 pub const PERMS: [u64; 8] = [0, 0, 0, 0, 2, 1, 3, 0];
+
+// A validated executable image: where it is entered, and where in it its program headers stand. The image itself stays the caller's.
+pub struct Elf {
+    pub entry: u64,
+    pub phoff: usize,
+    pub phnum: usize,
+}
+
+// What an image is parsed to: for Result<Elf, ElfError>.
+pub enum Parsed {
+    Elf(Elf),
+    Refused(ElfError),
+}
+
+// A loadable segment: `memsz` bytes at `vaddr`, the first of which are the image's `filesz` bytes at `offset`, and the rest zero.
+pub struct Segment {
+    pub vaddr: u64,
+    pub memsz: u64,
+    pub offset: usize,
+    pub filesz: usize,
+    pub perm: u64,
+}
+
+// What a program header describes: for Option<Segment>.
+pub enum Load {
+    Skip,
+    Segment(Segment),
+}
 
 // The fields of the ELF header that are read.
 pub struct Ehdr {
@@ -281,4 +309,88 @@ fn advance(image: &[u8], entry: u64, seen: Seen, p: Phdr) -> Step
             found: seen.found | in_text(entry, p),
         }),
     }
+}
+
+// The checks of k program headers from a place on, then that the entry point was found.
+fn scan(image: &[u8], entry: u64, phoff: usize, phnum: usize) -> Verdict
+    requires { ⌜ phoff + 56 * phnum ≤ length (now image) ⌝ }
+    ensures { λ r. ⌜ verdictNumber r ≡ scanError (now (image .entry)) entry 0 false (left (now (image .entry)) phoff phnum) ⌝ }
+{
+    let mut seen = Seen {
+        end: 0,
+        found: false,
+    };
+    let mut at = phoff;
+    let mut k = phnum;
+    while k > 0 {
+        let s = advance(image, entry, seen, read_phdr(image, at));
+        at += PHDR_SIZE;
+        k -= 1;
+        match s {
+            Step::Stop(e) => {
+                return Verdict::Refused(e);
+            }
+            Step::Next(t) => {
+                seen = t;
+            }
+        }
+    }
+    if seen.found {
+        Verdict::Fine
+    } else {
+        Verdict::Refused(ElfError::EntryNotInText)
+    }
+}
+
+// The checks of an image whose ELF header is `h`: of the header, then of the program headers.
+fn judge(image: &[u8], h: Ehdr) -> Verdict
+    ensures { λ r. ⌜ verdictNumber r ≡ imageError (now (image .entry)) h ⌝ }
+{
+    let v = judge_ehdr(image.len(), h);
+    match v {
+        Verdict::Refused(e) => Verdict::Refused(e),
+        Verdict::Fine => scan(image, h.entry, h.phoff as usize, h.phnum as usize),
+    }
+}
+
+// Validates `image` as a static aarch64 executable. A refusal says which check it failed first.
+pub fn parse(image: &[u8]) -> Parsed
+    ensures { λ r. ⌜ said r ≡ parsed (now (image .entry)) ⌝ }
+{
+    if image.len() < EHDR_SIZE {
+        return Parsed::Refused(ElfError::Truncated);
+    }
+    if !has_magic(image) {
+        return Parsed::Refused(ElfError::BadMagic);
+    }
+    let h = read_ehdr(image);
+    let v = judge(image, h);
+    match v {
+        Verdict::Refused(e) => Parsed::Refused(e),
+        Verdict::Fine => Parsed::Elf(Elf {
+            entry: h.entry,
+            phoff: h.phoff as usize,
+            phnum: h.phnum as usize,
+        }),
+    }
+}
+
+// The segment that the program header at a place of an image describes, unless it is skipped: what r9's `Elf::segments` yields.
+// Its fields are checked only where `parse` accepted the image.
+pub fn segment_at(image: &[u8], at: usize) -> Load
+    requires { ⌜ at + 56 ≤ length (now image) ⌝ }
+    ensures { λ r. ⌜ r ≡ loadOf (phdrAt (now (image .entry)) at) ⌝ }
+{
+    let p = read_phdr(image, at);
+    if !is_load(p) {
+        return Load::Skip;
+    }
+    let perm = perm(p.flags);
+    Load::Segment(Segment {
+        vaddr: p.vaddr,
+        memsz: p.memsz,
+        offset: p.offset as usize,
+        filesz: p.filesz as usize,
+        perm,
+    })
 }
