@@ -10,7 +10,7 @@ use lib.Dec.{eqb}
 use borrow.Author.Tests.{ne-eqb}
 use Rattle.spec.specs.Tests.{_is_, _⇒_else_, _orElse_, any, filter, within}
 use Rattle.spec.specs.Numbers.{pageUp}
-use Rattle.spec.specs.Elf.{Phdr, phdrAt, phdrsFrom, loads, flagPerm, phdrError, segmentOf}
+use Rattle.spec.specs.Elf.{Phdr, phoff, phnum, phdrs, phdrAt, phdrsFrom, loads, flagPerm, phdrError, segmentOf}
 use Rattle.elf.specs.Reader.{inText, left, keep, scanError, stepError, Steps}
 use Rattle.elf.specs.declared.Seen.{Seen}
 use Rattle.elf.specs.declared.Step.{Step}
@@ -25,6 +25,11 @@ left-none image at (suc k) h = absurd (not-suc-le-zero h)
 pub left-some : (image : List ℕ) (at k : ℕ) → 0 < k → left image at k ≡ keep (phdrAt image at) (left image (at + 56) (k - 1))
 left-some image at zero h = absurd (not-suc-le-zero h)
 left-some image at (suc k) h = let one : suc k - 1 ≡ k = omega arith in rw one
+
+-- from the table's start on, all that the specification has
+pub left-all : (image : List ℕ) → left image (phoff image) (phnum image) ≡ phdrs image
+unfolding phdrs
+left-all image = refl
 
 -- ---- one header of the scan
 

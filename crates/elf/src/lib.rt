@@ -121,21 +121,27 @@ fn u16_at(b: &[u8], off: usize) -> u16
     requires { ⌜ off + 2 ≤ length (now b) ⌝ }
     ensures { λ r. ⌜ r ≡ le 2 (now (b .entry)) off ⌝ }
 {
-    u8_at(b, off) as u16 + u8_at(b, off + 1) as u16 * 256
+    let low = u8_at(b, off) as u16;
+    let high = u8_at(b, off + 1) as u16;
+    low + high * 256
 }
 
 fn u32_at(b: &[u8], off: usize) -> u32
     requires { ⌜ off + 4 ≤ length (now b) ⌝ }
     ensures { λ r. ⌜ r ≡ le 4 (now (b .entry)) off ⌝ }
 {
-    u16_at(b, off) as u32 + u16_at(b, off + 2) as u32 * 65536
+    let low = u16_at(b, off) as u32;
+    let high = u16_at(b, off + 2) as u32;
+    low + high * 65536
 }
 
 fn u64_at(b: &[u8], off: usize) -> u64
     requires { ⌜ off + 8 ≤ length (now b) ⌝ }
     ensures { λ r. ⌜ r ≡ le 8 (now (b .entry)) off ⌝ }
 {
-    u32_at(b, off) as u64 + u32_at(b, off + 4) as u64 * 4294967296
+    let low = u32_at(b, off) as u64;
+    let high = u32_at(b, off + 4) as u64;
+    low + high * 4294967296
 }
 
 // Whether an image starts with the magic.
