@@ -1,0 +1,5 @@
+-- The laws of frames and book. Above them nothing reasons about frame numbers or words.
+pub mod Lists
+pub mod Frame
+pub mod Pokes
+pub mod Release
