@@ -1,5 +1,9 @@
--- The laws of frames and book. Above them nothing reasons about frame numbers or words.
+-- Laws of the definitions. Of frames and book: above these nothing reasons about frame numbers or words.
 pub mod Lists
 pub mod Frame
 pub mod Pokes
 pub mod Release
+-- Of records and soundness.
+pub mod Record
+pub mod Pieces
+pub mod Facts
