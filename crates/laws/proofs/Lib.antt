@@ -3,3 +3,4 @@ pub mod Lists
 pub mod Frame
 pub mod Pokes
 pub mod Release
+pub mod Place
