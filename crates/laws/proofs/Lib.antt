@@ -3,6 +3,7 @@ pub mod Lists
 pub mod Frame
 pub mod Pokes
 pub mod Release
+pub mod Place
 -- Of records and soundness.
 pub mod Record
 pub mod Pieces
