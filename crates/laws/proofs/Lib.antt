@@ -8,3 +8,5 @@ pub mod Facts
 pub mod Begins
 pub mod Accepted
 pub mod Started
+pub mod Turns
+pub mod Buffers
