@@ -3,7 +3,17 @@ pub mod Lists
 pub mod Frame
 pub mod Pokes
 pub mod Release
--- Of records and soundness.
+pub mod Place
+-- Of records and soundness: the test and the facts are equivalent.
 pub mod Record
+pub mod Shape
 pub mod Pieces
+pub mod Owned
+pub mod Exact
 pub mod Facts
+-- Theorems of the definitions alone.
+pub mod Begins
+pub mod Accepted
+pub mod Started
+pub mod Turns
+pub mod Buffers
