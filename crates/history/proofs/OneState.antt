@@ -21,7 +21,8 @@ use Rattle.spec.specs.declared.UserSegment.{UserSegment}
 use Rattle.spec.specs.declared.Proc.{Proc}
 use Rattle.spec.specs.declared.Answer.the-variants.{Done, Ended}
 use Rattle.laws.proofs.Frame.{Fits, sized-fits, mem-perm}
-use Rattle.laws.proofs.Record.{Whole, typed-whole, dead-zero, shape-used}
+use Rattle.laws.proofs.Record.{Whole, typed-whole, dead-zero}
+use Rattle.laws.proofs.Shape.{shape-used}
 use Rattle.laws.proofs.Facts.{sound-facts, sound-perm, dead-frame, found-between}
 use Rattle.history.proofs.Passed.{Good, answered}
 
