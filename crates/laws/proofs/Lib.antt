@@ -4,3 +4,6 @@ pub mod Frame
 pub mod Pokes
 pub mod Release
 pub mod Place
+pub mod Pieces
+pub mod Pages
+pub mod Placed
