@@ -7,3 +7,5 @@ pub mod Place
 pub mod Pieces
 pub mod Pages
 pub mod Placed
+pub mod Contents
+pub mod Cursor
