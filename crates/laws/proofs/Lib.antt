@@ -9,3 +9,4 @@ pub mod Pages
 pub mod Placed
 pub mod Contents
 pub mod Cursor
+pub mod Count
