@@ -17,3 +17,9 @@ pub mod Accepted
 pub mod Started
 pub mod Turns
 pub mod Buffers
+pub mod Apart
+pub mod Pages
+pub mod Placed
+pub mod Contents
+pub mod Cursor
+pub mod Count
