@@ -10,7 +10,7 @@ use lib.ListN.{length, getD, List·getD-eq-default}
 use borrow.Author.Tests.{eqb-true, eqb-false, eq-eqb, ne-eqb}
 use Rattle.spec.specs.Tests.{_is_, _isnt_, within}
 use Rattle.spec.specs.Numbers.{pageDown}
-use Rattle.spec.specs.Book.{pageOf, ownerOf, permOf, highest, owns, frameOf, bookPerm}
+use Rattle.spec.specs.Book.{pageOf, ownerOf, permOf, highest, owns, frameOf, permIn, bookPerm}
 use Rattle.spec.specs.Frames.{Store, sized, Cell, cellIn, memOf}
 use Rattle.spec.specs.History as history
 use Rattle.spec.proofs.Bools.{split, both, clash, not-true, within-means}
@@ -70,6 +70,21 @@ frame-some book n page k o = go (frameOf book n page) refl
     go : (r : Option ℕ) → frameOf book n page ≡ r → (j : ℕ) × (frameOf book n page ≡ some j)
     go none e = absurd (frame-none book n page e k o)
     go (some j) e = (j, e)
+
+-- a page that the book gives a permission has a frame, and one that it gives none has none
+pub frame-perm : (book : List ℕ) (n page q : ℕ) → bookPerm book n page ≡ some q → (k : ℕ) × (frameOf book n page ≡ some k)
+frame-perm book n page q e = go (frameOf book n page) refl e
+  where
+    go : (o : Option ℕ) → frameOf book n page ≡ o → permIn book o ≡ some q → (k : ℕ) × (frameOf book n page ≡ some k)
+    go none f e = absurd (let z : _≡_ {A = ℕ} 0 1 = cc in omega arith)
+    go (some k) f e = (k, f)
+
+pub frame-unmapped : (book : List ℕ) (n page : ℕ) → bookPerm book n page ≡ none → frameOf book n page ≡ none
+frame-unmapped book n page e = go (frameOf book n page) refl e
+  where
+    go : (o : Option ℕ) → frameOf book n page ≡ o → permIn book o ≡ none → frameOf book n page ≡ none
+    go none f e = f
+    go (some k) f e = absurd (let z : _≡_ {A = ℕ} 0 1 = cc in omega arith)
 
 -- ---- no owner has a page twice
 

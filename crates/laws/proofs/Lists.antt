@@ -1,4 +1,4 @@
--- Bytes put over a list: its length and what is read from it.
+-- Lists: what holds of each element, and bytes put over a list.
 use Prim.Native.Nat.{ℕ, zero, suc, _+_, _-_, _≤_, _<_}
 use native.Mathlib.Omega.{arith}
 use native.Mathlib.Nat.{add-zero, add-assoc}
@@ -17,6 +17,19 @@ use Rattle.spec.proofs.Bools.{split}
 -- a < b or b ≤ a
 pub by-order : {P : Type 0} (a b : ℕ) → (a < b → P) → (b ≤ a → P) → P
 by-order a b f g = split (ltb a b) (λ e. f (ltb-true a b e)) (λ e. g (ltb-false a b e))
+
+-- each element of a list
+abbrev pub Each : {A : Type 0} → (A → Type 0) → List A → Type 0
+Each P [] = Unit {0}
+Each P (x ∷ xs) = P x × Each P xs
+
+pub each-map : {A : Type 0} (P Q : A → Type 0) → ((x : A) → P x → Q x) → (xs : List A) → Each P xs → Each Q xs
+each-map P Q f [] h = tt
+each-map P Q f (x ∷ xs) h = (f x (h .0), each-map P Q f xs (h .1))
+
+pub each-append : {A : Type 0} (P : A → Type 0) (xs ys : List A) → Each P xs → Each P ys → Each P (xs ++ ys)
+each-append P [] ys h k = k
+each-append P (x ∷ xs) ys h k = (h .0, each-append P xs ys (h .1) k)
 
 -- ---- what put is
 

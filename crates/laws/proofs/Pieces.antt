@@ -15,7 +15,7 @@ use Rattle.spec.specs.Sound.{Shape}
 use Rattle.spec.specs.declared.VirtRange.{VirtRange}
 use Rattle.spec.specs.declared.UserSegment.{UserSegment}
 use Rattle.spec.specs.declared.Proc.{Proc}
-use Rattle.laws.proofs.Record.{Image, imageEnd, Bss, image-top, shape-image, shape-bss, shape-used}
+use Rattle.laws.proofs.Shape.{Image, imageEnd, Bss, image-top, shape-image, shape-bss, shape-used}
 
 -- ---- an address in a segment
 

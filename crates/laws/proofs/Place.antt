@@ -17,7 +17,7 @@ use Rattle.spec.specs.Frames.{Store, sized, Cell, cellIn, memOf, put, Page, hol
 use Rattle.spec.proofs.Bools.{split}
 use Rattle.spec.proofs.Search.{hit, miss, highest-ext}
 use Rattle.spec.proofs.Words.{unpack, used-word}
-use Rattle.laws.proofs.Lists.{length-put, put-in, put-outside}
+use Rattle.laws.proofs.Lists.{Each, length-put, put-in, put-outside}
 use Rattle.laws.proofs.Frame.{Fits, sized-same, Owns, owns-means, owns-not, frame-found, frame-none, frame-some, Once, cell-eq}
 
 -- ---- a book with one word more
@@ -142,19 +142,6 @@ none-free book e = go book (miss (λ j. getD book j 0 is 0) (length book) e)
     go : (l : List ℕ) → ((k : ℕ) → k < length l → (getD l k 0 is 0) ≡ false) → free l ≡ 0
     go [] h = refl
     go (w ∷ ws) h = rw (h 0 (omega arith)) (go ws (λ k l. h (suc k) (omega arith)))
-
--- each element of a list
-abbrev pub Each : {A : Type 0} → (A → Type 0) → List A → Type 0
-Each P [] = Unit {0}
-Each P (x ∷ xs) = P x × Each P xs
-
-pub each-map : {A : Type 0} (P Q : A → Type 0) → ((x : A) → P x → Q x) → (xs : List A) → Each P xs → Each Q xs
-each-map P Q f [] h = tt
-each-map P Q f (x ∷ xs) h = (f x (h .0), each-map P Q f xs (h .1))
-
-pub each-append : {A : Type 0} (P : A → Type 0) (xs ys : List A) → Each P xs → Each P ys → Each P (xs ++ ys)
-each-append P [] ys h k = k
-each-append P (x ∷ xs) ys h k = (h .0, each-append P xs ys (h .1) k)
 
 -- pages one after the other
 pub place-append : (m : Store) (n : ℕ) (ps qs : List Page) → place m n (ps ++ qs) ≡ place (place m n ps) n qs
