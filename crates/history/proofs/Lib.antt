@@ -8,3 +8,4 @@ pub mod Change
 pub mod Ended
 pub mod Written
 pub mod Forked
+pub mod Moved
