@@ -3,4 +3,9 @@ pub mod Passed
 pub mod Whole
 pub mod OneState
 pub mod Accepted
+pub mod Stored
 pub mod Change
+pub mod Ended
+pub mod Written
+pub mod Forked
+pub mod Moved
