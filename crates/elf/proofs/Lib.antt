@@ -5,5 +5,4 @@ pub mod Walk
 pub mod Errors
 pub mod Fine
 pub mod Checks
-pub mod Chain
 pub mod Flags

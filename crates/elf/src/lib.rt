@@ -2,14 +2,12 @@
 // The image is untrusted, so that every read lies in it and no sum wraps. Where segments may go in memory is the loader's business.
 ghost use mathlib.Core.Path.{_≡_};
 ghost use mathlib.Core.Bool.{Bool, false, _&&_};
-ghost use mathlib.Core.List.{List, [], _∷_};
-ghost use Prim.Native.Nat.{ℕ, _+_, _*_, _%_, _≤_, _<_};
+ghost use mathlib.Core.List.{[], _∷_};
+ghost use Prim.Native.Nat.{_+_, _*_, _%_, _≤_, _<_};
 ghost use lib.ListN.{length, take, getD};
-ghost use Rattle.spec.specs.Tests.{same, _is_};
+ghost use Rattle.spec.specs.Tests.{same, _is_, within};
 ghost use Rattle.spec.specs.Numbers.{le};
-ghost use Rattle.spec.specs.Elf.{magic, flagTable, phdrAt, phdrError};
-ghost use Rattle.spec.specs.Elf.{loads, flagPerm, phdrsFrom};
-ghost use Rattle.spec.specs.Tests.{filter, within};
+ghost use Rattle.spec.specs.Elf.{magic, flagTable, phdrAt, phdrError, loads, flagPerm};
 ghost use Rattle.elf.specs.Reader.{verdictNumber, ehdrOf, fieldsError, phdrOf, left, scanError, imageError, Steps, said, parsed, loadOf};
 use spec::ElfError;
 
@@ -265,7 +263,7 @@ fn judge_phdr(image: &[u8], end: u64, p: Phdr) -> Verdict
     if filesz > len - offset {
         return Verdict::Refused(ElfError::SegmentOutOfRange);
     }
-    if vaddr % 4096 != offset % 4096 {
+    if vaddr % spec::PAGE_SIZE_4K != offset % spec::PAGE_SIZE_4K {
         return Verdict::Refused(ElfError::Misaligned);
     }
     if vaddr > LAST_PAGE {
@@ -278,7 +276,7 @@ fn judge_phdr(image: &[u8], end: u64, p: Phdr) -> Verdict
     if perm == 0 {
         return Verdict::Refused(ElfError::BadFlags);
     }
-    if vaddr / 4096 * 4096 < end {
+    if vaddr / spec::PAGE_SIZE_4K * spec::PAGE_SIZE_4K < end {
         return Verdict::Refused(ElfError::Unordered);
     }
     Verdict::Fine
@@ -297,7 +295,7 @@ fn in_text(entry: u64, p: Phdr) -> bool
     ensures { λ r. ⌜ r ≡ (flagPerm (phdrOf p) is 1 && within (p .vaddr) (p .vaddr + p .filesz) entry) ⌝ }
 {
     let perm = perm(p.flags);
-    (perm == 1) & (!(entry < p.vaddr) & (entry < p.vaddr + p.filesz))
+    (perm == spec::TEXT) & (!(entry < p.vaddr) & (entry < p.vaddr + p.filesz))
 }
 
 // One program header: skipped, or checked and its end and its text noted.
@@ -311,7 +309,7 @@ fn advance(image: &[u8], entry: u64, seen: Seen, p: Phdr) -> Step
     match v {
         Verdict::Refused(e) => Step::Stop(e),
         Verdict::Fine => Step::Next(Seen {
-            end: (p.vaddr + p.memsz + 4095) / 4096 * 4096,
+            end: mem::page_up(p.vaddr + p.memsz),
             found: seen.found | in_text(entry, p),
         }),
     }

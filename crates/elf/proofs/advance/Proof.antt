@@ -25,17 +25,14 @@ passed c =
     let a = c .before .before .before .before .before .before .args in
     fine (now (a .image)) (a .seen .end) (phdrOf (a .p)) _ (sym (c .before .before .judge-phdr .ensures) ∙ ap verdictNumber (c .enum-told .given .1))
 
-add-t10 : tie.Need-add-t10
-add-t10 c = let f = passed (c .before) in omega arith
+add-page-up : tie.Need-add-page-up
+add-page-up c = let f = passed (c .before) in omega arith
 
-add-t11 : tie.Need-add-t11
-add-t11 c = let f = passed (c .before) in omega arith
-
-mul-t13 : tie.Need-mul-t13
-mul-t13 c = let f = passed (c .before) in omega arith
+page-up-requires : tie.Need-page-up-requires
+page-up-requires c κs = let f = passed (c .before) in omega arith
 
 in-text-requires : tie.Need-in-text-requires
-in-text-requires c κs = let f = passed (c .before) in omega arith
+in-text-requires c κs = let f = passed (c .before .before) in omega arith
 
 returns-2 : tie.Need-returns-2
 returns-2 c ps =
@@ -47,11 +44,11 @@ returns-2 c ps =
 
 returns-3 : tie.Need-returns-3
 returns-3 c ps =
-    let a = c .before .before .before .before .before .before .before .before .before .args in
-    rw (c .before .in-text .ensures)
+    let a = c .before .before .before .before .before .before .before .before .before .before .args in
+    rw (c .before .in-text .ensures, c .before .before .page-up .ensures)
     (goes-on (now (a .image)) (a .entry) (a .seen .end) (a .seen .found) (phdrOf (a .p)) ps
-    (sym (c .before .before .before .before .before .before .before .is-load .ensures) ∙ not-false _ (c .before .before .before .before .before .before .if1 .left))
-    (sym (c .before .before .before .before .before .judge-phdr .ensures) ∙ ap verdictNumber (c .before .before .before .enum-told .given .1)))
+    (sym (c .before .before .before .before .before .before .before .before .is-load .ensures) ∙ not-false _ (c .before .before .before .before .before .before .before .if1 .left))
+    (sym (c .before .before .before .before .before .before .judge-phdr .ensures) ∙ ap verdictNumber (c .before .before .before .before .enum-told .given .1)))
 
 pub advance-spec : {M : Type 1} → statement M
 advance-spec =
@@ -62,9 +59,8 @@ advance-spec =
     (λ c κs. search needs)
     (λ c. search needs)
     (λ c. search needs)
-    add-t10
-    add-t11
-    mul-t13
+    add-page-up
+    page-up-requires
     in-text-requires
     returns-2
     returns-3)

@@ -2,7 +2,7 @@
 -- Assumes nothing.
 use borrow.Author.Needs.{needs}
 use Rattle.elf.specs.Reader.{fieldsError}
-use Rattle.elf.proofs.Chain.{chain}
+use Rattle.spec.proofs.Chain.{chain}
 use Rattle.elf.proofs.judge_ehdr.Statement.{statement}
 use Rattle.elf.proofs.judge_ehdr.Tie as tie
 

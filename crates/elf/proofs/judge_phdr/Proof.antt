@@ -2,7 +2,7 @@
 -- Assumes nothing.
 use borrow.Author.Needs.{needs}
 use Rattle.spec.specs.Elf.{phdrError}
-use Rattle.elf.proofs.Chain.{chain, calls}
+use Rattle.spec.proofs.Chain.{chain, calls}
 use Rattle.elf.proofs.judge_phdr.Statement.{statement}
 use Rattle.elf.proofs.judge_phdr.Tie as tie
 
