@@ -3,6 +3,6 @@ pub mod Same
 pub mod Image
 pub mod Walk
 pub mod Errors
-pub mod Fine
+pub mod Checked
 pub mod Checks
 pub mod Flags

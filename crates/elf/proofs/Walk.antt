@@ -7,15 +7,20 @@ use Prim.Native.Nat.{ℕ, zero, suc, _+_, _-_, _*_, _<_, _≤_}
 use native.Mathlib.Nat.{not-suc-le-zero}
 use native.Mathlib.Omega.{arith}
 use lib.Dec.{eqb}
+use lib.ListN.{length, take, drop}
 use borrow.Author.Tests.{ne-eqb}
 use Rattle.spec.specs.Tests.{_is_, _⇒_else_, _orElse_, any, filter, within}
 use Rattle.spec.specs.Numbers.{pageUp}
-use Rattle.spec.specs.Elf.{Phdr, phoff, phnum, phdrs, phdrAt, phdrsFrom, loads, flagPerm, phdrError, segmentOf}
-use Rattle.elf.specs.Reader.{inText, left, keep, scanError, stepError, Steps}
+use Rattle.spec.specs.Elf.{Phdr, phoff, phnum, phdrs, phdrAt, phdrsFrom, loads, flagPerm, phdrError, Segment, segmentOf, segmentsOf}
+use Rattle.spec.proofs.Bools.{split}
+use Rattle.elf.specs.Reader.{inText, left, keep, scanError, stepError, Steps, loadOf, CheckedLoad}
+use Rattle.elf.specs.declared.Segment.{Segment as Held}
+use Rattle.elf.specs.declared.Load.{Load}
+use Rattle.elf.specs.declared.Load.the-variants.{Skip, Segment as Taken}
 use Rattle.elf.specs.declared.Seen.{Seen}
 use Rattle.elf.specs.declared.Step.{Step}
 use Rattle.elf.proofs.Checks.{checks, passed, passes, through, stops}
-use Rattle.elf.proofs.Fine.{tests, one-header, Fine, fine, file-length}
+use Rattle.elf.proofs.Checked.{tests, one-header, checked, AllChecked, file-length}
 
 -- of the headers that are left a walk takes the first, or skips it, and goes on 56 bytes further
 pub left-none : (image : List ℕ) (at k : ℕ) → k ≤ 0 → left image at k ≡ []
@@ -30,6 +35,43 @@ left-some image at (suc k) h = let one : suc k - 1 ≡ k = omega arith in rw one
 pub left-all : (image : List ℕ) → left image (phoff image) (phnum image) ≡ phdrs image
 unfolding phdrs
 left-all image = refl
+
+-- ---- for a loader's walk: what it reads at each header, in front of what is left
+
+-- a segment that was read, as the specification has it
+abbrev pub segmentIn : List ℕ → Held → Segment
+segmentIn image g = record { vaddr = g .vaddr; memsz = g .memsz; file = take (g .filesz) (drop (g .offset) image); perm = g .perm }
+
+abbrev pub front : List ℕ → Load → List Segment → List Segment
+front image Skip gs = gs
+front image (Taken g) gs = segmentIn image g ∷ gs
+
+-- the segments of the headers that are left
+abbrev pub segs : List ℕ → ℕ → ℕ → List Segment
+segs image at k = map (segmentOf image) (left image at k)
+
+pub segs-none : (image : List ℕ) (at k : ℕ) → k ≤ 0 → segs image at k ≡ []
+segs-none image at k h = rw (left-none image at k h)
+
+pub segs-some : (image : List ℕ) (at k : ℕ) (l : Load) → 0 < k → l ≡ loadOf (phdrAt image at) → segs image at k ≡ front image l (segs image (at + 56) (k - 1))
+segs-some image at k l h e =
+    ap (map (segmentOf image)) (left-some image at k h) ∙ step (phdrAt image at) (left image (at + 56) (k - 1))
+    ∙ ap (λ (x : Load). front image x (segs image (at + 56) (k - 1))) (sym e)
+  where
+    step : (p : Phdr) (ps : List Phdr) → map (segmentOf image) (keep p ps) ≡ front image (loadOf p) (map (segmentOf image) ps)
+    step p ps = split (loads p) (λ q. rw q) (λ q. rw q)
+
+pub segs-all : (image : List ℕ) → segs image (phoff image) (phnum image) ≡ segmentsOf image
+unfolding phdrs segmentsOf
+segs-all image = refl
+
+-- in an accepted image what is read has passed, and so has what is left
+pub checked-some : (image : List ℕ) (at k : ℕ) (l : Load) → 0 < k → l ≡ loadOf (phdrAt image at) → AllChecked (length image) (left image at k)
+    → CheckedLoad (length image) l × AllChecked (length image) (left image (at + 56) (k - 1))
+checked-some image at k l h e f = rw e (step (phdrAt image at) (left image (at + 56) (k - 1)) (rw (left-some image at k h) at f))
+  where
+    step : (p : Phdr) (ps : List Phdr) → AllChecked (length image) (keep p ps) → CheckedLoad (length image) (loadOf p) × AllChecked (length image) ps
+    step p ps f = split (loads p) (λ q. rw q (rw q at f)) (λ q. rw q (tt, rw q at f))
 
 -- ---- one header of the scan
 
@@ -59,7 +101,7 @@ module _ (image : List ℕ) (a end : ℕ) (found : Bool) (p : Phdr) (ps : List P
   unfolding scanError
   goes-on l e =
       let on : phdrError image end (p ∷ ps) ≡ phdrError image (pageUp (p .vaddr + p .memsz)) ps = one-header image end p ps ∙ through (tests image end p) _ (passes (tests image end p) _ refl (sym (one-header image end p []) ∙ e) .0) in
-      rw (l, on, file-length image p (fine image end p [] e .within), or-assoc found (flagPerm p is 1 && within (p .vaddr) (p .vaddr + p .filesz) a) (any (inText a) (map (segmentOf image) ps)))
+      rw (l, on, file-length image p (checked image end p [] e .within), or-assoc found (flagPerm p is 1 && within (p .vaddr) (p .vaddr + p .filesz) a) (any (inText a) (map (segmentOf image) ps)))
 
 -- one turn of the scan: a step over the header at its place
 pub turn : (image : List ℕ) (a : ℕ) (seen : Seen) (at k : ℕ) (p : Phdr) (r : Step) → 0 < k → p ≡ phdrAt image at → Steps image a seen p r

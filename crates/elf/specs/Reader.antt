@@ -1,6 +1,6 @@
 -- What the reader's types stand for in the specification: a header's fields, a segment, and the answer of `parse` with the scope's number.
 -- Assumes nothing.
-use Prim.Native.Nat.{ℕ, zero, suc, _+_, _*_, _%_}
+use Prim.Native.Nat.{ℕ, _+_, _-_, _*_, _%_, _^_, _≤_}
 use mathlib.Core.Path.{_≡_}
 use mathlib.Core.Bool.{Bool, true, false, not, _&&_, _||_}
 use mathlib.Core.List.{List, [], _∷_, map}
@@ -16,6 +16,7 @@ use Rattle.elf.specs.declared.Step.{Step}
 use Rattle.elf.specs.declared.Step.the-variants.{Stop, Next}
 use Rattle.elf.specs.declared.Parsed.{Parsed}
 use Rattle.elf.specs.declared.Parsed.the-variants.{Elf, Refused as No}
+use Rattle.elf.specs.declared.Segment.{Segment as Held}
 use Rattle.elf.specs.declared.Load.{Load}
 use Rattle.elf.specs.declared.Load.the-variants.{Skip, Segment}
 use Rattle.elf.specs.declared.Verdict.{Verdict}
@@ -45,10 +46,23 @@ parsed image =
     record { number = elfError image; entry = 0; phoff = 0; phnum = 0 }
 
 -- what a loader reads at a header: the segment that it describes, unless it is skipped
+abbrev pub segmentFrom : Phdr → Held
+segmentFrom p = record { vaddr = p .vaddr; memsz = p .memsz; offset = p .offset; filesz = p .filesz; perm = flagPerm p }
+
 abbrev pub loadOf : Phdr → Load
-loadOf p =
-    loads p ⇒ Segment (record { vaddr = p .vaddr; memsz = p .memsz; offset = p .offset; filesz = p .filesz; perm = flagPerm p }) else
-    Skip
+loadOf p = loads p ⇒ Segment (segmentFrom p) else Skip
+
+-- what holds of a segment that passed, in an image of n bytes
+pub record Checked (n : ℕ) (g : Held) : Type 0 where
+  pub file : g .filesz ≤ g .memsz
+  pub within : g .offset + g .filesz ≤ n
+  pub aligned : g .vaddr % 4096 ≡ g .offset % 4096
+  pub end : g .vaddr + g .memsz ≤ 2 ^ 64 - 4096
+  pub perm : (1 ≤ g .perm) × (g .perm ≤ 3)
+
+abbrev pub CheckedLoad : ℕ → Load → Type 0
+CheckedLoad n Skip = Unit {0}
+CheckedLoad n (Segment g) = Checked n g
 
 -- ---- headers
 

@@ -7,7 +7,7 @@ ghost use Prim.Native.Nat.{_+_, _*_, _%_, _≤_, _<_};
 ghost use lib.ListN.{length, take, getD};
 ghost use Rattle.spec.specs.Tests.{same, _is_, within};
 ghost use Rattle.spec.specs.Numbers.{le};
-ghost use Rattle.spec.specs.Elf.{magic, flagTable, phdrAt, phdrError, loads, flagPerm};
+ghost use Rattle.spec.specs.Elf.{errorNumber, magic, flagTable, phdrAt, phdrError, loads, flagPerm};
 ghost use Rattle.elf.specs.Reader.{verdictNumber, ehdrOf, fieldsError, phdrOf, left, scanError, imageError, Steps, said, parsed, loadOf};
 use spec::ElfError;
 
@@ -397,4 +397,29 @@ pub fn segment_at(image: &[u8], at: usize) -> Load
         filesz: p.filesz as usize,
         perm,
     })
+}
+
+// The number of an error in the table of refusals.
+pub fn error_number(e: ElfError) -> u64
+    ensures { λ r. ⌜ r ≡ errorNumber e ⌝ }
+{
+    match e {
+        ElfError::Truncated => 11,
+        ElfError::BadMagic => 12,
+        ElfError::NotElf64 => 13,
+        ElfError::NotLittleEndian => 14,
+        ElfError::BadVersion => 15,
+        ElfError::NotExecutable => 16,
+        ElfError::NotAarch64 => 17,
+        ElfError::BadPhentsize => 18,
+        ElfError::MisalignedEntry => 19,
+        ElfError::PhdrsOutOfRange => 20,
+        ElfError::FileszOverMemsz => 21,
+        ElfError::SegmentOutOfRange => 22,
+        ElfError::Misaligned => 23,
+        ElfError::Overflow => 24,
+        ElfError::BadFlags => 25,
+        ElfError::Unordered => 26,
+        ElfError::EntryNotInText => 27,
+    }
 }

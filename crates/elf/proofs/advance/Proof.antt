@@ -4,12 +4,13 @@ use mathlib.Core.Path.{_≡_, refl, sym, ap, _∙_}
 use Prim.Native.Nat.{ℕ}
 use native.Mathlib.Omega.{arith}
 use denote.Ref.{now}
+use lib.ListN.{length}
 use borrow.Author.Needs.{needs}
 use borrow.Author.Tests.{not-true, not-false}
 use Rattle.spec.specs.Elf.{errorNumber}
-use Rattle.elf.specs.Reader.{verdictNumber, phdrOf}
+use Rattle.elf.specs.Reader.{verdictNumber, phdrOf, segmentFrom, Checked}
 use Rattle.elf.proofs.Errors.{not-zero}
-use Rattle.elf.proofs.Fine.{Fine, fine}
+use Rattle.elf.proofs.Checked.{checked}
 use Rattle.elf.proofs.Walk.{skips, refuses, goes-on}
 use Rattle.elf.proofs.advance.Statement.{statement}
 use Rattle.elf.proofs.advance.Tie as tie
@@ -20,10 +21,10 @@ returns c ps =
     skips (now (a .image)) (a .entry) (a .seen .end) (a .seen .found) (phdrOf (a .p)) ps (sym (c .before .is-load .ensures) ∙ not-true _ (c .if1 .taken))
 
 -- the header passed
-passed : (c : tie.After-enum-told) → Fine (now (c .before .before .before .before .before .before .args .image)) (phdrOf (c .before .before .before .before .before .before .args .p))
+passed : (c : tie.After-enum-told) → let a = c .before .before .before .before .before .before .args in Checked (length (now (a .image))) (segmentFrom (phdrOf (a .p)))
 passed c =
     let a = c .before .before .before .before .before .before .args in
-    fine (now (a .image)) (a .seen .end) (phdrOf (a .p)) _ (sym (c .before .before .judge-phdr .ensures) ∙ ap verdictNumber (c .enum-told .given .1))
+    checked (now (a .image)) (a .seen .end) (phdrOf (a .p)) _ (sym (c .before .before .judge-phdr .ensures) ∙ ap verdictNumber (c .enum-told .given .1))
 
 add-page-up : tie.Need-add-page-up
 add-page-up c = let f = passed (c .before) in omega arith

@@ -12,6 +12,7 @@ use borrow.Author.Tests.{eqb-true, eqb-false, ltb-false, not-false}
 use Rattle.spec.specs.Tests.{_is_, _isnt_, _below_, _above_, _⇒_else_}
 use Rattle.spec.specs.Numbers.{pageUp, pageDown}
 use Rattle.spec.specs.Elf.{Phdr, flagPerm, phdrError, segmentOf}
+use Rattle.elf.specs.Reader.{segmentFrom, Checked}
 use Rattle.elf.proofs.Checks.{checks, numbered, passed, passes, failed}
 use Rattle.elf.proofs.Flags.{perm-most}
 
@@ -30,14 +31,6 @@ pub one-header : (image : List ℕ) (end : ℕ) (p : Phdr) (ps : List Phdr) → 
 unfolding phdrError
 one-header image end p ps = refl
 
--- what holds of a header that passed
-pub record Fine (image : List ℕ) (p : Phdr) : Type 0 where
-  pub file : p .filesz ≤ p .memsz
-  pub within : p .offset + p .filesz ≤ length image
-  pub aligned : p .vaddr % 4096 ≡ p .offset % 4096
-  pub end : p .vaddr + p .memsz ≤ 2 ^ 64 - 4096
-  pub perm : (1 ≤ flagPerm p) × (flagPerm p ≤ 3)
-
 not-zero : (n : ℕ) → (n ≡ 0 → ⊥) → 1 ≤ n
 not-zero n h = omega arith
 
@@ -45,9 +38,9 @@ module _ (image : List ℕ) (end : ℕ) (p : Phdr) (ps : List Phdr) (e : phdrErr
   none : (passed (tests image end p) ≡ true) × (phdrError image (pageUp (p .vaddr + p .memsz)) ps ≡ 0)
   none = passes (tests image end p) _ refl (sym (one-header image end p ps) ∙ e)
 
-  -- the first header is fine, starts at the page end before it or above, and the others pass from its page end on
-  pub fine : Fine image p
-  fine =
+  -- the first header's segment has passed, starts at the page end before it or above, and the others pass from its page end on
+  pub checked : Checked (length image) (segmentFrom p)
+  checked =
       let no = failed (tests image end p) (none .0) in
       record {
         file = ltb-false _ _ (no 0 (omega arith));
@@ -62,6 +55,15 @@ module _ (image : List ℕ) (end : ℕ) (p : Phdr) (ps : List Phdr) (e : phdrErr
 
   pub others : phdrError image (pageUp (p .vaddr + p .memsz)) ps ≡ 0
   others = none .1
+
+-- every segment of headers that pass has passed
+abbrev pub AllChecked : ℕ → List Phdr → Type 0
+AllChecked n [] = Unit {0}
+AllChecked n (p ∷ ps) = Checked n (segmentFrom p) × AllChecked n ps
+
+pub all-checked : (image : List ℕ) (end : ℕ) (ps : List Phdr) → phdrError image end ps ≡ 0 → AllChecked (length image) ps
+all-checked image end [] e = tt
+all-checked image end (p ∷ ps) e = (checked image end p ps e, all-checked image (pageUp (p .vaddr + p .memsz)) ps (others image end p ps e))
 
 -- the file bytes of a segment that lies in the image are as many as its header says
 pub file-length : (image : List ℕ) (p : Phdr) → p .offset + p .filesz ≤ length image → length (segmentOf image p .file) ≡ p .filesz
