@@ -6,3 +6,4 @@ pub mod Errors
 pub mod Checked
 pub mod Checks
 pub mod Flags
+pub mod Ahead

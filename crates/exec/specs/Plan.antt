@@ -2,9 +2,9 @@
 -- Assumes nothing.
 use Prim.Native.Nat.{ℕ, _+_, _-_}
 use mathlib.Core.Bool.{Bool, true, false, not, _&&_, _||_}
-use mathlib.Core.List.{List, [], _∷_, _++_}
-use lib.ListN.{length, take, replicate}
-use Rattle.spec.specs.Tests.{_is_, _isnt_, _below_, _above_, _⇒_else_}
+use mathlib.Core.List.{List, [], _∷_, _++_, map}
+use lib.ListN.{length, take, set, replicate}
+use Rattle.spec.specs.Tests.{_is_, _isnt_, _below_, _above_, _⇒_else_, filter}
 use Rattle.spec.specs.Numbers.{utzero, limit, pageUp, pageDown}
 use Rattle.spec.specs.Book.{range, segment, zeroSegment, stack, pageCount}
 use Rattle.spec.specs.Elf.{entry, elfError, Segment, segmentsOf}
@@ -34,7 +34,11 @@ abbrev pub fitOf : Laid → Load → Fit
 fitOf before Skip = Fits before
 fitOf before (Taken g) = before .closed || g .vaddr below utzero || g .vaddr + g .memsz above limit ⇒ Refused else Fits (laid g)
 
--- the layout of an image, or its refusal; and its bss
+-- before the first segment
+abbrev pub nothing : Laid
+nothing = record { closed = false; bss = range utzero utzero }
+
+-- all the segments: what the last of them leaves, where the layout is right
 abbrev pub lastOf : Laid → List Segment → Laid
 lastOf before [] = before
 lastOf before (g ∷ gs) = lastOf (record { closed = g .perm is 3; bss = bssOf (g ∷ []) }) gs
@@ -43,5 +47,40 @@ abbrev pub fits : Laid → List Segment → Fit
 fits before gs = (not (before .closed) || length gs is 0) && layoutOk gs ⇒ Fits (lastOf before gs) else Refused
 
 -- ---- recorded segments
+
+-- a segment's pages, by a bss
+abbrev pub pagesIn : VirtRange → Held → UserSegment
+pagesIn bss g = segment (pageDown (g .vaddr)) (g .perm is 3 ⇒ pageUp (bss .start) else pageUp (g .vaddr + g .memsz)) (g .perm)
+
+-- those of all segments, without empty ones
+abbrev pub kept : VirtRange → List Segment → List UserSegment
+kept bss gs = filter (λ s. s .range .start below s .range .end) (map (userSegment bss) gs)
+
+-- one more: dropped if it is empty, and only counted behind fifteen
+abbrev pub pushed : Recorded → UserSegment → Recorded
+pushed r u =
+    u .range .start below u .range .end ⇒ record { segments = r .count below 15 ⇒ set (r .segments) (r .count) u else r .segments; count = r .count + 1 } else
+    r
+
 abbrev pub recorded : List UserSegment → Recorded
 recorded us = record { segments = take 15 us ++ replicate (16 - length (take 15 us)) zeroSegment; count = length us }
+
+-- ---- the whole
+
+-- a refusal answers zeros but for its numbers
+abbrev pub refusedPlan : ℕ → ℕ → Plan
+refusedPlan number elf = record { number = number; elf = elf; entry = 0; segments = replicate 16 zeroSegment; count = 0; bss = range 0 0; pages = 0 }
+
+-- what a start needs of an image
+abbrev pub planOf : List ℕ → Plan
+planOf image =
+    imageError image isnt 0 ⇒ refusedPlan (imageError image) (elfError image) else
+    record {
+      number = 0;
+      elf = 0;
+      entry = entry image;
+      segments = imageSegments image ++ stack ∷ replicate (15 - length (imageSegments image)) zeroSegment;
+      count = length (imageSegments image);
+      bss = imageBss image;
+      pages = pageCount (startPieces image);
+    }

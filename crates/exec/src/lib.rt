@@ -8,9 +8,13 @@ ghost use lib.ListN.{length, take, getD, replicate};
 ghost use Rattle.spec.specs.Numbers.{utzero, limit};
 ghost use Rattle.spec.specs.Book.{range, pageCount, bssSegment};
 ghost use Rattle.spec.specs.Elf.{elfError, phoff, phnum, segmentsOf};
-ghost use Rattle.elf.specs.Reader.{Checked, CheckedLoad};
-ghost use Rattle.exec.specs.Plan.{laid, fitOf, fits};
+ghost use Rattle.spec.specs.Elf.{phdrAt};
+ghost use Rattle.elf.specs.Reader.{CheckedLoad, loadOf, said, parsed};
+ghost use Rattle.elf.specs.declared.Parsed;
+ghost use Rattle.exec.specs.Plan.{fitOf, nothing, fits, pagesIn, kept, pushed, recorded, refusedPlan, planOf};
+use elf::Elf;
 use elf::Load;
+use elf::Parsed;
 use elf::Segment;
 use spec::UserSegment;
 use spec::VirtRange;
@@ -25,6 +29,24 @@ pub struct Laid {
 pub enum Fit {
     Fits(Laid),
     Refused,
+}
+
+// The segments that an image's pages make, up to fifteen of them, and how many there are.
+pub struct Recorded {
+    pub segments: [UserSegment; 16],
+    pub count: usize,
+}
+
+// All that a start needs of an image but its bytes: its refusal, or its entry point, its record's segments (`count` of the image, then the
+// stack, then zeros), its bss, and how many pages it takes with the stack. `elf` is the number of the image's own refusal.
+pub struct Plan {
+    pub number: u64,
+    pub elf: u64,
+    pub entry: u64,
+    pub segments: [UserSegment; 16],
+    pub count: usize,
+    pub bss: VirtRange,
+    pub pages: u64,
 }
 
 // One more segment of a layout: its range must fit the user address space, between UTZERO and the guard page below the stack, and it
@@ -54,20 +76,45 @@ fn lay(before: Laid, g: Segment) -> Fit
     })
 }
 
-// The segments that an image's pages make, up to fifteen of them, and how many there are.
-pub struct Recorded {
-    pub segments: [UserSegment; 16],
-    pub count: usize,
+// The layout with the segment of one more program header, if it has one.
+fn lay_header(image: &[u8], at: usize, before: Laid) -> Fit
+    requires { ⌜ at + 56 ≤ length (now image) ⌝ }
+    requires { ⌜ CheckedLoad (length (now image)) (loadOf (phdrAt (now image) at)) ⌝ }
+    ensures { λ r. ⌜ r ≡ fitOf before (loadOf (phdrAt (now (image .entry)) at)) ⌝ }
+{
+    let l = elf::segment_at(image, at);
+    match l {
+        Load::Skip => Fit::Fits(before),
+        Load::Segment(g) => lay(before, g),
+    }
 }
 
-// All that a start needs of an image but its bytes: its refusal, or its entry point, its record's segments (`count` of the image, then the
-// stack, then zeros), its bss, and how many pages it takes with the stack. `elf` is the number of the image's own refusal.
-pub struct Plan {
-    pub number: u64,
-    pub elf: u64,
-    pub entry: u64,
-    pub segments: [UserSegment; 16],
-    pub count: usize,
-    pub bss: VirtRange,
-    pub pages: u64,
+// Checks that an image fits the user address space, as text and rodata, then at most one data segment, which the bss follows.
+fn layout(image: &[u8], h: Elf) -> Fit
+    requires { ⌜ said (Parsed.Elf h) ≡ parsed (now image) ⌝ }
+    ensures { λ r. ⌜ r ≡ fits nothing (segmentsOf (now (image .entry))) ⌝ }
+{
+    let mut seen = Laid {
+        closed: false,
+        bss: VirtRange {
+            start: spec::UTZERO,
+            end: spec::UTZERO,
+        },
+    };
+    let mut at = h.phoff;
+    let mut k = h.phnum;
+    while k > 0 {
+        let f = lay_header(image, at, seen);
+        at += elf::PHDR_SIZE;
+        k -= 1;
+        match f {
+            Fit::Refused => {
+                return Fit::Refused;
+            }
+            Fit::Fits(t) => {
+                seen = t;
+            }
+        }
+    }
+    Fit::Fits(seen)
 }
