@@ -62,6 +62,11 @@ pushed r u =
     u .range .start below u .range .end ⇒ record { segments = r .count below 15 ⇒ set (r .segments) (r .count) u else r .segments; count = r .count + 1 } else
     r
 
+abbrev pub recordedWith : VirtRange → Recorded → Load → Recorded
+recordedWith bss r Skip = r
+recordedWith bss r (Taken g) = pushed r (pagesIn bss g)
+
+-- all of them
 abbrev pub recorded : List UserSegment → Recorded
 recorded us = record { segments = take 15 us ++ replicate (16 - length (take 15 us)) zeroSegment; count = length us }
 

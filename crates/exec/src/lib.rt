@@ -11,7 +11,7 @@ ghost use Rattle.spec.specs.Elf.{elfError, phoff, phnum, segmentsOf};
 ghost use Rattle.spec.specs.Elf.{phdrAt};
 ghost use Rattle.elf.specs.Reader.{CheckedLoad, loadOf, said, parsed};
 ghost use Rattle.elf.specs.declared.Parsed;
-ghost use Rattle.exec.specs.Plan.{fitOf, nothing, fits, pagesIn, kept, pushed, recorded, refusedPlan, planOf};
+ghost use Rattle.exec.specs.Plan.{fitOf, nothing, fits, pagesIn, kept, pushed, recordedWith, recorded, refusedPlan, planOf};
 use elf::Elf;
 use elf::Load;
 use elf::Parsed;
@@ -117,4 +117,85 @@ fn layout(image: &[u8], h: Elf) -> Fit
         }
     }
     Fit::Fits(seen)
+}
+
+// A segment's pages, given the bss: but the data's only up to the bss's start, rounded up, since the bss owns the pages from there.
+fn user_segment(bss: VirtRange, g: Segment) -> UserSegment
+    requires { ⌜ (g .vaddr + g .memsz ≤ 2 ^ 64 - 4096) × (bss .start ≤ 2 ^ 64 - 4096) ⌝ }
+    ensures { λ r. ⌜ r ≡ pagesIn bss g ⌝ }
+{
+    let start = mem::page_down(g.vaddr);
+    let perm = g.perm;
+    if perm == spec::DATA {
+        let end = mem::page_up(bss.start);
+        return UserSegment {
+            range: VirtRange { start, end },
+            perm,
+        };
+    }
+    let end = mem::page_up(g.vaddr + g.memsz);
+    UserSegment {
+        range: VirtRange { start, end },
+        perm,
+    }
+}
+
+// One more segment behind those recorded. An empty one is dropped, and behind fifteen it is only counted.
+fn push(before: Recorded, u: UserSegment) -> Recorded
+    requires { ⌜ before .count < 2 ^ 63 ⌝ }
+    ensures { λ r. ⌜ r ≡ pushed before u ⌝ }
+{
+    if u.range.start >= u.range.end {
+        return before;
+    }
+    let count = before.count;
+    let mut segments = before.segments;
+    let more = count + 1;
+    if count >= 15 {
+        return Recorded {
+            segments,
+            count: more,
+        };
+    }
+    segments[count] = u;
+    Recorded {
+        segments,
+        count: more,
+    }
+}
+
+// The recorded segments with that of one more program header, if it has one.
+fn push_header(image: &[u8], at: usize, bss: VirtRange, before: Recorded) -> Recorded
+    requires { ⌜ at + 56 ≤ length (now image) ⌝ }
+    requires { ⌜ CheckedLoad (length (now image)) (loadOf (phdrAt (now image) at)) ⌝ }
+    requires { ⌜ (bss .start ≤ 2 ^ 64 - 4096) × (before .count < 2 ^ 63) ⌝ }
+    ensures { λ r. ⌜ r ≡ recordedWith bss before (loadOf (phdrAt (now (image .entry)) at)) ⌝ }
+{
+    let l = elf::segment_at(image, at);
+    match l {
+        Load::Skip => before,
+        Load::Segment(g) => push(before, user_segment(bss, g)),
+    }
+}
+
+// The segments that an image's pages make, given its bss, as Plan 9's TSEG and DSEG.
+fn segments(image: &[u8], h: Elf, bss: VirtRange) -> Recorded
+    requires { ⌜ said (Parsed.Elf h) ≡ parsed (now image) ⌝ }
+    requires { ⌜ bss .start ≤ 2 ^ 64 - 4096 ⌝ }
+    ensures { λ r. ⌜ r ≡ recorded (kept bss (segmentsOf (now (image .entry)))) ⌝ }
+{
+    let zero = UserSegment {
+        range: VirtRange { start: 0, end: 0 },
+        perm: 0,
+    };
+    let segments = [zero; 16];
+    let mut seen = Recorded { segments, count: 0 };
+    let mut at = h.phoff;
+    let mut k = h.phnum;
+    while k > 0 {
+        seen = push_header(image, at, bss, seen);
+        at += elf::PHDR_SIZE;
+        k -= 1;
+    }
+    seen
 }
