@@ -1,2 +1,3 @@
 pub mod Fitted
 pub mod Kept
+pub mod Pages
