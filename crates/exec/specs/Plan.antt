@@ -77,7 +77,7 @@ abbrev pub refusedPlan : ℕ → ℕ → Plan
 refusedPlan number elf = record { number = number; elf = elf; entry = 0; segments = replicate 16 zeroSegment; count = 0; bss = range 0 0; pages = 0 }
 
 -- what a start needs of an image
-abbrev pub planOf : List ℕ → Plan
+unfoldable pub planOf : List ℕ → Plan
 planOf image =
     imageError image isnt 0 ⇒ refusedPlan (imageError image) (elfError image) else
     record {

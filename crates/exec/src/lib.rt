@@ -1,7 +1,7 @@
 // Loading a program, as r9's exec.rs: where an image's segments and its bss go, which pages a start takes and which file bytes they hold,
 // and whether arguments fit a stack. Nothing here touches memory: a call maps what is planned here.
 ghost use mathlib.Core.Path.{_≡_};
-ghost use mathlib.Core.Bool.{Bool, false};
+ghost use mathlib.Core.Bool.{Bool, true, false};
 ghost use mathlib.Core.List.{List, [], _∷_, _++_};
 ghost use Prim.Native.Nat.{_+_, _-_, _*_, _/_, _%_, _^_, _≤_, _<_};
 ghost use lib.ListN.{length, take, getD, replicate};
@@ -9,6 +9,7 @@ ghost use Rattle.spec.specs.Numbers.{utzero, limit};
 ghost use Rattle.spec.specs.Book.{range, pageCount, bssSegment};
 ghost use Rattle.spec.specs.Elf.{elfError, phoff, phnum, segmentsOf};
 ghost use Rattle.spec.specs.Elf.{phdrAt};
+ghost use Rattle.spec.specs.Exec.{layoutOk, imageBss};
 ghost use Rattle.elf.specs.Reader.{CheckedLoad, loadOf, said, parsed};
 ghost use Rattle.elf.specs.declared.Parsed;
 ghost use Rattle.exec.specs.Plan.{fitOf, nothing, fits, pagesIn, kept, pushed, recordedWith, recorded, refusedPlan, planOf};
@@ -243,5 +244,69 @@ fn refused(number: u64, elf: u64) -> Plan
         count: 0,
         bss: VirtRange { start: 0, end: 0 },
         pages: 0,
+    }
+}
+
+// The plan of an image whose layout is right, given its bss: its segments, which may be too many, then the stack, and its pages.
+fn fill(image: &[u8], h: Elf, bss: VirtRange) -> Plan
+    requires { ⌜ said (Parsed.Elf h) ≡ parsed (now image) ⌝ }
+    requires { ⌜ layoutOk (segmentsOf (now image)) ≡ true ⌝ }
+    requires { ⌜ bss ≡ imageBss (now image) ⌝ }
+    ensures { λ r. ⌜ r ≡ planOf (now (image .entry)) ⌝ }
+{
+    let r = segments(image, h, bss);
+    let count = r.count;
+    let mut segments = r.segments;
+    if count > 15 {
+        return refused(spec::SEGMENTS, 0);
+    }
+    let behind = VirtRange {
+        start: mem::page_up(bss.start),
+        end: bss.end,
+    };
+    let pages = page_count(segments, count)
+        + pages_in(behind)
+        + spec::USTKSIZE / spec::PAGE_SIZE_4K;
+    segments[count] = UserSegment {
+        range: VirtRange {
+            start: spec::USTKTOP - spec::USTKSIZE,
+            end: spec::USTKTOP,
+        },
+        perm: spec::DATA,
+    };
+    Plan {
+        number: 0,
+        elf: 0,
+        entry: h.entry,
+        segments,
+        count,
+        bss,
+        pages,
+    }
+}
+
+// The plan of an image that was parsed: its layout, then the rest.
+fn plan_parsed(image: &[u8], h: Elf) -> Plan
+    requires { ⌜ said (Parsed.Elf h) ≡ parsed (now image) ⌝ }
+    ensures { λ r. ⌜ r ≡ planOf (now (image .entry)) ⌝ }
+{
+    let f = layout(image, h);
+    match f {
+        Fit::Refused => refused(spec::EBADEXEC, 0),
+        Fit::Fits(l) => {
+            let bss = l.bss;
+            fill(image, h, bss)
+        }
+    }
+}
+
+// All that a start or a replace needs of an image but its bytes: the first steps of r9's exec and load. Nothing is mapped.
+pub fn plan_of(image: &[u8]) -> Plan
+    ensures { λ r. ⌜ r ≡ planOf (now (image .entry)) ⌝ }
+{
+    let p = elf::parse(image);
+    match p {
+        Parsed::Refused(e) => refused(spec::EBADEXEC, elf::error_number(e)),
+        Parsed::Elf(h) => plan_parsed(image, h),
     }
 }
