@@ -9,7 +9,6 @@ import os
 import pathlib
 import re
 import shutil
-import struct
 import subprocess
 import sys
 import tempfile
@@ -26,9 +25,10 @@ def cases():
     at = 0
     found = []
     while at < len(packed):
-        size, length, name = struct.unpack_from('<IB59s', packed, at)
-        found.append((name[:length].decode(), packed[at + 64:at + 64 + size]))
-        at += 64 + size
+        image = at + 4 + packed[at]
+        end = image + int.from_bytes(packed[at + 1:at + 4], 'little')
+        found.append((packed[at + 4:image].decode(), packed[image:end]))
+        at = end
     starts = [i for i, line in enumerate(lines) if '=' not in line] + [len(lines)]
     assert [lines[i] for i in starts[:-1]] == [name for name, _ in found], 'stdout and cases name other images'
     return [(name, image, lines[starts[i] + 1:starts[i + 1]]) for i, (name, image) in enumerate(found)]
