@@ -39,7 +39,7 @@ def in_pieces(command, image, size, pause):
 def main(command):
     found = cases()
     example = found[0]
-    long = [(f'1-length-{n}', example[1] + bytes(n - 184), ['refused=1']) for n in (65536, 65536 + 184, 131072 + 184, 3000000)]
+    long = [(f'1-length-{n}', example[1] + bytes(n - 184), ['refused=1']) for n in (65536, 65720, 131256, 3000000)]
     bad = runs = 0
     for name, image, expected in found + long:
         wanted = ('\n'.join(expected) + '\n').encode()

@@ -28,21 +28,22 @@ TEXT, RODATA, DATA = 5, 4, 6
 
 
 def load(flags, offset, address, file, memory, type=1, align=4096):
+    """A program header."""
     return struct.pack('<IIQQQQQQ', type, flags, offset, address, address, file, memory, align)
 
 
 def build(headers, size=0, entry=65712, table=64, **other):
-    """An ELF header, the program headers at `table`, and zeros up to `size`."""
-    f = dict(magic=b'\x7fELF', wide=2, order=1, ident=1, type=2, machine=183, version=1, header=64, entsize=56,
-             count=len(headers))
+    """An ELF header that says where the table is, the program headers, and zeros up to `size`."""
+    f = dict(magic=b'\x7fELF', wide=2, order=1, ident=1, type=2, machine=183, version=1, entsize=56, count=len(headers))
     f.update(other)
     ehdr = struct.pack('<4sBBBB8xHHIQQQIHHHHHH', f['magic'], f['wide'], f['order'], f['ident'], 0, f['type'], f['machine'],
-                       f['version'], entry, table, 0, 0, f['header'], f['entsize'], f['count'], 0, 0, 0)
+                       f['version'], entry, table, 0, 0, 64, f['entsize'], f['count'], 0, 0, 0)
     body = ehdr + b''.join(headers)
     return body + bytes(max(0, size - len(body)))
 
 
 def change(image, at, width, value):
+    """The image with one field changed."""
     return image[:at] + value.to_bytes(width, 'little') + image[at + width:]
 
 
@@ -76,13 +77,9 @@ def two(second, size=240, **other):
     return build(ONE + [second], size=size, **other)
 
 
-# Three segments, the bss two pages.
+# Three segments; the bss takes the rest of the data's page and one more.
 THREE = [load(TEXT, 0, 65536, 256, 256), load(RODATA, 256, 69888, 64, 64), load(DATA, 320, 74048, 32, 5000)]
 THREE_LISTING = lines(65712, 'text 65536 69632', 'rodata 69632 73728', 'data 73728 77824', '74080 81920', 8)
-
-
-def three(size=352, **other):
-    return build(THREE, size=size, **other)
 
 
 def of_document_01():
@@ -144,19 +141,18 @@ def header():
 
 def table():
     """Check 20, and where the table may lie."""
-    body = build([], size=65, count=3, table=65, entry=65712)[:65] + b''.join(THREE)
+    body = build([], size=65, count=3, table=65) + b''.join(THREE)
     case('20-table-at-65', body + bytes(352 - len(body)), THREE_LISTING)
     for name, size, expected in (('below', 185, 27), ('at', 184, 27), ('past', 183, 20)):
         # The table's 112 bytes start at 72. Its headers are all zero, so skipped.
         case(f'20-table-ends-{name}-length', build([], count=2, table=72, size=size), expected)
-    case('20-table-ends-at-length-listed', build([load(0, 0, 0, 0, 0, type=0)] + ONE, entry=65536 + 172, size=176),
-         22)
     ends = build([load(0, 0, 0, 0, 0, type=0), load(TEXT, 0, 65536, 176, 176)], entry=65536 + 172)
     case('20-table-is-the-tail', ends, lines(65708, 'text 65536 69632', '69632 69632', 5))
     case('20-table-one-byte-short', ends[:-1], 20)
     case('20-one-header-too-many', change(ends, 56, 2, 3), 20)
     case('20-count-65535', change(ends, 56, 2, 65535), 20)
-    for count, at in (0, 2**64 - 1), (1, 2**64 - 1), (1, 2**64 - 56), (2, 2**64 - 112), (2, 2**64 - 48), (1, 2**63), (1, 2**32):
+    for count, at in ((0, 2**64 - 1), (1, 2**64 - 1), (1, 2**64 - 56), (2, 2**64 - 112), (2, 2**64 - 48), (1, 2**63),
+                      (1, 2**32)):
         case(f'20-offset-{at}-count-{count}', build([], count=count, table=at, size=300), 20)
     case('20-table-at-0', build([], count=1, table=0), 27)
     case('20-table-at-0-past', build([], count=2, table=0, size=111), 20)
@@ -169,34 +165,20 @@ def table():
 
 def order():
     """An image that breaks several checks is refused by the lowest number; headers are judged in table order."""
-    broken = dict(magic=b'\x7fELG', wide=1, order=2, ident=0, type=3, machine=62, entsize=32, entry=65537, table=2**63, version=0)
-    right = dict(magic=b'\x7fELF', wide=2, order=1, ident=1, type=2, machine=183, entsize=56, entry=65712, table=64, version=1)
-    names = ['magic', 'wide', 'order', 'ident', 'type', 'machine', 'entsize', 'entry', 'table']
-    numbers = [12, 13, 14, 15, 16, 17, 18, 19, 20]
-    for i, (name, number) in enumerate(zip(names, numbers)):
-        # Right up to this field, wrong from it on.
-        fields = {**broken, **{k: right[k] for k in names[:i]}}
-        if number > 15:
-            fields['version'] = 1
-        case(f'order-{number}-and-all-later', build(THREE, size=352, **fields), number)
-        # Wrong in this field alone.
-        case(f'order-{number}-alone', build(THREE, size=352, **{name: broken[name]}), number)
-    case('order-15-word-before-16', three(version=2, type=3), 15)
+    fields = [(12, 'magic', b'\x7fELG'), (13, 'wide', 1), (14, 'order', 2), (15, 'ident', 0), (16, 'type', 3),
+              (17, 'machine', 62), (18, 'entsize', 32), (19, 'entry', 65537), (20, 'table', 2**63)]
+    for i, (number, name, value) in enumerate(fields):
+        case(f'order-{number}-alone', build(THREE, size=352, **{name: value}), number)
+        later = {name: value for _, name, value in fields[i:]}
+        case(f'order-{number}-and-all-later', build(THREE, size=352, **later), number)
+    case('order-15-word-before-16', build(THREE, size=352, version=2, type=3), 15)
     case('order-11-and-all-later', bytes(range(63)), 11)
-    # All of 21 to 26 in the second header, then one after another put right.
-    wrong = dict(file=300, memory=299, offset=100, address=2**64 - 4097, flags=7)
-    case('order-21-and-all-later', two(load(**wrong)), 21)
-    wrong.update(memory=2**63)
-    case('order-22-and-all-later', two(load(**wrong)), 22)
-    wrong.update(file=140)
-    case('order-23-and-all-later', two(load(**wrong)), 23)
-    wrong.update(address=2**64 - 4096 + 100)
-    case('order-24-and-all-later', two(load(**wrong)), 24)
-    wrong.update(address=65636)
-    wrong.update(memory=140)
-    case('order-25-and-all-later', two(load(**wrong), entry=0), 25)
-    wrong.update(flags=RODATA)
-    case('order-26-and-27', two(load(**wrong), entry=0), 26)
+    # The second header breaks all of 21 to 26; then its fields are put right one after another.
+    wrong = dict(flags=7, offset=100, address=65637, file=2**64 - 1, memory=2**64 - 2)
+    for number, right in ((21, {}), (22, dict(file=2**64 - 2)), (23, dict(file=140)), (24, dict(address=65636)),
+                          (25, dict(memory=140)), (26, dict(flags=RODATA))):
+        wrong.update(right)
+        case(f'order-{number}-and-all-later', two(load(**wrong), entry=0), number)
     wrong.update(address=61440 + 100)
     case('order-26-and-30', two(load(**wrong)), 26)
     # Header by header: the first to break a check decides, whatever its number.
@@ -322,16 +304,17 @@ def unordered():
     case('26-same-page', two(load(DATA, 180, 65716, 4, 16)), 26)
     case('26-same-range', two(load(TEXT, 0, 65536, 180, 180)), 26)
     case('26-descending', build([load(RODATA, 0, 69632, 180, 180)] + ONE, size=240), 26)
-    case('26-file-size-is-not-the-end', build([load(TEXT, 0, 65536, 180, 8192), load(RODATA, 0, 69632, 16, 16)], size=240), 26)
-    case('26-third-below-second', build(ONE + [load(RODATA, 0, 73728, 16, 16), load(RODATA, 0, 69632, 16, 16)], size=240), 26)
-    case('26-third-at-second', build(ONE + [load(RODATA, 0, 73728, 16, 16), load(RODATA, 0, 73728, 16, 16)], size=240), 26)
-    case('26-third-after-second', build(ONE + [load(RODATA, 0, 73728, 16, 16), load(RODATA, 0, 77824, 16, 16)], size=240),
+    page = {address: load(RODATA, 0, address, 16, 16) for address in (65536, 69632, 73728, 77824)}
+    case('26-file-size-is-not-the-end', build([load(TEXT, 0, 65536, 180, 8192), page[69632]], size=240), 26)
+    case('26-third-below-second', build(ONE + [page[73728], page[69632]], size=240), 26)
+    case('26-third-at-second', build(ONE + [page[73728], page[73728]], size=240), 26)
+    case('26-third-after-second', build(ONE + [page[73728], page[77824]], size=240),
          lines(65712, 'text 65536 69632', 'rodata 73728 77824', 'rodata 77824 81920', '81920 81920', 7))
-    case('26-skipped-between', build(ONE + [load(RODATA, 0, 2**40, 0, 0), load(RODATA, 0, 2**40, 16, 16, type=7),
-                                            load(RODATA, 0, 69632, 16, 16)], size=300), page2)
+    high = [load(RODATA, 0, 2**40, 0, 0), load(RODATA, 0, 2**40, 16, 16, type=7)]
+    case('26-skipped-between', build(ONE + high + [page[69632]], size=300), page2)
     case('26-empty-below', two(load(RODATA, 0, 0, 0, 0)), ONE_LISTING)
     # The end before lies just below 2^64, where nothing can follow.
-    case('26-after-2^64-4096', build([load(TEXT, 0, 2**64 - 8192, 180, 4096), load(RODATA, 0, 65536, 16, 16)], size=240), 26)
+    case('26-after-2^64-4096', build([load(TEXT, 0, 2**64 - 8192, 180, 4096), page[65536]], size=240), 26)
 
 
 def entry():
@@ -352,13 +335,17 @@ def entry():
     case('27-entry-past-memory', at(66036), 27)
     case('27-entry-2^64-4', at(2**64 - 4), 27)
     case('27-entry-2^32-more', at(65536 + 2**32), 27)
-    for file, expected in (176, 27), (177, listed(65712)), (178, listed(65712)), (179, listed(65712)):
-        case(f'27-entry-65712-file-{file}', at(65712, file=file), expected)
-    for address, expected in (65709, listed(65712)), (65711, listed(65712)), (65712, listed(65712)), (65713, 27), (65715, 27):
-        case(f'27-entry-65712-text-at-{address}', at(65712, address=address, offset=address - 65536, file=16), expected)
+    for file in 175, 176, 177, 178, 179:
+        case(f'27-entry-65712-file-{file}', at(65712, file=file), 27 if file <= 176 else listed(65712))
+    for address in 65709, 65711, 65712, 65713, 65715:
+        case(f'27-entry-65712-text-at-{address}', at(65712, address=address, offset=address - 65536, file=16),
+             listed(65712) if address <= 65712 else 27)
     case('27-text-file-0', at(65536, file=0), 27)
     case('27-text-file-1', at(65536, file=1), listed(65536))
-    case('27-entry-in-rodata', build([load(RODATA, 0, 65536, 180, 180), load(TEXT, 0, 69632, 180, 180)], size=240), 27)
+    after_rodata = [load(RODATA, 0, 65536, 180, 180), load(TEXT, 0, 69632, 180, 180)]
+    case('27-entry-in-rodata', build(after_rodata, size=240), 27)
+    case('27-entry-in-text-after-rodata', build(after_rodata, size=240, entry=69632),
+         lines(69632, 'rodata 65536 69632', 'text 69632 73728', '73728 73728', 6))
     case('27-entry-in-data', build(THREE, size=352, entry=74048), 27)
     case('27-entry-in-rodata-of-three', build(THREE, size=352, entry=69888), 27)
     case('27-no-text', build([load(RODATA, 0, 65536, 180, 180)], size=184), 27)
@@ -371,8 +358,6 @@ def entry():
         case(f'27-two-texts-entry-{value}', build(twice, size=240, entry=value), second(value))
     for value in 65532, 65716, 69628, 69808:
         case(f'27-two-texts-entry-{value}', build(twice, size=240, entry=value), 27)
-    case('27-text-after-rodata', build([load(RODATA, 0, 65536, 180, 180), load(TEXT, 0, 69632, 180, 180)], size=240, entry=69632),
-         lines(69632, 'rodata 65536 69632', 'text 69632 73728', '73728 73728', 6))
     # Headers that are skipped have no file bytes for an entry to lie in.
     case('27-entry-in-empty-header', build(ONE + [load(TEXT, 0, 69632, 180, 0)], size=240, entry=69632), 27)
     case('27-entry-in-other-type', build(ONE + [load(TEXT, 0, 69632, 180, 180, type=2)], size=240, entry=69632), 27)
@@ -387,10 +372,10 @@ def skipped():
     others = [0, 2, 3, 4, 6, 7, 257, 65537, 2**24 + 1, 2**31 + 1, 0x6474e551, 2**32 - 1]
     for kind in others:
         case(f'skip-type-{kind}', build([wrong(type=kind)] + THREE, size=352), THREE_LISTING)
-    empty = wrong(memory=0)
+    empty, other = wrong(memory=0), wrong(type=0x6474e552)
     for place in range(4):
         case(f'skip-empty-at-{place}', build(THREE[:place] + [empty] + THREE[place:], size=352), THREE_LISTING)
-        case(f'skip-type-at-{place}', build(THREE[:place] + [wrong(type=0x6474e552)] + THREE[place:], size=352), THREE_LISTING)
+        case(f'skip-type-at-{place}', build(THREE[:place] + [other] + THREE[place:], size=352), THREE_LISTING)
     mixed = [empty, THREE[0], wrong(type=4), empty, THREE[1], wrong(type=0), THREE[2], empty]
     case('skip-both-everywhere', build(mixed), THREE_LISTING)
     case('skip-empty-after-data', build(THREE + [load(TEXT, 0, 2**40, 0, 0)], size=352), THREE_LISTING)
@@ -418,11 +403,12 @@ def lowest_and_limit():
          lines(65536, 'text 65536 69632', '69632 69632', 5))
     case('30-text-at-61440', build([load(TEXT, 0, 61440, 180, 180)], size=240, entry=61440), 30)
     top = LIMIT - 4096
-    for name, memory, expected in (('below', 4095, 0), ('at', 4096, 0), ('above', 4097, 30)):
-        text = lines(140737488330928, 'text 140737488330752 140737488334848', '140737488334848 140737488334848', 5)
-        case(f'30-text-ends-{name}-limit', build([load(TEXT, 0, top, 180, memory)], size=240, entry=top + 176), expected or text)
-        data = lines(65712, 'text 65536 69632', 'data 140737488330752 140737488334848', '140737488330768 140737488334848', 6)
-        case(f'30-data-ends-{name}-limit', two(load(DATA, 0, top, 16, memory)), expected or data)
+    text = lines(140737488330928, 'text 140737488330752 140737488334848', '140737488334848 140737488334848', 5)
+    data = lines(65712, 'text 65536 69632', 'data 140737488330752 140737488334848', '140737488330768 140737488334848', 6)
+    for name, memory in ('below', 4095), ('at', 4096), ('above', 4097):
+        case(f'30-text-ends-{name}-limit', build([load(TEXT, 0, top, 180, memory)], size=240, entry=top + 176),
+             30 if name == 'above' else text)
+        case(f'30-data-ends-{name}-limit', two(load(DATA, 0, top, 16, memory)), 30 if name == 'above' else data)
     case('30-starts-at-limit', two(load(RODATA, 0, LIMIT, 16, 16)), 30)
     case('30-starts-in-the-stack', two(load(RODATA, 0, LIMIT + 4096, 16, 16)), 30)
     case('30-starts-at-2^47', two(load(RODATA, 0, 2**47, 16, 16)), 30)
@@ -438,7 +424,7 @@ def lowest_and_limit():
     for name, flags in ('text', TEXT), ('rodata', RODATA), ('data', DATA):
         third = load(flags, 0, 90112, 16, 16)
         case(f'30-{name}-follows-data', build([THREE[0], THREE[2], third], size=352), 30)
-        case(f'30-{name}-follows-data-without-file-bytes', build([THREE[0], load(DATA, 0, 73728, 0, 16), third], size=352), 30)
+        case(f'30-{name}-follows-bss-alone', build([THREE[0], load(DATA, 0, 73728, 0, 16), third], size=352), 30)
     around = [load(DATA, 0, 65536, 16, 16), load(TEXT, 0, 69632, 180, 180), load(DATA, 0, 73728, 16, 16)]
     case('30-data-first', build(around[:2], size=240, entry=69632), 30)
     case('30-data-first-and-last', build(around, size=240, entry=69632), 30)
@@ -449,21 +435,22 @@ def bss():
     def data(file, memory, address=69632 + 180, offset=180):
         return two(load(DATA, offset, address, file, memory), size=max(240, offset + file))
 
-    text, one = 'text 65536 69632', 'data 69632 73728'
-    for file, memory, expected in (
-            (0, 1, (one, '69812 73728', 6)), (1, 1, (one, '69813 73728', 6)), (1, 2, (one, '69813 73728', 6)),
-            (3915, 3915, (one, '73727 73728', 6)), (3915, 3916, (one, '73727 73728', 6)), (3915, 3917, (one, '73727 77824', 7)),
-            (3916, 3916, (one, '73728 73728', 6)), (3916, 3917, (one, '73728 77824', 7)), (3916, 8012, (one, '73728 77824', 7)),
-            (3916, 8013, (one, '73728 81920', 8)), (3917, 3917, ('data 69632 77824', '73729 77824', 7)),
-            (3917, 8012, ('data 69632 77824', '73729 77824', 7)), (3917, 8013, ('data 69632 77824', '73729 81920', 8)),
-            (8012, 8012, ('data 69632 77824', '77824 77824', 7)), (16, 2**20, (one, '69828 1122304', 262))):
+    text, one, both = 'text 65536 69632', 'data 69632 73728', 'data 69632 77824'
+    for file, memory, *expected in (
+            (0, 1, one, '69812 73728', 6), (1, 1, one, '69813 73728', 6), (1, 2, one, '69813 73728', 6),
+            (3915, 3915, one, '73727 73728', 6), (3915, 3916, one, '73727 73728', 6), (3915, 3917, one, '73727 77824', 7),
+            (3916, 3916, one, '73728 73728', 6), (3916, 3917, one, '73728 77824', 7), (3916, 8012, one, '73728 77824', 7),
+            (3916, 8013, one, '73728 81920', 8), (3917, 3917, both, '73729 77824', 7), (3917, 8012, both, '73729 77824', 7),
+            (3917, 8013, both, '73729 81920', 8), (8012, 8012, both, '77824 77824', 7),
+            (16, 2**20, one, '69828 1122304', 262)):
         case(f'bss-file-{file}-memory-{memory}', data(file, memory), lines(65712, text, *expected))
     # No file bytes: the data's page is recorded unless its address starts a page.
-    for address, memory, expected in (
-            (69632, 1, ('69632 73728', 6)), (69632, 4096, ('69632 73728', 6)), (69632, 4097, ('69632 77824', 7)),
-            (69633, 4095, (one, '69633 73728', 6)), (69633, 4096, (one, '69633 77824', 7)), (73727, 1, (one, '73727 73728', 6)),
-            (73727, 2, (one, '73727 77824', 7)), (73728, 1, ('73728 77824', 6)), (73728, 100000, ('73728 176128', 30))):
-        case(f'bss-alone-at-{address}-memory-{memory}', data(0, memory, address, address % 4096), lines(65712, text, *expected))
+    for address, memory, *expected in (
+            (69632, 1, '69632 73728', 6), (69632, 4096, '69632 73728', 6), (69632, 4097, '69632 77824', 7),
+            (69633, 4095, one, '69633 73728', 6), (69633, 4096, one, '69633 77824', 7), (73727, 1, one, '73727 73728', 6),
+            (73727, 2, one, '73727 77824', 7), (73728, 1, '73728 77824', 6), (73728, 100000, '73728 176128', 30)):
+        case(f'bss-alone-at-{address}-memory-{memory}', data(0, memory, address, address % 4096),
+             lines(65712, text, *expected))
     case('bss-file-1-at-page', data(1, 1, 69632, 0), lines(65712, text, one, '69633 73728', 6))
     # No data: the bss is empty at the page end of the last segment.
     case('bss-none-text-ends-at-page', build([load(TEXT, 0, 65536, 180, 4096)], size=240), ONE_LISTING)
