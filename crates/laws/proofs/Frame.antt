@@ -86,6 +86,14 @@ frame-unmapped book n page e = go (frameOf book n page) refl e
     go none f e = f
     go (some k) f e = absurd (let z : _≡_ {A = ℕ} 0 1 = cc in omega arith)
 
+-- a permission is four bits of a word
+pub perm-fits : (book : List ℕ) (n page q : ℕ) → bookPerm book n page ≡ some q → q < 16
+perm-fits book n page q e =
+    let r = frame-perm book n page q e in
+    let s : some (permOf (getD book (r .0) 0)) ≡ some q = ap (permIn book) (sym (r .1)) ∙ e in
+    let z : permOf (getD book (r .0) 0) ≡ q = cc in
+    omega arith
+
 -- ---- no owner has a page twice
 
 abbrev pub Once : List ℕ → Type 0

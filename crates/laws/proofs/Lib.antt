@@ -10,3 +10,5 @@ pub mod Placed
 pub mod Contents
 pub mod Cursor
 pub mod Count
+pub mod Records
+pub mod Uses

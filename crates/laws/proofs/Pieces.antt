@@ -89,8 +89,35 @@ pieces-ascending low (g ∷ gs) s h = (
   pieces-ascending (g .range .end) gs (s .2) (h .1),
 )
 
+-- the last two in the other order
+pub perm-swap : (gs : List UserSegment) (g h : UserSegment) (a : ℕ) → Pieces (gs ++ g ∷ h ∷ []) → permAt ((gs ++ h ∷ []) ++ g ∷ []) a ≡ permAt (gs ++ g ∷ h ∷ []) a
+perm-swap [] g h a p = go (inSegment a g) refl (inSegment a h) refl
+  where
+    go : (b : Bool) → inSegment a g ≡ b → (c : Bool) → inSegment a h ≡ c
+        → (c ⇒ some (h .perm) else b ⇒ some (g .perm) else none) ≡ (b ⇒ some (g .perm) else c ⇒ some (h .perm) else none)
+    go true x true y = let z : some (h .perm) ≡ none = rw y at (p .0 .apart a x) in absurd (let w : _≡_ {A = ℕ} 0 1 = cc in omega arith)
+    go true x false y = refl
+    go false x c y = refl
+perm-swap (k ∷ gs) g h a p = ap (λ (o : Option ℕ). inSegment a k ⇒ some (k .perm) else o) (perm-swap gs g h a (p .1))
+
+pub pieces-swap : (gs : List UserSegment) (g h : UserSegment) → Pieces (gs ++ g ∷ h ∷ []) → Pieces ((gs ++ h ∷ []) ++ g ∷ [])
+pieces-swap [] g h p =
+    (record { start = p .1 .0 .start; end = p .1 .0 .end; apart = λ a s. off a s }, (record { start = p .0 .start; end = p .0 .end; apart = λ a s. refl }, tt))
+  where
+    off : (a : ℕ) → inSegment a h ≡ true → permAt (g ∷ []) a ≡ none
+    off a s =
+        split (inSegment a g)
+        (λ q. let z : some (h .perm) ≡ none = rw s at (p .0 .apart a q) in absurd (let w : _≡_ {A = ℕ} 0 1 = cc in omega arith))
+        (λ q. rw q)
+pieces-swap (k ∷ gs) g h p =
+    (record { start = p .0 .start; end = p .0 .end; apart = λ a s. perm-swap gs g h a (p .1) ∙ p .0 .apart a s }, pieces-swap gs g h (p .1))
+
 -- ---- how many pages they have
 
 pub count-append : (gs hs : List UserSegment) → pageCount (gs ++ hs) ≡ pageCount gs + pageCount hs
 count-append [] hs = omega arith
 count-append (g ∷ gs) hs = ap (λ (k : ℕ). (g .range .end - g .range .start) / 4096 + k) (count-append gs hs) ∙ sym (add-assoc ((g .range .end - g .range .start) / 4096) (pageCount gs) (pageCount hs))
+
+pub count-swap : (gs : List UserSegment) (g h : UserSegment) → pageCount ((gs ++ h ∷ []) ++ g ∷ []) ≡ pageCount (gs ++ g ∷ h ∷ [])
+count-swap [] g h = omega arith
+count-swap (k ∷ gs) g h = ap (λ (n : ℕ). (k .range .end - k .range .start) / 4096 + n) (count-swap gs g h)
