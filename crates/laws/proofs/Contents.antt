@@ -1,11 +1,10 @@
 -- The bytes of pages: by a rule, of zeros, and as they stand in a frame.
-use Prim.Native.Nat.{ℕ, zero, suc, _+_, _*_, _-_, _/_, _%_, _≤_, _<_}
+use Prim.Native.Nat.{ℕ, zero, suc, _+_, _*_, _-_, _%_, _<_}
 use native.Mathlib.Omega.{arith}
 use native.Mathlib.Nat.{add-zero, not-suc-le-zero}
 use mathlib.Core.Path.{_≡_, refl, sym, ap, _∙_}
 use mathlib.Core.Option.{Option, none, some}
-use mathlib.Core.List.{List, [], _∷_}
-use lib.ListN.{length, getD, take, drop, replicate, length-drop, length-replicate, getD-replicate}
+use lib.ListN.{length, getD, drop, replicate, length-drop, length-replicate}
 use lib.Seq.{length-take-le, getD-take, getD-drop, ext-getD}
 use Rattle.spec.specs.Numbers.{pageDown, bytesFrom, pageBytes, zeroPage}
 use Rattle.spec.specs.Book.{frameOf, bookPerm}

@@ -1,17 +1,16 @@
 -- The frame of an owner's page: what a search for it says, and what a process sees in it.
-use Prim.Native.Nat.{ℕ, zero, suc, _+_, _*_, _/_, _%_, _≤_, _<_}
+use Prim.Native.Nat.{ℕ, _*_, _%_, _≤_, _<_}
 use native.Mathlib.Omega.{arith}
 use mathlib.Core.Path.{_≡_, refl, sym, ap, _∙_}
-use mathlib.Core.Bool.{Bool, true, false, not, _&&_}
+use mathlib.Core.Bool.{true, false, _&&_}
 use mathlib.Core.Option.{Option, none, some}
-use mathlib.Core.List.{List, [], _∷_}
-use lib.Dec.{eqb}
+use mathlib.Core.List.{List}
 use lib.ListN.{length, getD, List·getD-eq-default}
 use borrow.Author.Tests.{eqb-true, eqb-false, eq-eqb, ne-eqb}
 use Rattle.spec.specs.Tests.{_is_, _isnt_, within}
 use Rattle.spec.specs.Numbers.{pageDown}
-use Rattle.spec.specs.Book.{pageOf, ownerOf, permOf, highest, owns, frameOf, permIn, bookPerm}
-use Rattle.spec.specs.Frames.{Store, sized, Cell, cellIn, memOf}
+use Rattle.spec.specs.Book.{pageOf, ownerOf, permOf, owns, frameOf, permIn, bookPerm}
+use Rattle.spec.specs.Frames.{Store, sized, Cell, memOf}
 use Rattle.spec.specs.History as history
 use Rattle.spec.proofs.Bools.{split, both, clash, not-true, within-means}
 use Rattle.spec.proofs.Search.{hit, miss}

@@ -1,5 +1,6 @@
 -- The laws of frames and book. Above them nothing reasons about frame numbers or words.
 pub mod Lists
+pub mod Mix
 pub mod Frame
 pub mod Pokes
 pub mod Release

@@ -1,24 +1,24 @@
 -- Pages placed: what every process sees, which words stand in the book, how many frames are free.
-use Prim.Native.Nat.{ℕ, zero, suc, _+_, _*_, _/_, _%_, _≤_, _<_}
+use Prim.Native.Nat.{ℕ, zero, suc, _+_, _*_, _%_, _≤_, _<_}
 use native.Mathlib.Omega.{arith}
 use native.Mathlib.Nat.{not-suc-le-zero, le-of-suc-le-suc}
-use mathlib.Core.Path.{_≡_, refl, sym, ap, _∙_, fun-ext}
-use mathlib.Core.Bool.{Bool, true, false, not, _&&_}
+use mathlib.Core.Path.{_≡_, refl, sym, ap, _∙_}
+use mathlib.Core.Bool.{Bool, true, false}
 use mathlib.Core.Option.{Option, none, some}
 use mathlib.Core.List.{List, [], _∷_, _++_}
 use lib.Dec.{eqb}
 use lib.ListN.{length, getD, set, length-set}
-use lib.Seq.{getD-set-same, getD-set-other, set-out}
+use lib.Seq.{getD-set-same, getD-set-other}
 use borrow.Author.Tests.{eqb-true, eqb-false, eq-eqb, ne-eqb}
-use Rattle.spec.specs.Tests.{_is_, _isnt_, _⇒_else_}
+use Rattle.spec.specs.Tests.{_is_, _⇒_else_}
 use Rattle.spec.specs.Numbers.{pageDown}
-use Rattle.spec.specs.Book.{wordOf, pageOf, ownerOf, permOf, highest, freeFrame, owns, frameOf, free}
+use Rattle.spec.specs.Book.{wordOf, pageOf, permOf, highest, freeFrame, owns, frameOf, free}
 use Rattle.spec.specs.Frames.{Store, sized, Cell, cellIn, memOf, put, Page, hold, place}
 use Rattle.spec.proofs.Bools.{split}
 use Rattle.spec.proofs.Search.{hit, miss, highest-ext}
 use Rattle.spec.proofs.Words.{unpack, used-word}
 use Rattle.laws.proofs.Lists.{Each, length-put, put-in, put-outside}
-use Rattle.laws.proofs.Frame.{Fits, sized-same, Owns, owns-means, owns-not, frame-found, frame-none, frame-some, Once, cell-eq}
+use Rattle.laws.proofs.Frame.{Fits, sized-same, Owns, owns-not, frame-found, frame-none, frame-some, Once, cell-eq}
 
 -- ---- a book with one word more
 

@@ -1,21 +1,18 @@
 -- The pages of pieces placed for a process: one record of what a caller shows, and what follows.
-use Prim.Native.Nat.{ℕ, zero, suc, _+_, _*_, _-_, _/_, _%_, _≤_, _<_}
+use Prim.Native.Nat.{ℕ, _+_, _%_, _≤_, _<_}
 use native.Mathlib.Omega.{arith}
-use mathlib.Core.Path.{_≡_, refl, sym, ap, ap₂, _∙_}
-use mathlib.Core.Bool.{Bool, true, false}
+use mathlib.Core.Path.{_≡_, refl, sym, ap, _∙_}
 use mathlib.Core.Option.{Option, none, some}
-use mathlib.Core.List.{List, [], _∷_}
+use mathlib.Core.List.{List}
 use lib.ListN.{length, getD}
-use borrow.Author.Tests.{ne-eqb, eq-eqb}
-use Rattle.spec.specs.Tests.{_is_, _⇒_else_}
 use Rattle.spec.specs.Numbers.{pageDown}
 use Rattle.spec.specs.Book.{wordOf, bookPerm, free, permAt, pageCount}
-use Rattle.spec.specs.Frames.{Store, sized, Mem, memOf, Page, pagesOf, place}
+use Rattle.spec.specs.Frames.{Store, sized, Mem, memOf, pagesOf, place}
 use Rattle.spec.specs.History as history
 use Rattle.spec.specs.declared.UserSegment.{UserSegment}
 use Rattle.laws.proofs.Lists.{Each}
 use Rattle.laws.proofs.Frame.{Fits, Once, frame-unmapped, page-perm}
-use Rattle.laws.proofs.Place.{Ready, Distinct, Fresh, WholePages, fits-place, sized-place, free-place, each-place, mem-place-other, mem-place, once-place}
+use Rattle.laws.proofs.Place.{Ready, Fresh, WholePages, fits-place, sized-place, free-place, each-place, mem-place-other, mem-place, once-place}
 use Rattle.laws.proofs.Pieces.{Pieces, orPerm}
 use Rattle.laws.proofs.Pages.{length-pages, each-pages, distinct-pages, cellOr, over-pages}
 

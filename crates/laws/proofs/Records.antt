@@ -1,16 +1,15 @@
 -- The pieces of a living process's record are whole pages, apart from one another; so a sound book has a frame for each of their pages.
-use Prim.Native.Nat.{ℕ, zero, suc, _+_, _*_, _-_, _/_, _%_, _≤_, _<_}
+use Prim.Native.Nat.{ℕ, zero, suc, _+_, _-_, _%_, _≤_, _<_}
 use native.Mathlib.Omega.{arith}
-use mathlib.Core.Path.{_≡_, refl, sym, ap, ap₂, _∙_}
-use mathlib.Core.Bool.{Bool, true, false, not, _&&_}
-use mathlib.Core.Option.{Option, none, some}
-use mathlib.Core.List.{List, [], _∷_, _++_, append-assoc}
-use lib.Dec.{eqb}
+use mathlib.Core.Path.{_≡_, refl, ap, _∙_}
+use mathlib.Core.Bool.{Bool, true, false, _&&_}
+use mathlib.Core.Option.{none, some}
+use mathlib.Core.List.{List, [], _∷_, _++_}
 use lib.ListN.{length, getD, replicate}
-use borrow.Author.Tests.{eqb-true, ne-eqb, eq-eqb}
-use Rattle.spec.specs.Tests.{_is_, _isnt_, _below_, within, _⇒_else_, all}
-use Rattle.spec.specs.Numbers.{utzero, limit, ustktop, ustksize, pageUp, pageDown}
-use Rattle.spec.specs.Book.{ownerOf, permOf, valid, frameOf, permIn, bookPerm, free, range, segment, sameSegment, zeroSegment, unused, lives, used, stack, bssSegment, pieces, inSegment, permAt, pageCount, procAt, piecesOf}
+use borrow.Author.Tests.{eqb-true, ne-eqb}
+use Rattle.spec.specs.Tests.{_is_, _isnt_, all}
+use Rattle.spec.specs.Numbers.{pageUp, pageDown}
+use Rattle.spec.specs.Book.{ownerOf, valid, free, range, segment, zeroSegment, unused, lives, used, stack, bssSegment, pieces, permAt, pageCount, procAt, piecesOf}
 use Rattle.spec.specs.Frames.{Store, release}
 use Rattle.spec.specs.Sound.{ImageSegment, Shape, Sound}
 use Rattle.spec.specs.declared.VirtRange.{VirtRange}

@@ -1,14 +1,13 @@
 -- The three ways in which a process comes to pages: an image is loaded, a break moves, a fork copies.
-use Prim.Native.Nat.{ℕ, zero, suc, _+_, _*_, _-_, _/_, _%_, _≤_, _<_}
+use Prim.Native.Nat.{ℕ, _-_, _/_, _%_, _≤_, _<_}
 use native.Mathlib.Omega.{arith}
 use mathlib.Core.Path.{_≡_, refl, sym, ap, ap₂, _∙_, fun-ext}
-use mathlib.Core.Bool.{Bool, true, false, not, _&&_}
+use mathlib.Core.Bool.{Bool, true, false, _&&_}
 use mathlib.Core.Option.{Option, none, some}
 use mathlib.Core.List.{List, [], _∷_}
-use lib.ListN.{length, getD}
-use Rattle.spec.specs.Tests.{_is_, _below_, within, _⇒_else_}
+use Rattle.spec.specs.Tests.{_is_, within, _⇒_else_}
 use Rattle.spec.specs.Numbers.{pageDown, pageBytes, zeroPage}
-use Rattle.spec.specs.Book.{pageOf, ownerOf, permOf, frameOf, bookPerm, free, segment, permAt, pageCount}
+use Rattle.spec.specs.Book.{pageOf, ownerOf, frameOf, bookPerm, free, segment, permAt, pageCount}
 use Rattle.spec.specs.Frames.{Store, Cell, Mem, cellIn, memOf, pagesOf, place, frameBytes, release}
 use Rattle.spec.specs.Access.{byteOf}
 use Rattle.spec.specs.Exec.{cellOf}
@@ -16,7 +15,7 @@ use Rattle.spec.specs.Segment.{moved}
 use Rattle.spec.specs.History as history
 use Rattle.spec.specs.declared.UserSegment.{UserSegment}
 use Rattle.spec.proofs.Bools.{split}
-use Rattle.laws.proofs.Frame.{Fits, frame-perm, frame-unmapped, perm-fits, mem-perm, page-perm}
+use Rattle.laws.proofs.Frame.{Fits, frame-unmapped, perm-fits, mem-perm, page-perm}
 use Rattle.laws.proofs.Release.{fits-release, perm-release, mem-release-range, mem-range-other}
 use Rattle.laws.proofs.Pieces.{Pieces, within-page, perm-page, perm-small}
 use Rattle.laws.proofs.Pages.{cellOr}
