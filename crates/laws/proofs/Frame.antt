@@ -10,7 +10,7 @@ use borrow.Author.Tests.{eqb-true, eqb-false, eq-eqb, ne-eqb}
 use Rattle.spec.specs.Tests.{_is_, _isnt_, within}
 use Rattle.spec.specs.Numbers.{pageDown}
 use Rattle.spec.specs.Book.{pageOf, ownerOf, permOf, owns, frameOf, permIn, bookPerm}
-use Rattle.spec.specs.Frames.{Store, sized, Cell, memOf}
+use Rattle.spec.specs.Frames.{Store, sized, Cell, Mem, memOf}
 use Rattle.spec.specs.History as history
 use Rattle.spec.proofs.Bools.{split, both, clash, not-true, within-means}
 use Rattle.spec.proofs.Search.{hit, miss}
@@ -129,6 +129,10 @@ mem-perm m n a = go (frameOf (m .book) n (pageDown a)) refl
 
 pub page-perm : (m : Store) (n page : ℕ) → page % 4096 ≡ 0 → bookPerm (m .book) n page ≡ history.permIn (memOf m n page)
 page-perm m n page h = let e : pageDown page ≡ page = omega arith in ap (bookPerm (m .book) n) (sym e) ∙ sym (mem-perm m n page)
+
+-- what a process sees decides what the book says of its pages
+pub perm-same : (m t : Store) (n : ℕ) → memOf m n ≡ memOf t n → (page : ℕ) → page % 4096 ≡ 0 → bookPerm (m .book) n page ≡ bookPerm (t .book) n page
+perm-same m t n e page h = page-perm m n page h ∙ ap (λ (mem : Mem). history.permIn (mem page)) e ∙ sym (page-perm t n page h)
 
 -- ---- ranges
 

@@ -9,6 +9,7 @@ pub mod Pieces
 pub mod Pages
 pub mod Placed
 pub mod Contents
+pub mod Allowed
 pub mod Cursor
 pub mod Count
 pub mod Records

@@ -19,7 +19,7 @@ use Rattle.laws.proofs.Frame.{Fits, frame-unmapped, perm-fits, mem-perm
 use Rattle.laws.proofs.Release.{fits-release, perm-release, mem-release-range, mem-range-other}
 use Rattle.laws.proofs.Pieces.{Pieces, within-page, perm-page, perm-small}
 use Rattle.laws.proofs.Pages.{cellOr}
-use Rattle.laws.proofs.Placed.{Whole, Room, mem-placed, mem-placed-other}
+use Rattle.laws.proofs.Placed.{Placeable, Room, mem-placed, mem-placed-other}
 use Rattle.laws.proofs.Contents.{length-page, page-byte, length-zero, zero-byte, frame-byte, length-frame}
 use Rattle.laws.proofs.Count.{free-release}
 
@@ -36,10 +36,10 @@ empty-room m n gs lo e room = record { owner = lo; fresh = λ a q z s. empty-per
 
 -- ---- pages by a rule: what a load places
 
-pub whole-rule : (n : ℕ) (f : ℕ → ℕ) (gs : List UserSegment) → n < 256 → Pieces gs → ((a q : ℕ) → permAt gs a ≡ some q → q < 16) → Whole n (pageBytes f) gs
-whole-rule n f gs hi p small = record { owner = hi; pieces = p; small = small; bytes = λ a q z s. length-page f a }
+pub placeable-rule : (n : ℕ) (f : ℕ → ℕ) (gs : List UserSegment) → n < 256 → Pieces gs → ((a q : ℕ) → permAt gs a ≡ some q → q < 16) → Placeable n (pageBytes f) gs
+placeable-rule n f gs hi p small = record { owner = hi; pieces = p; small = small; bytes = λ a q z s. length-page f a }
 
-pub mem-load : (m : Store) (n : ℕ) (f : ℕ → ℕ) (gs : List UserSegment) → Fits m → Whole n (pageBytes f) gs → 1 ≤ n → memOf m n ≡ (λ a. none) → pageCount gs ≤ free (m .book)
+pub mem-load : (m : Store) (n : ℕ) (f : ℕ → ℕ) (gs : List UserSegment) → Fits m → Placeable n (pageBytes f) gs → 1 ≤ n → memOf m n ≡ (λ a. none) → pageCount gs ≤ free (m .book)
     → memOf (place m n (pagesOf (pageBytes f) gs)) n ≡ (λ a. cellOf (f a) (permAt gs a))
 mem-load m n f gs fits whole lo e room = fun-ext (λ a.
     mem-placed m n (pageBytes f) gs fits whole (empty-room m n gs lo e room) a
@@ -51,8 +51,8 @@ mem-load m n f gs fits whole lo e room = fun-ext (λ a.
 
 -- ---- pages of zeros: what a break places, behind what it releases
 
-pub whole-zero : (n : ℕ) (gs : List UserSegment) → n < 256 → Pieces gs → ((a q : ℕ) → permAt gs a ≡ some q → q < 16) → Whole n zeroPage gs
-whole-zero n gs hi p small = record { owner = hi; pieces = p; small = small; bytes = λ a q z s. length-zero a }
+pub placeable-zero : (n : ℕ) (gs : List UserSegment) → n < 256 → Pieces gs → ((a q : ℕ) → permAt gs a ≡ some q → q < 16) → Placeable n zeroPage gs
+placeable-zero n gs hi p small = record { owner = hi; pieces = p; small = small; bytes = λ a q z s. length-zero a }
 
 -- what a moved break leaves: pages past the new end released, pages from the old end on placed
 abbrev pub moveBreak : Store → ℕ → ℕ → ℕ → Store
@@ -71,11 +71,11 @@ module _ (m : Store) (n old new : ℕ) (fits : Fits m) (hi : n < 256) (zo : old 
   pub fits-shrunk : Fits (release m (λ w. ownerOf w is n && within new old (pageOf w)))
   fits-shrunk = fits-release m (λ w. ownerOf w is n && within new old (pageOf w)) fits
 
-  pub break-whole : Whole n zeroPage (segment old new 3 ∷ [])
-  break-whole = whole-zero n grown hi (record { start = zo; end = zn; apart = λ a s. refl }, tt) (perm-small grown ((omega arith), tt))
+  pub break-placeable : Placeable n zeroPage (segment old new 3 ∷ [])
+  break-placeable = placeable-zero n grown hi (record { start = zo; end = zn; apart = λ a s. refl }, tt) (perm-small grown ((omega arith), tt))
 
   pub mem-break-other : (p : ℕ) → (p ≡ n → ⊥) → memOf (moveBreak m n old new) p ≡ memOf m p
-  mem-break-other p ne = mem-placed-other shrunk n zeroPage grown fits-shrunk break-whole p ne ∙ mem-range-other m n new old p ne
+  mem-break-other p ne = mem-placed-other shrunk n zeroPage grown fits-shrunk break-placeable p ne ∙ mem-range-other m n new old p ne
 
   module _ (lo : 1 ≤ n) (fresh : (x : ℕ) → x % 4096 ≡ 0 → within old new x ≡ true → bookPerm (m .book) n x ≡ none) (room : (new - old) / 4096 ≤ free (m .book)) where
     pub break-room : Room (release m (λ w. ownerOf w is n && within new old (pageOf w))) n (segment old new 3 ∷ [])
@@ -92,7 +92,7 @@ module _ (m : Store) (n old new : ℕ) (fits : Fits m) (hi : n < 256) (zo : old 
     -- the process sees zeros from the old end up to the new, and nothing from the new end up to the old
     pub mem-break : memOf (moveBreak m n old new) n ≡ moved old new (memOf m n)
     mem-break = fun-ext (λ a.
-        mem-placed shrunk n zeroPage grown fits-shrunk break-whole break-room a
+        mem-placed shrunk n zeroPage grown fits-shrunk break-placeable break-room a
         ∙ ap₂ (cellOr (permAt grown a)) (zero-byte (pageDown a) (a % 4096)) (mem-release-range m n new old a ∙ ap (λ (b : Bool). b ⇒ none else memOf m n a) (within-page new old a zn zo))
         ∙ go (within old new a) (within new old a ⇒ none else memOf m n a))
       where
@@ -102,9 +102,9 @@ module _ (m : Store) (n old new : ℕ) (fits : Fits m) (hi : n < 256) (zo : old 
 
 -- ---- pages of another process: what a fork places
 
-pub whole-copy : (m : Store) (n child : ℕ) (gs : List UserSegment) → Fits m → child < 256 → Pieces gs → ((page : ℕ) → page % 4096 ≡ 0 → bookPerm (m .book) n page ≡ permAt gs page)
-    → Whole child (λ a. frameBytes (m .frames) (frameOf (m .book) n a)) gs
-whole-copy m n child gs fits hi p exact = record {
+pub placeable-copy : (m : Store) (n child : ℕ) (gs : List UserSegment) → Fits m → child < 256 → Pieces gs → ((page : ℕ) → page % 4096 ≡ 0 → bookPerm (m .book) n page ≡ permAt gs page)
+    → Placeable child (λ a. frameBytes (m .frames) (frameOf (m .book) n a)) gs
+placeable-copy m n child gs fits hi p exact = record {
   owner = hi;
   pieces = p;
   small = λ a q e. perm-fits (m .book) n (pageDown a) q (exact (pageDown a) (omega arith) ∙ perm-page gs a p ∙ e);
@@ -115,7 +115,7 @@ whole-copy m n child gs fits hi p exact = record {
 pub mem-copy : (m : Store) (n child : ℕ) (gs : List UserSegment) → Fits m → 1 ≤ child → child < 256 → Pieces gs → ((page : ℕ) → page % 4096 ≡ 0 → bookPerm (m .book) n page ≡ permAt gs page)
     → memOf m child ≡ (λ a. none) → pageCount gs ≤ free (m .book) → memOf (place m child (pagesOf (λ a. frameBytes (m .frames) (frameOf (m .book) n a)) gs)) child ≡ memOf m n
 mem-copy m n child gs fits lo hi p exact e room = fun-ext (λ a.
-    mem-placed m child (λ a. frameBytes (m .frames) (frameOf (m .book) n a)) gs fits (whole-copy m n child gs fits hi p exact) (empty-room m child gs lo e room) a
+    mem-placed m child (λ a. frameBytes (m .frames) (frameOf (m .book) n a)) gs fits (placeable-copy m n child gs fits hi p exact) (empty-room m child gs lo e room) a
     ∙ ap₂ (cellOr (permAt gs a)) (frame-byte m n a) (ap (λ (mem : Mem). mem a) e)
     ∙ ap (λ (o : Option ℕ). cellOr o (byteOf (memOf m n a)) none) (sym (mem-perm m n a ∙ exact (pageDown a) (omega arith) ∙ perm-page gs a p)) ∙ go (memOf m n a))
   where
