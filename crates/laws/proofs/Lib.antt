@@ -14,3 +14,4 @@ pub mod Cursor
 pub mod Count
 pub mod Records
 pub mod Uses
+pub mod Kept

@@ -31,6 +31,10 @@ abbrev pub orPerm : Option ℕ → Option ℕ → Option ℕ
 orPerm none q = q
 orPerm (some p) q = some p
 
+pub or-none : (o : Option ℕ) → orPerm o none ≡ o
+or-none none = refl
+or-none (some q) = refl
+
 pub perm-append : (gs hs : List UserSegment) (a : ℕ) → permAt (gs ++ hs) a ≡ orPerm (permAt gs a) (permAt hs a)
 perm-append [] hs a = refl
 perm-append (g ∷ gs) hs a = go (inSegment a g) (perm-append gs hs a)

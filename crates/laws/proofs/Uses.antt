@@ -100,6 +100,16 @@ module _ (m : Store) (n old new : ℕ) (fits : Fits m) (hi : n < 256) (zo : old 
         go true c = refl
         go false c = refl
 
+    pub perm-break : (page : ℕ) → page % 4096 ≡ 0
+        → bookPerm (moveBreak m n old new .book) n page ≡ (within old new page ⇒ some 3 else within new old page ⇒ none else bookPerm (m .book) n page)
+    perm-break page z =
+        page-perm (moveBreak m n old new) n page z ∙ ap (λ (mem : Mem). history.permIn (mem page)) mem-break ∙ go (within old new page) (within new old page)
+      where
+        go : (b c : Bool) → history.permIn (b ⇒ some (record { perm = 3; byte = 0 }) else c ⇒ none else memOf m n page) ≡ (b ⇒ some 3 else c ⇒ none else bookPerm (m .book) n page)
+        go true c = refl
+        go false true = refl
+        go false false = sym (page-perm m n page z)
+
 -- ---- pages of another process: what a fork places
 
 pub placeable-copy : (m : Store) (n child : ℕ) (gs : List UserSegment) → Fits m → child < 256 → Pieces gs → ((page : ℕ) → page % 4096 ≡ 0 → bookPerm (m .book) n page ≡ permAt gs page)
