@@ -17,7 +17,7 @@ use Rattle.spec.proofs.Bools.{split, clash, within-means, within-test}
 use Rattle.laws.proofs.Lists.{Each, each-append}
 use Rattle.laws.proofs.Frame.{within-not}
 use Rattle.laws.proofs.Place.{Distinct, over}
-use Rattle.laws.proofs.Pieces.{Piece, Pieces, perm-tail}
+use Rattle.laws.proofs.Apart.{Piece, Pieces, perm-tail}
 
 -- how many pages a piece has
 abbrev pages : UserSegment → ℕ

@@ -13,11 +13,11 @@ use Rattle.spec.specs.declared.UserSegment.{UserSegment}
 use Rattle.laws.proofs.Lists.{Each}
 use Rattle.laws.proofs.Frame.{Fits, Once, frame-unmapped, page-perm, perm-same}
 use Rattle.laws.proofs.Place.{Ready, Fresh, WholePages, fits-place, sized-place, free-place, each-place, mem-place-other, mem-place, once-place}
-use Rattle.laws.proofs.Pieces.{Pieces, orPerm}
+use Rattle.laws.proofs.Apart.{Pieces, orPerm}
 use Rattle.laws.proofs.Pages.{length-pages, each-pages, distinct-pages, cellOr, over-pages}
 
 -- pages of pieces that may be placed for process n: each is whole and has a permission that a word can hold
-pub record Placeable (n : ℕ) (f : ℕ → List ℕ) (gs : List UserSegment) : Type 0 where
+pub record Whole (n : ℕ) (f : ℕ → List ℕ) (gs : List UserSegment) : Type 0 where
   pub owner : n < 256
   pub pieces : Pieces gs
   pub small : (a q : ℕ) → permAt gs a ≡ some q → q < 16
@@ -41,7 +41,7 @@ pub each-placed : (m : Store) (n : ℕ) (f : ℕ → List ℕ) (gs : List UserSe
     → ((a q : ℕ) → a % 4096 ≡ 0 → permAt gs a ≡ some q → P (wordOf a n q)) → (k : ℕ) → ¬ (getD (place m n (pagesOf f gs) .book) k 0 ≡ 0) → P (getD (place m n (pagesOf f gs) .book) k 0)
 each-placed m n f gs pieces P old new = each-place m n (pagesOf f gs) P old (each-pages f gs (λ p. P (wordOf (p .page) n (p .perm))) pieces new)
 
-module _ (m : Store) (n : ℕ) (f : ℕ → List ℕ) (gs : List UserSegment) (fits : Fits m) (whole : Placeable n f gs) where
+module _ (m : Store) (n : ℕ) (f : ℕ → List ℕ) (gs : List UserSegment) (fits : Fits m) (whole : Whole n f gs) where
   ready : Each Ready (pagesOf f gs)
   ready = each-pages f gs Ready (whole .pieces) (λ a q e s. record { aligned = e; perm = whole .small a q s; whole = whole .bytes a q e s })
 
