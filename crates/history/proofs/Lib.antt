@@ -9,3 +9,4 @@ pub mod Ended
 pub mod Written
 pub mod Forked
 pub mod Moved
+pub mod Loaded
