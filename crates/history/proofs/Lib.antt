@@ -12,3 +12,4 @@ pub mod Moved
 pub mod Loaded
 pub mod EachCall
 pub mod Demand3
+pub mod Users
