@@ -19,6 +19,7 @@ use Rattle.spec.specs.declared.UserSegment.{UserSegment}
 use Rattle.laws.proofs.Lists.{Each, each-append}
 use Rattle.laws.proofs.Record.{WholeProc}
 use Rattle.laws.proofs.Shape.{imageEnd}
+use Rattle.laws.proofs.Apart.{count-append}
 use Rattle.laws.proofs.Pieces.{perm-each, shape-between, aligned, Apart, image-aligned, bss-aligned, image-apart, bss-stack-apart, bss-stack-low, swap-stack, perm-tail, shape-pieces}
 use Rattle.laws.proofs.Accepted.{AllLoad, nonEmpty, kept, accepted-means, elf-loads, image-recorded, image-shape}
 
@@ -85,10 +86,6 @@ start-between image e a q f =
     shape-between (procOf image []) (imageSegments image) (image-shape image [] e) a q (sym (start-pieces image [] e a) ∙ f)
 
 -- and are equally many
-pub count-append : (gs hs : List UserSegment) → pageCount (gs ++ hs) ≡ pageCount gs + pageCount hs
-count-append [] hs = omega arith
-count-append (g ∷ gs) hs = let h = count-append gs hs in omega arith
-
 pub start-count : (image name : List ℕ) → imageError image ≡ 0 → pageCount (startPieces image) ≡ pageCount (piecesOf (procOf image name))
 start-count image name e =
     let x = count-append (imageSegments image) (bssSegment (imageBss image) ∷ stack ∷ []) in
