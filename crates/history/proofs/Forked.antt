@@ -10,23 +10,19 @@ use Rattle.spec.specs.Book.{valid, frameOf, permAt, piecesOf, procAt}
 use Rattle.spec.specs.Frames.{Cell, frameBytes, pagesOf, place}
 use Rattle.spec.specs.Access.{byteOf}
 use Rattle.spec.specs.Machine.{Machine}
-use Rattle.spec.specs.World.{State, taken, view, copy}
+use Rattle.spec.specs.World.{State, view, copy}
 use Rattle.spec.specs.History.{permIn}
 use Rattle.spec.specs.declared.Proc.{Proc}
 use Rattle.laws.proofs.Frame.{frame-perm}
 use Rattle.laws.proofs.Pieces.{shape-aligned, shape-apart}
 use Rattle.laws.proofs.Pages.{cellOr}
 use Rattle.laws.proofs.Contents.{frame-byte, length-frame}
-use Rattle.laws.proofs.Facts.{Shaped, sound-perm, sound-between, found-between}
+use Rattle.laws.proofs.Facts.{sound-perm, sound-between, found-between}
 use Rattle.history.proofs.Passed.{Good}
 use Rattle.history.proofs.Accepted.{Forks}
-use Rattle.history.proofs.OneState.{known, taken-is, dead-view, pages}
+use Rattle.history.proofs.OneState.{known, living-shape, dead-view, pages}
 use Rattle.history.proofs.Stored.{Stored, Proper, pieces-of, stored-place}
 use Rattle.history.proofs.Change.{Change, stored-self, change-set}
-
--- a living process's record has its shape
-pub living-shape : (s : State) → Good s → (n : ℕ) → valid n ≡ true → taken s n ≡ true → Shaped (procAt (s .procs) n)
-living-shape s g n v t = known s g .facts .shape n v (sym (taken-is s n v) ∙ t)
 
 -- a cell is its permission and its byte
 cell-again : (c : Option Cell) → cellOr (permIn c) (byteOf c) none ≡ c
