@@ -37,18 +37,18 @@ went : (s : State) → Good s → (n : ℕ) (q : Ask) → Accepts s n q → Pass
 went s g n q e = not-refused s g (record { number = n; ask = q }) accepted e accepted≢
 
 -- a choice that comes to what its first answer isn't
-past : {A : Type 0} (P : A → Type 0) (t : Bool) (x y : A) → P (t ⇒ x else y) → (P x → ⊥) → (t ≡ false) × P y
+pub past : {A : Type 0} (P : A → Type 0) (t : Bool) (x y : A) → P (t ⇒ x else y) → (P x → ⊥) → (t ≡ false) × P y
 past P true x y e h = absurd (h e)
 past P false x y e h = (refl, e)
 
 abbrev Goes : Answer → Type 0
 Goes a = outcomeOf a ≡ accepted
 
-refused-not : (k : ℕ) → Goes (Refused k) → ⊥
-refused-not k e = let z : _≡_ {A = ℕ} 0 1 = cc in omega arith
+refused-not : refused ≡ accepted → ⊥
+refused-not e = let z : _≡_ {A = ℕ} 0 1 = cc in omega arith
 
-ended-not : (k : ℕ) → Goes (Ended k) → ⊥
-ended-not k e = let z : _≡_ {A = ℕ} 0 1 = cc in omega arith
+ended-not : ended ≡ accepted → ⊥
+ended-not e = let z : _≡_ {A = ℕ} 0 1 = cc in omega arith
 
 zero-is : (k : ℕ) → (k isnt 0) ≡ false → k ≡ 0
 zero-is k e = eqb-true k 0 (un-not (k is 0) e)
@@ -69,9 +69,9 @@ starts s g n image name bytes lengths e =
     let a₃ : Answer = Regs (registers (entry image) ustktop args) in
     let a₂ : Answer = pageCount (startPieces image) above free (s .store .book) ⇒ Refused 33 else a₃ in
     let a₁ : Answer = imageError image isnt 0 ⇒ Refused (imageError image) else a₂ in
-    let p₁ = past Goes (argsError args isnt 0) (Refused (argsError args)) a₁ (w .weighed) (refused-not _) in
-    let p₂ = past Goes (imageError image isnt 0) (Refused (imageError image)) a₂ (p₁ .1) (refused-not _) in
-    let p₃ = past Goes (pageCount (startPieces image) above free (s .store .book)) (Refused 33) a₃ (p₂ .1) (refused-not _) in
+    let p₁ = past Goes (argsError args isnt 0) (Refused (argsError args)) a₁ (w .weighed) refused-not in
+    let p₂ = past Goes (imageError image isnt 0) (Refused (imageError image)) a₂ (p₁ .1) refused-not in
+    let p₃ = past Goes (pageCount (startPieces image) above free (s .store .book)) (Refused 33) a₃ (p₂ .1) refused-not in
     record { number = w .number; dead = not-true (taken s n) (w .new); args-fit = zero-is _ (p₁ .0); image-fits = zero-is _ (p₂ .0); room = ltb-false _ _ (p₃ .0) }
 
 -- a start ends nobody
@@ -105,10 +105,10 @@ replaces s g n image name argv e =
     let a₃ : Answer = pageCount (startPieces image) above own (view s n) + free (s .store .book) ⇒ Ended 33 else a₄ in
     let a₂ : Answer = read .error is 33 ⇒ Refused 33 else a₃ in
     let a₁ : Answer = read .error is 35 ⇒ Ended 35 else a₂ in
-    let p₁ = past Goes (imageError image isnt 0) (Refused (imageError image)) a₁ (w .weighed) (refused-not _) in
-    let p₂ = past Goes (read .error is 35) (Ended 35) a₂ (p₁ .1) (ended-not _) in
-    let p₃ = past Goes (read .error is 33) (Refused 33) a₃ (p₂ .1) (refused-not _) in
-    let p₄ = past Goes (pageCount (startPieces image) above own (view s n) + free (s .store .book)) (Ended 33) a₄ (p₃ .1) (ended-not _) in
+    let p₁ = past Goes (imageError image isnt 0) (Refused (imageError image)) a₁ (w .weighed) refused-not in
+    let p₂ = past Goes (read .error is 35) (Ended 35) a₂ (p₁ .1) ended-not in
+    let p₃ = past Goes (read .error is 33) (Refused 33) a₃ (p₂ .1) refused-not in
+    let p₄ = past Goes (pageCount (startPieces image) above own (view s n) + free (s .store .book)) (Ended 33) a₄ (p₃ .1) ended-not in
     record { number = w .number; living = w .lives; image-fits = zero-is _ (p₁ .0); readable = p₂ .0; within-limit = p₃ .0; room = ltb-false _ _ (p₄ .0) }
 
 -- ---- push
@@ -127,9 +127,9 @@ pushes s g n pc top bytes lengths e =
     let a₃ : Answer = Regs (registers pc top args) in
     let a₂ : Answer = not (pushOk (view s n .mem) top args) ⇒ Ended 35 else a₃ in
     let a₁ : Answer = argsError args isnt 0 ⇒ Refused (argsError args) else a₂ in
-    let p₁ = past Goes (top % 16 isnt 0) (Refused 36) a₁ (w .weighed) (refused-not _) in
-    let p₂ = past Goes (argsError args isnt 0) (Refused (argsError args)) a₂ (p₁ .1) (refused-not _) in
-    let p₃ = past Goes (not (pushOk (view s n .mem) top args)) (Ended 35) a₃ (p₂ .1) (ended-not _) in
+    let p₁ = past Goes (top % 16 isnt 0) (Refused 36) a₁ (w .weighed) refused-not in
+    let p₂ = past Goes (argsError args isnt 0) (Refused (argsError args)) a₂ (p₁ .1) refused-not in
+    let p₃ = past Goes (not (pushOk (view s n .mem) top args)) (Ended 35) a₃ (p₂ .1) ended-not in
     record { number = w .number; living = w .lives; aligned = zero-is _ (p₁ .0); args-fit = zero-is _ (p₂ .0); writable = un-not _ (p₃ .0) }
 
 -- ---- break
@@ -170,7 +170,7 @@ pub breaks : (s : State) → Good s → (n addr : ℕ) → Accepts s n (break ad
 breaks s g n addr e =
     let w = went s g n (break addr) e in
     let b : Break = ibrk (some (view s n .bss)) addr (free (s .store .book)) in
-    let p = past Goes (b .error isnt 0) (Refused (b .error)) (Value (b .value)) (w .weighed) (refused-not _) in
+    let p = past Goes (b .error isnt 0) (Refused (b .error)) (Value (b .value)) (w .weighed) refused-not in
     record { number = w .number; living = w .lives; moves = ibrk-moves (view s n .bss) addr (free (s .store .book)) (zero-is _ (p .0)) }
 
 -- ---- fork
@@ -186,7 +186,7 @@ pub forks-child : (s : State) → Good s → (n child : ℕ) (segments : List Us
 forks-child s g n child segments e =
     let w = went s g n (fork child segments) e in
     let v = both (valid n) (valid child) (w .number) in
-    let p = past Goes (own (view s n) above free (s .store .book)) (Refused 33) Done (w .weighed) (refused-not _) in
+    let p = past Goes (own (view s n) above free (s .store .book)) (Refused 33) Done (w .weighed) refused-not in
     record { number = v .0; child-number = v .1; living = w .lives; dead = not-true (taken s child) (w .new); room = ltb-false _ _ (p .0) }
 
 -- ---- end, copy_to_user
@@ -206,5 +206,5 @@ pub record Writes (s : State) (n dst : ℕ) (bytes : List ℕ) : Type 0 where
 pub writes : (s : State) → Good s → (n dst : ℕ) (bytes : List ℕ) → Accepts s n (copy-to-user dst bytes) → Writes s n dst bytes
 writes s g n dst bytes e =
     let w = went s g n (copy-to-user dst bytes) e in
-    let p = past Goes (not (userRangeOk (view s n .mem) true dst (length bytes))) (Ended 35) Done (w .weighed) (ended-not _) in
+    let p = past Goes (not (userRangeOk (view s n .mem) true dst (length bytes))) (Ended 35) Done (w .weighed) ended-not in
     record { number = w .number; living = w .lives; writable = un-not _ (p .0) }

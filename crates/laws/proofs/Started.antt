@@ -1,25 +1,27 @@
 -- What a start makes of an accepted image: a whole record, and pages with the record's permissions.
-use Prim.Native.Nat.{ℕ, zero, suc, _+_, _-_, _≤_}
+use Prim.Native.Nat.{ℕ, zero, suc, _+_, _-_, _≤_, _<_}
 use native.Mathlib.Omega.{arith}
-use mathlib.Core.Path.{_≡_, refl, sym, ap, _∙_}
-use mathlib.Core.Bool.{Bool, true}
-use mathlib.Core.List.{List, [], _∷_, _++_, map}
+use mathlib.Core.Path.{_≡_, sym, ap, _∙_}
+use mathlib.Core.Bool.{true}
+use mathlib.Core.Option.{some}
+use mathlib.Core.List.{List, [], _∷_, _++_}
 use lib.ListN.{length, getD, take, replicate, length-append, length-replicate, length-take}
 use borrow.Author.Tests.{ltb-true}
-use Rattle.spec.proofs.Bools.{split, within-test, all-app}
-use Rattle.spec.specs.Tests.{_below_, within, all, filter, ascii}
-use Rattle.spec.specs.Numbers.{utzero}
+use Rattle.spec.proofs.Bools.{split, all-app}
+use Rattle.spec.specs.Tests.{_below_, within, all, ascii}
+use Rattle.spec.specs.Numbers.{utzero, uaddrtop, pageUp}
 use Rattle.spec.specs.Name.{elem, cut, padded, kstrcpy}
 use Rattle.spec.specs.Book.{zeroSegment, stack, bssSegment, permAt, piecesOf, pageCount}
 use Rattle.spec.specs.Elf.{Segment, segmentsOf}
 use Rattle.spec.specs.Exec.{userSegment, imageSegments, imageBss, imageError, startPieces}
 use Rattle.spec.specs.World.{procOf}
-use Rattle.spec.specs.declared.VirtRange.{VirtRange}
 use Rattle.spec.specs.declared.UserSegment.{UserSegment}
+use Rattle.laws.proofs.Lists.{Each, each-append}
 use Rattle.laws.proofs.Record.{WholeProc}
 use Rattle.laws.proofs.Shape.{imageEnd}
-use Rattle.laws.proofs.Pieces.{aligned, Apart, image-aligned, bss-aligned, image-apart, bss-stack-apart, bss-stack-low, swap-stack, perm-tail, shape-pieces}
-use Rattle.laws.proofs.Accepted.{AllLoad, nonEmpty, accepted-means, elf-loads, image-recorded, image-shape}
+use Rattle.laws.proofs.Apart.{count-append}
+use Rattle.laws.proofs.Pieces.{perm-each, shape-between, aligned, Apart, image-aligned, bss-aligned, image-apart, bss-stack-apart, bss-stack-low, swap-stack, perm-tail, shape-pieces}
+use Rattle.laws.proofs.Accepted.{AllLoad, nonEmpty, kept, accepted-means, elf-loads, image-recorded, image-shape}
 
 -- ---- its record
 
@@ -48,18 +50,16 @@ proc-whole image name e = record {
 -- ---- its pages
 
 -- permissions are 1 to 3
-abbrev pub permOk : UserSegment → Bool
-permOk g = within 1 4 (g .perm)
-
-kept-perms : (end : ℕ) (b : VirtRange) (gs : List Segment) → AllLoad end gs → all permOk (filter nonEmpty (map (userSegment b) gs)) ≡ true
-kept-perms end b [] l = refl
-kept-perms end b (g ∷ gs) l =
-    let more = kept-perms _ b gs (l .1) in
-    let ok : permOk (userSegment b g) ≡ true = within-test 1 4 (g .perm) (l .0 .perm .0) (omega (arith, l .0 .perm .1)) in
-    split (nonEmpty (userSegment b g)) (λ q. rw (q, ok) more) (λ q. rw q more)
-
-pub start-perms : (image : List ℕ) → imageError image ≡ 0 → all permOk (startPieces image) ≡ true
-start-perms image e = all-app permOk (imageSegments image) (bssSegment (imageBss image) ∷ stack ∷ []) (kept-perms 0 (imageBss image) (segmentsOf image) (elf-loads image (accepted-means image e .elf))) refl
+pub start-perm : (image : List ℕ) → imageError image ≡ 0 → (a q : ℕ) → permAt (startPieces image) a ≡ some q → (1 ≤ q) × (q ≤ 3)
+start-perm image e =
+    perm-each (λ q. (1 ≤ q) × (q ≤ 3)) (startPieces image)
+    (each-append _ (imageSegments image) (bssSegment (imageBss image) ∷ stack ∷ []) (each (segmentsOf image) 0 (elf-loads image (accepted-means image e .elf))) ((omega arith, omega arith), ((omega arith, omega arith), tt)))
+  where
+    each : (gs : List Segment) (end : ℕ) → AllLoad end gs → Each (λ g. (1 ≤ g .perm) × (g .perm ≤ 3)) (kept (imageBss image) gs)
+    each [] end l = tt
+    each (g ∷ gs) end l =
+        let more = each gs (pageUp (g .vaddr + g .memsz)) (l .1) in
+        split (nonEmpty (userSegment (imageBss image) g)) (λ q. rw q (l .0 .perm, more)) (λ q. rw q more)
 
 -- they are aligned and disjoint
 pub start-aligned : (image : List ℕ) → imageError image ≡ 0 → all aligned (startPieces image) ≡ true
@@ -80,11 +80,12 @@ start-pieces image name e a =
     perm-tail (imageSegments image) (bssSegment (imageBss image) ∷ stack ∷ []) (stack ∷ bssSegment (imageBss image) ∷ []) a (swap-stack (imageEnd utzero (imageSegments image)) (imageBss image) (r .bss-ok) a)
     ∙ ap (λ (x : List UserSegment). permAt x a) (sym (shape-pieces (procOf image name) (imageSegments image) (image-shape image name e)))
 
--- and are equally many
-pub count-append : (gs hs : List UserSegment) → pageCount (gs ++ hs) ≡ pageCount gs + pageCount hs
-count-append [] hs = omega arith
-count-append (g ∷ gs) hs = let h = count-append gs hs in omega arith
+-- they lie in user memory
+pub start-between : (image : List ℕ) → imageError image ≡ 0 → (a q : ℕ) → permAt (startPieces image) a ≡ some q → (utzero ≤ a) × (a < uaddrtop)
+start-between image e a q f =
+    shape-between (procOf image []) (imageSegments image) (image-shape image [] e) a q (sym (start-pieces image [] e a) ∙ f)
 
+-- and are equally many
 pub start-count : (image name : List ℕ) → imageError image ≡ 0 → pageCount (startPieces image) ≡ pageCount (piecesOf (procOf image name))
 start-count image name e =
     let x = count-append (imageSegments image) (bssSegment (imageBss image) ∷ stack ∷ []) in
