@@ -36,6 +36,10 @@ each-at P [] e j h = absurd (not-suc-le-zero h)
 each-at P (g ∷ gs) e zero h = e .0
 each-at P (g ∷ gs) e (suc j) h = each-at P gs (e .1) j (le-of-suc-le-suc h)
 
+pub each-made : (P : UserSegment → Type 0) (gs : List UserSegment) → ((j : ℕ) → j < length gs → P (getD gs j zeroSegment)) → Each P gs
+each-made P [] f = tt
+each-made P (g ∷ gs) f = (f 0 (omega arith), each-made P gs (λ j h. f (suc j) (omega arith)))
+
 pub each-app : (P : UserSegment → Type 0) (gs hs : List UserSegment) → Each P gs → Each P hs → Each P (gs ++ hs)
 each-app P [] hs e f = f
 each-app P (g ∷ gs) hs e f = (e .0, each-app P gs hs (e .1) f)
@@ -171,3 +175,23 @@ parts-of p w shape =
     split (lives p)
     (λ l. let s = shape l in living-parts p (s .0) (s .1))
     (λ l. rw (dead-zero p w l) dead-parts)
+
+-- ---- an address in a part
+
+module _ (p : Proc) (w : WholeProc p) (f : Parts p) where
+  pub part-gives : (j a : ℕ) → j < 17 → inSegment a (part p j) ≡ true → permAt (piecesOf p) a ≡ some (part p j .perm)
+  part-gives j a h i =
+      let e = part-is p (w .segments) j h in
+      sym (f .same a) ∙ at-perm (parts p) (f .apart) j a (rw (parts-long p (w .segments)) h) (rw e at i) ∙ ap (λ (g : UserSegment). some (g .perm)) (sym e)
+
+  pub gives-part : (a q : ℕ) → permAt (piecesOf p) a ≡ some q → (j : ℕ) × (j < 17) × (inSegment a (part p j) ≡ true) × (part p j .perm ≡ q)
+  gives-part a q e =
+      let r = perm-at (parts p) a q (f .same a ∙ e) in
+      let h : r .0 < 17 = rw (parts-long p (w .segments)) at (r .1) in
+      let s = part-is p (w .segments) (r .0) h in
+      (r .0, h, rw s (r .2), rw s (r .3))
+
+  pub part-one : (j k a : ℕ) → j < 17 → k < 17 → inSegment a (part p j) ≡ true → inSegment a (part p k) ≡ true → j ≡ k
+  part-one j k a h l x y =
+      at-one (parts p) (f .apart) j k a (rw (parts-long p (w .segments)) h) (rw (parts-long p (w .segments)) l)
+      (rw (part-is p (w .segments) j h) at x) (rw (part-is p (w .segments) k l) at y)

@@ -46,9 +46,9 @@ each-whole (p ∷ l) (u ∷ us) s zero h = record {
 each-whole (p ∷ l) (u ∷ us) s (suc i) h = each-whole l us (s .1) i (le-of-suc-le-suc h)
 
 pub whole-procs : (ps : Procs) (us : List Val) → shadow (each (P.the-field .row .Denot) (P.the-field .row .own) (map (P.the-field .into) (ps .all)) us)
-    → length (ps .all) ≡ 16 → Whole ps
+    → length (map (P.the-field .into) (ps .all)) ≡ 16 → Whole ps
 whole-procs ps us s l = record {
-  records = l;
+  records = length-mapped Proc (P.the-field .row .Denot) (P.the-field .into) (ps .all) 16 l;
   each = λ i. split (ltb i (length (ps .all)))
       (λ q. each-whole (ps .all) us s i (ltb-true _ _ q))
       (λ q. rw (List·getD-eq-default (ps .all) zeroProc (ltb-false _ _ q)) zero-whole);

@@ -1,12 +1,12 @@
 -- The pass over the book, and the table that it leaves: for each rank the frame of its page.
 -- Assumes nothing.
-use Prim.Native.Nat.{ℕ, _+_, _<_, _≤_}
+use Prim.Native.Nat.{ℕ, _+_, _-_, _<_, _≤_}
 use mathlib.Core.Path.{_≡_}
 use mathlib.Core.Bool.{Bool, true, false, not}
 use mathlib.Core.Option.{Option, none, some}
 use mathlib.Core.List.{List}
 use lib.ListN.{length, getD}
-use Rattle.spec.specs.Tests.{_is_, _isnt_}
+use Rattle.spec.specs.Tests.{_is_, _isnt_, _⇒_else_}
 use Rattle.spec.specs.Book.{ownerOf, pageOf, highest}
 use Rattle.spec.specs.declared.Found.{Found}
 use Rattle.spec.specs.declared.Found.the-variants.{At, Nothing}
@@ -21,7 +21,11 @@ abbrev pub entry : Option ℕ → ℕ
 entry none = 0
 entry (some k) = k + 1
 
--- and as an answer
+-- an entry as an answer
+abbrev pub answerOf : ℕ → Found
+answerOf e = e is 0 ⇒ Nothing else At (e - 1)
+
+-- a frame as an answer
 abbrev pub foundOf : Option ℕ → Found
 foundOf none = Nothing
 foundOf (some k) = At k

@@ -3,13 +3,11 @@ use Prim.Native.Nat.{ℕ, _-_, _≤_, _<_}
 use native.Mathlib.Omega.{arith}
 use mathlib.Core.Path.{_≡_, sym}
 use lib.ListN.{length}
-use borrow.Author.Needs.{needs}
 use Rattle.spec.specs.Book.{zeroProc}
 use Rattle.spec.proofs.Bools.{all-at}
 use Rattle.laws.proofs.Record.{Whole, WholeProc}
 use Rattle.sound.specs.Records.{passes}
 use Rattle.sound.specs.Plan.{LaidTo}
-use Rattle.sound.proofs.Walk.{length-mapped}
 use Rattle.sound.proofs.Whole.{noProc, within-array, proc-is, whole-procs}
 use Rattle.sound.proofs.Laying.{laidto-none, laidto-more, laid-all}
 use Rattle.sound.proofs.Passing.{small-parts}
@@ -25,7 +23,7 @@ abbrev μ-loop : tie.MeasureT-loop
 loop-holds : tie.Need-loop-holds Inv-loop μ-loop
 loop-holds c =
     let g = c .good .1 .1 .0 .1 .1 .0 in
-    (omega arith, whole-procs (c .args .t3) (g .0) (g .1 .1) (search (needs, length-mapped)), laidto-none _ _ _ (c .pre .1) (c .pre .2))
+    (omega arith, whole-procs (c .args .t3) (g .0) (g .1 .1) (g .1 .0 .1), laidto-none _ _ _ (c .pre .1) (c .pre .2))
 
 mul-p : tie.Need-mul-p Inv-loop μ-loop
 mul-p c = omega arith
