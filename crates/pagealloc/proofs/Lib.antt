@@ -1,2 +1,4 @@
 -- Laws that the proofs of this crate cite.
 pub mod Searches
+pub mod Overwrite
+pub mod Released

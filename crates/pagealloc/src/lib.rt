@@ -4,3 +4,6 @@
 
 // Book words, and searches of the book.
 pub mod book;
+
+// Pages released: book words that become 0.
+pub mod release;
