@@ -2,3 +2,4 @@
 pub mod Searches
 pub mod Overwrite
 pub mod Released
+pub mod Filled

@@ -1,2 +1,3 @@
--- What is lent, and the answers of searches.
+-- What is lent, the answers of searches, and what pages hold.
 pub mod Lent
+pub mod Contents

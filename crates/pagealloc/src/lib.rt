@@ -7,3 +7,6 @@ pub mod book;
 
 // Pages released: book words that become 0.
 pub mod release;
+
+// The bytes of frames.
+pub mod frames;
