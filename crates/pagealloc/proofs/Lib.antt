@@ -3,3 +3,4 @@ pub mod Searches
 pub mod Overwrite
 pub mod Released
 pub mod Filled
+pub mod FilePages
