@@ -4,3 +4,4 @@ pub mod Overwrite
 pub mod Released
 pub mod Filled
 pub mod FilePages
+pub mod Placing

@@ -10,3 +10,6 @@ pub mod release;
 
 // The bytes of frames.
 pub mod frames;
+
+// Pages placed in free frames.
+pub mod place;
