@@ -16,6 +16,12 @@ use Rattle.spec.proofs.Bools.{split}
 pub next : (l : List ℕ) (i : ℕ) → i < length l → drop i l ≡ getD l i 0 ∷ drop (i + 1) l
 next l i h = rw add-one (drop-cons l i 0 h)
 
+pub sum-next : (l : List ℕ) (i : ℕ) → i < length l → sum (drop i l) ≡ getD l i 0 + sum (drop (i + 1) l)
+sum-next l i h = ap sum (next l i h)
+
+pub sum-none : (l : List ℕ) (i : ℕ) → length l ≤ i → sum (drop i l) ≡ 0
+sum-none l i h = ap sum (drop-of-length-le l h)
+
 -- two tests of numbers that are equal together
 same-test : (a b c d : ℕ) → (a ≡ b → c ≡ d) → (c ≡ d → a ≡ b) → eqb a b ≡ eqb c d
 same-test a b c d f g = split (eqb c d) (λ q. eq-eqb a b (g (eqb-true c d q)) ∙ sym q) (λ q. ne-eqb a b (λ e. eqb-false c d q (f e)) ∙ sym q)
