@@ -55,7 +55,8 @@ fn has_nul(bytes: &[u8]) -> bool
 }
 
 // The stack that `nargs` arguments take, given their strings' size, NULs included: the strings, their pointers and the null after
-// them, and 8 bytes of padding, the most that a 16-byte aligned top leaves below them. What 64 bits don't hold is their highest.
+// them, and 8 bytes of padding, the most that a 16-byte aligned top leaves below them. A size that 64 bits don't hold is given as
+// their highest number, as `saturating_add`, which the Rust has for its last sum.
 pub fn stack_size(strings: u64, nargs: u64) -> u64
     ensures { λ r. ⌜ r ≡ saturated (stackSize strings nargs) ⌝ }
 {
@@ -139,7 +140,7 @@ pub fn strings_into(buf: &mut [u8], bytes: &[u8], lengths: &[u64]) -> usize
     from + i
 }
 
-// The 8 bytes of a number, as u64's.
+// The 8 bytes of a number, as `u64::to_le_bytes`.
 fn to_le_bytes(n: u64) -> [u8; 8]
     ensures { λ r. ⌜ r ≡ leBytes 8 n ⌝ }
 {
