@@ -37,7 +37,7 @@ went : (s : State) → Good s → (n : ℕ) (q : Ask) → Accepts s n q → Pass
 went s g n q e = not-refused s g (record { number = n; ask = q }) accepted e accepted≢
 
 -- a choice that comes to what its first answer isn't
-past : {A : Type 0} (P : A → Type 0) (t : Bool) (x y : A) → P (t ⇒ x else y) → (P x → ⊥) → (t ≡ false) × P y
+pub past : {A : Type 0} (P : A → Type 0) (t : Bool) (x y : A) → P (t ⇒ x else y) → (P x → ⊥) → (t ≡ false) × P y
 past P true x y e h = absurd (h e)
 past P false x y e h = (refl, e)
 

@@ -29,10 +29,9 @@ use Rattle.laws.proofs.Contents.{length-zero, zero-byte}
 use Rattle.laws.proofs.Count.{free-release}
 use Rattle.history.proofs.Passed.{Good}
 use Rattle.history.proofs.Accepted.{Moves}
-use Rattle.history.proofs.OneState.{known, pages}
+use Rattle.history.proofs.OneState.{known, living-shape, pages}
 use Rattle.history.proofs.Stored.{Stored, Proper, stored-release, stored-place}
 use Rattle.history.proofs.Change.{Exact, holds, Change, stored-self, change-set}
-use Rattle.history.proofs.Forked.{living-shape}
 
 -- ---- the record
 

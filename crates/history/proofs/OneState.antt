@@ -23,7 +23,7 @@ use Rattle.spec.specs.declared.Answer.the-variants.{Done, Ended}
 use Rattle.laws.proofs.Frame.{Fits, sized-fits, mem-perm}
 use Rattle.laws.proofs.Record.{Whole, typed-whole, dead-zero}
 use Rattle.laws.proofs.Shape.{shape-used}
-use Rattle.laws.proofs.Facts.{sound-facts, sound-perm, dead-frame, found-between}
+use Rattle.laws.proofs.Facts.{Shaped, sound-facts, sound-perm, dead-frame, found-between}
 use Rattle.history.proofs.Passed.{Good, answered}
 
 -- what a good state is known by
@@ -41,6 +41,10 @@ known s g =
 
 pub taken-is : (s : State) (n : ℕ) → valid n ≡ true → taken s n ≡ lives (procAt (s .procs) n)
 taken-is s n v = rw v
+
+-- a living process's record has its shape
+pub living-shape : (s : State) → Good s → (n : ℕ) → valid n ≡ true → taken s n ≡ true → Shaped (procAt (s .procs) n)
+living-shape s g n v t = known s g .facts .shape n v (sym (taken-is s n v) ∙ t)
 
 some-there : (gs : List UserSegment) (g : UserSegment) → not (length (gs ++ g ∷ []) is 0) ≡ true
 some-there [] g = refl

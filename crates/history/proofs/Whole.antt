@@ -23,7 +23,7 @@ put-split P f n x p h k = go (eqb p n) refl
     go true e = h (eqb-true p n e)
     go false e = k (eqb-false p n e)
 
-put-self : {A : Type 0} (f : ℕ → A) (n p : ℕ) (a : A) → a ≡ f n → put f n a p ≡ f p
+pub put-self : {A : Type 0} (f : ℕ → A) (n p : ℕ) (a : A) → a ≡ f n → put f n a p ≡ f p
 put-self f n p a e = put-split (λ x. x ≡ f p) f n a p (λ q. e ∙ ap f (sym q)) (λ ne. refl)
 
 put-map : {A B : Type 0} (g : A → B) (f : ℕ → A) (n p : ℕ) (a : A) → g (put f n a p) ≡ put (λ q. g (f q)) n (g a) p
@@ -58,7 +58,7 @@ effect-cong ms ks e c (forks child segments) refused p v w = e p v
 effect-cong ms ks e c (forks child segments) ended p v w = put-cong ms ks (c .number) p _ _ refl (e p v)
 effect-cong ms ks e c plain o p v w = put-cong ms ks (c .number) p _ _ (ap (λ m. feed m (c .ask) o) (e (c .number) w)) (e p v)
 
-effect-refused : (ms : ℕ → Machine) (c : Call) (k : Kind) (p : ℕ) → effect ms c k refused p ≡ ms p
+pub effect-refused : (ms : ℕ → Machine) (c : Call) (k : Kind) (p : ℕ) → effect ms c k refused p ≡ ms p
 unfolding effect
 effect-refused ms c begins p = refl
 effect-refused ms c (forks child segments) p = refl
@@ -166,14 +166,14 @@ pub record Laws : Type 0 where
   pub numbers : (s : State) → Good s → (n : ℕ) → valid n ≡ true → taken s n ≡ not (length (view s n .segments) is 0)
 
 module _ (laws : Laws) (s : State) (b : Begin s) where
-  good-after : (h : List Call) → Good (state s h)
+  pub good-after : (h : List Call) → Good (state s h)
   good-after [] = record { types = b .types; sizes = b .sizes; book = b .book }
   good-after (c ∷ h) = laws .kept (state s h) (good-after h) c
 
-  abbrev Seen : List Call → Type 0
+  abbrev pub Seen : List Call → Type 0
   Seen h = (p : ℕ) → valid p ≡ true → view (state s h) p ≡ machine (lines s h p)
 
-  heard : (h : List Call) → Seen h → (c : Call) → answer (state s h) c ≡ judge (machine (lines s h (c .number))) (free (state s h .store .book)) (taken (state s h)) c
+  pub heard : (h : List Call) → Seen h → (c : Call) → answer (state s h) c ≡ judge (machine (lines s h (c .number))) (free (state s h .store .book)) (taken (state s h)) c
   heard h ih c = answered (state s h) (good-after h) c ∙ go (valid (c .number)) refl
     where
       go : (v : Bool) → valid (c .number) ≡ v
@@ -195,7 +195,7 @@ module _ (laws : Laws) (s : State) (b : Begin s) where
           ∙ effect-refused (view (state s h)) c (kind (c .ask)) p ∙ ih p vp ∙ sym (effect-refused (λ q. machine (lines s h q)) c (kind (c .ask)) p)
           ∙ ap (λ o. effect (λ q. machine (lines s h q)) c (kind (c .ask)) o p) (sym out)
 
-  seen-after : (h : List Call) → Seen h
+  pub seen-after : (h : List Call) → Seen h
   seen-after [] p v = laws .first s b p v
   seen-after (c ∷ h) p v =
       laws .seen (state s h) (good-after h) c p v

@@ -1,12 +1,12 @@
 -- Pieces of memory: whole pages, no two of them with an address in common.
-use Prim.Native.Nat.{ℕ, zero, suc, _+_, _*_, _-_, _/_, _%_, _≤_, _<_}
+use Prim.Native.Nat.{ℕ, _+_, _-_, _/_, _%_, _≤_, _<_}
 use native.Mathlib.Omega.{arith}
 use native.Mathlib.Nat.{add-assoc}
 use mathlib.Core.Path.{_≡_, refl, sym, ap, ap₂, _∙_}
-use mathlib.Core.Bool.{Bool, true, false, not, _&&_}
+use mathlib.Core.Bool.{Bool, true, false}
 use mathlib.Core.Option.{Option, none, some}
 use mathlib.Core.List.{List, [], _∷_, _++_}
-use Rattle.spec.specs.Tests.{_below_, within, _⇒_else_}
+use Rattle.spec.specs.Tests.{within, _⇒_else_}
 use Rattle.spec.specs.Numbers.{pageDown}
 use Rattle.spec.specs.Book.{inSegment, permAt, pageCount}
 use Rattle.spec.specs.declared.UserSegment.{UserSegment}

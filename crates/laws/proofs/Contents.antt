@@ -1,17 +1,16 @@
 -- The bytes of pages: by a rule, of zeros, and as they stand in a frame.
-use Prim.Native.Nat.{ℕ, zero, suc, _+_, _*_, _-_, _/_, _%_, _≤_, _<_}
+use Prim.Native.Nat.{ℕ, zero, suc, _+_, _*_, _-_, _%_, _<_}
 use native.Mathlib.Omega.{arith}
 use native.Mathlib.Nat.{add-zero, not-suc-le-zero}
 use mathlib.Core.Path.{_≡_, refl, sym, ap, _∙_}
 use mathlib.Core.Option.{Option, none, some}
-use mathlib.Core.List.{List, [], _∷_}
-use lib.ListN.{length, getD, take, drop, replicate, length-drop, length-replicate, getD-replicate}
+use lib.ListN.{length, getD, drop, replicate, length-drop, length-replicate}
 use lib.Seq.{length-take-le, getD-take, getD-drop, ext-getD}
 use Rattle.spec.specs.Numbers.{pageDown, bytesFrom, pageBytes, zeroPage}
 use Rattle.spec.specs.Book.{frameOf, bookPerm}
-use Rattle.spec.specs.Frames.{Store, cellIn, memOf, frameBytes}
+use Rattle.spec.specs.Frames.{Store, Mem, cellIn, memOf, frameBytes}
 use Rattle.spec.specs.Access.{byteOf}
-use Rattle.laws.proofs.Frame.{Fits, frame-found, frame-perm}
+use Rattle.laws.proofs.Frame.{Fits, frame-found, frame-perm, frame-unmapped, perm-same}
 
 -- ---- by a rule, and zeros
 
@@ -75,3 +74,14 @@ frame-page m n page q fits z e =
     let x = frame-byte m n (page + i) in
     let y = page-byte (λ a. byteOf (memOf m n a)) (page + i) in
     rw (d, u) at x ∙ sym (rw (d, u) at y))
+
+-- so they stay while what it sees stays
+pub frame-same : (m t : Store) (n page : ℕ) → Fits m → Fits t → memOf t n ≡ memOf m n → page % 4096 ≡ 0 → frameBytes (t .frames) (frameOf (t .book) n page) ≡ frameBytes (m .frames) (frameOf (m .book) n page)
+frame-same m t n page fm ft e z = go (bookPerm (m .book) n page) refl
+  where
+    same : bookPerm (t .book) n page ≡ bookPerm (m .book) n page
+    same = perm-same t m n e page z
+
+    go : (o : Option ℕ) → bookPerm (m .book) n page ≡ o → frameBytes (t .frames) (frameOf (t .book) n page) ≡ frameBytes (m .frames) (frameOf (m .book) n page)
+    go none p = rw (frame-unmapped (m .book) n page p, frame-unmapped (t .book) n page (same ∙ p))
+    go (some q) p = frame-page t n page q ft z (same ∙ p) ∙ ap (λ (mem : Mem). pageBytes (λ a. byteOf (mem a)) page) e ∙ sym (frame-page m n page q fm z p)

@@ -8,15 +8,15 @@ use mathlib.Core.Option.{Option, none, some}
 use mathlib.Core.List.{List, [], _∷_, map}
 use lib.Dec.{eqb}
 use lib.ListN.{length, getD}
-use borrow.Author.Tests.{eqb-true, eqb-false, eq-eqb, ne-eqb}
-use Rattle.spec.specs.Tests.{_is_, _isnt_, _below_, within, _⇒_else_}
+use borrow.Author.Tests.{eqb-true, eqb-false}
+use Rattle.spec.specs.Tests.{_is_, _isnt_, within, _⇒_else_}
 use Rattle.spec.specs.Book.{pageOf, ownerOf, permOf, owns, frameOf, permIn, bookPerm, free, inSegment, permAt, pageCount}
 use Rattle.spec.specs.Frames.{Store, release}
 use Rattle.spec.specs.declared.UserSegment.{UserSegment}
 use Rattle.spec.proofs.Bools.{split, clash, both, not-true, within-means, within-test}
 use Rattle.laws.proofs.Lists.{by-order}
-use Rattle.laws.proofs.Frame.{Owns, owns-means, owns-test, owns-not, frame-found, frame-some, frame-perm, Once, within-not}
-use Rattle.laws.proofs.Apart.{Piece, Pieces, perm-tail}
+use Rattle.laws.proofs.Frame.{owns-means, owns-test, frame-found, frame-some, frame-perm, Once, within-not}
+use Rattle.laws.proofs.Apart.{Pieces, perm-tail}
 
 -- ---- counts
 
@@ -150,7 +150,7 @@ count-range book n low high once l h each =
     let e : (high - low) / 4096 ≡ 0 = omega arith in
     count-none (ownsIn n (within low high)) book (λ k x. ownsIn-not n (within low high) (getD book k 0) (within-not low high (pageOf (getD book k 0)) (λ y z. omega arith))) ∙ sym e)
 
-abbrev isSome : Option ℕ → Bool
+abbrev pub isSome : Option ℕ → Bool
 isSome none = false
 isSome (some q) = true
 

@@ -2,8 +2,8 @@
 use Prim.Native.Nat.{ℕ, zero, suc, _+_, _*_, _-_, _≤_, _<_}
 use native.Mathlib.Omega.{arith}
 use mathlib.Core.Path.{_≡_, refl, sym, ap, _∙_}
-use mathlib.Core.Bool.{Bool, true, false}
-use mathlib.Core.Option.{Option, none, some}
+use mathlib.Core.Bool.{true, false}
+use mathlib.Core.Option.{none, some}
 use mathlib.Core.List.{List, [], _∷_}
 use lib.Dec.{eqb}
 use lib.ListN.{length, getD, set, length-set}
@@ -15,7 +15,6 @@ use Rattle.spec.specs.Frames.{Store, put, Page, pagesFrom, hold, place}
 use Rattle.spec.proofs.Bools.{split}
 use Rattle.spec.proofs.Search.{highest-none}
 use Rattle.spec.proofs.Words.{used-word}
-use Rattle.laws.proofs.Lists.{by-order}
 
 -- from frame c down, each free frame takes the next page
 unfoldable pub placeFrom : ℕ → Store → ℕ → List Page → Store

@@ -1,17 +1,16 @@
 -- The frame of an owner's page: what a search for it says, and what a process sees in it.
-use Prim.Native.Nat.{ℕ, zero, suc, _+_, _*_, _/_, _%_, _≤_, _<_}
+use Prim.Native.Nat.{ℕ, _*_, _%_, _≤_, _<_}
 use native.Mathlib.Omega.{arith}
 use mathlib.Core.Path.{_≡_, refl, sym, ap, _∙_}
-use mathlib.Core.Bool.{Bool, true, false, not, _&&_}
+use mathlib.Core.Bool.{true, false, _&&_}
 use mathlib.Core.Option.{Option, none, some}
-use mathlib.Core.List.{List, [], _∷_}
-use lib.Dec.{eqb}
+use mathlib.Core.List.{List}
 use lib.ListN.{length, getD, List·getD-eq-default}
 use borrow.Author.Tests.{eqb-true, eqb-false, eq-eqb, ne-eqb}
 use Rattle.spec.specs.Tests.{_is_, _isnt_, within}
 use Rattle.spec.specs.Numbers.{pageDown}
-use Rattle.spec.specs.Book.{pageOf, ownerOf, permOf, highest, owns, frameOf, permIn, bookPerm}
-use Rattle.spec.specs.Frames.{Store, sized, Cell, cellIn, memOf}
+use Rattle.spec.specs.Book.{pageOf, ownerOf, permOf, owns, frameOf, permIn, bookPerm}
+use Rattle.spec.specs.Frames.{Store, sized, Cell, Mem, memOf}
 use Rattle.spec.specs.History as history
 use Rattle.spec.proofs.Bools.{split, both, clash, not-true, within-means}
 use Rattle.spec.proofs.Search.{hit, miss}
@@ -86,6 +85,14 @@ frame-unmapped book n page e = go (frameOf book n page) refl e
     go none f e = f
     go (some k) f e = absurd (let z : _≡_ {A = ℕ} 0 1 = cc in omega arith)
 
+-- a permission is four bits of a word
+pub perm-fits : (book : List ℕ) (n page q : ℕ) → bookPerm book n page ≡ some q → q < 16
+perm-fits book n page q e =
+    let r = frame-perm book n page q e in
+    let s : some (permOf (getD book (r .0) 0)) ≡ some q = ap (permIn book) (sym (r .1)) ∙ e in
+    let z : permOf (getD book (r .0) 0) ≡ q = cc in
+    omega arith
+
 -- ---- no owner has a page twice
 
 abbrev pub Once : List ℕ → Type 0
@@ -122,6 +129,10 @@ mem-perm m n a = go (frameOf (m .book) n (pageDown a)) refl
 
 pub page-perm : (m : Store) (n page : ℕ) → page % 4096 ≡ 0 → bookPerm (m .book) n page ≡ history.permIn (memOf m n page)
 page-perm m n page h = let e : pageDown page ≡ page = omega arith in ap (bookPerm (m .book) n) (sym e) ∙ sym (mem-perm m n page)
+
+-- what a process sees decides what the book says of its pages
+pub perm-same : (m t : Store) (n : ℕ) → memOf m n ≡ memOf t n → (page : ℕ) → page % 4096 ≡ 0 → bookPerm (m .book) n page ≡ bookPerm (t .book) n page
+perm-same m t n e page h = page-perm m n page h ∙ ap (λ (mem : Mem). history.permIn (mem page)) e ∙ sym (page-perm t n page h)
 
 -- ---- ranges
 

@@ -4,6 +4,13 @@ pub mod Frame
 pub mod Pokes
 pub mod Release
 pub mod Place
+pub mod Apart
+pub mod Pages
+pub mod Placed
+pub mod Contents
+pub mod Allowed
+pub mod Cursor
+pub mod Count
 -- Of records and soundness: the test and the facts are equivalent.
 pub mod Record
 pub mod Shape
@@ -17,9 +24,3 @@ pub mod Accepted
 pub mod Started
 pub mod Turns
 pub mod Buffers
-pub mod Apart
-pub mod Pages
-pub mod Placed
-pub mod Contents
-pub mod Cursor
-pub mod Count

@@ -1,14 +1,13 @@
 -- Lists: what holds of each element, and bytes put over a list.
-use Prim.Native.Nat.{ℕ, zero, suc, _+_, _-_, _≤_, _<_}
+use Prim.Native.Nat.{ℕ, _+_, _-_, _≤_, _<_}
 use native.Mathlib.Omega.{arith}
 use native.Mathlib.Nat.{add-zero, add-assoc}
 use native.Mathlib.Numerals.{add-one}
 use mathlib.Core.Path.{_≡_, refl, sym, ap, _∙_}
-use mathlib.Core.Bool.{Bool, true, false}
 use mathlib.Core.List.{List, [], _∷_, _++_, append-assoc, append-nil}
 use lib.Dec.{ltb}
 use lib.ListN.{length, getD, set, take, drop, length-append, length-take, length-drop, take-append-drop, List·getD-append}
-use lib.Seq.{sets, sets-eq, length-take-le, take-at, drop-at, drop-drop, getD-append-add, getD-take, getD-drop, set-split, append-snoc}
+use lib.Seq.{sets, sets-eq, length-take-le, take-at, drop-at, drop-drop, getD-append-add, getD-take, getD-drop, set-split}
 use borrow.Author.Tests.{ltb-true, ltb-false}
 use borrow.Rule.Slice.PartMut.{putMid}
 use Rattle.spec.specs.Frames.{put}

@@ -1,24 +1,24 @@
 -- Pages placed: what every process sees, which words stand in the book, how many frames are free.
-use Prim.Native.Nat.{ℕ, zero, suc, _+_, _*_, _/_, _%_, _≤_, _<_}
+use Prim.Native.Nat.{ℕ, zero, suc, _+_, _*_, _%_, _≤_, _<_}
 use native.Mathlib.Omega.{arith}
 use native.Mathlib.Nat.{not-suc-le-zero, le-of-suc-le-suc}
-use mathlib.Core.Path.{_≡_, refl, sym, ap, _∙_, fun-ext}
-use mathlib.Core.Bool.{Bool, true, false, not, _&&_}
+use mathlib.Core.Path.{_≡_, refl, sym, ap, _∙_}
+use mathlib.Core.Bool.{Bool, true, false}
 use mathlib.Core.Option.{Option, none, some}
 use mathlib.Core.List.{List, [], _∷_, _++_}
 use lib.Dec.{eqb}
 use lib.ListN.{length, getD, set, length-set}
-use lib.Seq.{getD-set-same, getD-set-other, set-out}
+use lib.Seq.{getD-set-same, getD-set-other}
 use borrow.Author.Tests.{eqb-true, eqb-false, eq-eqb, ne-eqb}
-use Rattle.spec.specs.Tests.{_is_, _isnt_, _⇒_else_}
+use Rattle.spec.specs.Tests.{_is_, _⇒_else_}
 use Rattle.spec.specs.Numbers.{pageDown}
-use Rattle.spec.specs.Book.{wordOf, pageOf, ownerOf, permOf, highest, freeFrame, owns, frameOf, free}
+use Rattle.spec.specs.Book.{wordOf, pageOf, permOf, highest, freeFrame, owns, frameOf, free}
 use Rattle.spec.specs.Frames.{Store, sized, Cell, cellIn, memOf, put, Page, hold, place}
 use Rattle.spec.proofs.Bools.{split}
 use Rattle.spec.proofs.Search.{hit, miss, highest-ext}
 use Rattle.spec.proofs.Words.{unpack, used-word}
 use Rattle.laws.proofs.Lists.{Each, length-put, put-in, put-outside}
-use Rattle.laws.proofs.Frame.{Fits, sized-same, Owns, owns-means, owns-not, frame-found, frame-none, frame-some, Once, cell-eq}
+use Rattle.laws.proofs.Frame.{Fits, sized-same, Owns, owns-not, frame-found, frame-none, frame-some, Once, cell-eq}
 
 -- ---- a book with one word more
 
@@ -82,7 +82,7 @@ module _ (book : List ℕ) (k w : ℕ) (low : k < length book) (was : getD book 
           let ih = go l j (le-of-suc-le-suc h) z in
           split (eqb x 0) (λ q. rw q (omega arith)) (λ q. rw q ih)
 
--- ---- one page in a free frame
+-- ---- one page in a free frame (for loops, which place a page a turn)
 
 -- a page that a word can name and that fills a frame
 pub record Ready (p : Page) : Type 0 where
@@ -112,13 +112,13 @@ module _ (m : Store) (n : ℕ) (p : Page) (k : ℕ) (fits : Fits m) (low : k < l
       cell-eq _ _ _ _ (ap permOf (getD-set-other (m .book) k j word 0 away))
       (put-outside (m .frames) (p .bytes) (4096 * k) (4096 * j + x % 4096) (omega arith) (λ l u. away (omega (arith, r .whole))))
 
-  mem-hold-else : (q x : ℕ) → (q ≡ n → pageDown x ≡ p .page → ⊥) → memOf (hold m n p (some k)) q x ≡ memOf m q x
+  pub mem-hold-else : (q x : ℕ) → (q ≡ n → pageDown x ≡ p .page → ⊥) → memOf (hold m n p (some k)) q x ≡ memOf m q x
   mem-hold-else q x out =
       let u = unpack (p .page) n (p .perm) (r .aligned) hi (r .perm) in
       ap (cellIn (hold m n p (some k)) x) (frame-else (m .book) k word low was q (pageDown x) (λ o. out (sym (o .owner) ∙ u .1) (sym (o .page) ∙ u .0)))
       ∙ cell-else x (frameOf (m .book) q (pageDown x)) (λ e. frame-found (m .book) q (pageDown x) k e .1 .used was)
 
-  mem-hold : 1 ≤ n → frameOf (m .book) n (p .page) ≡ none → (x : ℕ) → pageDown x ≡ p .page → memOf (hold m n p (some k)) n x ≡ cellOn p x
+  pub mem-hold : 1 ≤ n → frameOf (m .book) n (p .page) ≡ none → (x : ℕ) → pageDown x ≡ p .page → memOf (hold m n p (some k)) n x ≡ cellOn p x
   mem-hold lo new x e =
       let o = word-owns n p lo hi r in
       let u = unpack (p .page) n (p .perm) (r .aligned) hi (r .perm) in
@@ -127,8 +127,8 @@ module _ (m : Store) (n : ℕ) (p : Page) (k : ℕ) (fits : Fits m) (low : k < l
       (put-in (m .frames) (p .bytes) (4096 * k) (4096 * k + x % 4096) (omega arith) (omega arith) (omega (arith, r .whole))
       ∙ ap (λ (i : ℕ). getD (p .bytes) i 0) (omega arith)))
 
-  length-hold : length (hold m n p (some k) .frames) ≡ length (m .frames)
-  length-hold = length-put (m .frames) (p .bytes) (4096 * k) (omega (arith, r .whole))
+  pub fits-hold : Fits (hold m n p (some k))
+  fits-hold = length-put (m .frames) (p .bytes) (4096 * k) (omega (arith, r .whole)) ∙ fits ∙ ap (λ (i : ℕ). 4096 * i) (sym (length-set (m .book) k word))
 
 -- ---- a list of pages
 

@@ -1,21 +1,18 @@
 -- The pages of pieces placed for a process: one record of what a caller shows, and what follows.
-use Prim.Native.Nat.{ℕ, zero, suc, _+_, _*_, _-_, _/_, _%_, _≤_, _<_}
+use Prim.Native.Nat.{ℕ, _+_, _%_, _≤_, _<_}
 use native.Mathlib.Omega.{arith}
-use mathlib.Core.Path.{_≡_, refl, sym, ap, ap₂, _∙_}
-use mathlib.Core.Bool.{Bool, true, false}
+use mathlib.Core.Path.{_≡_, refl, sym, ap, _∙_}
 use mathlib.Core.Option.{Option, none, some}
-use mathlib.Core.List.{List, [], _∷_}
+use mathlib.Core.List.{List}
 use lib.ListN.{length, getD}
-use borrow.Author.Tests.{ne-eqb, eq-eqb}
-use Rattle.spec.specs.Tests.{_is_, _⇒_else_}
 use Rattle.spec.specs.Numbers.{pageDown}
 use Rattle.spec.specs.Book.{wordOf, bookPerm, free, permAt, pageCount}
-use Rattle.spec.specs.Frames.{Store, sized, Mem, memOf, Page, pagesOf, place}
+use Rattle.spec.specs.Frames.{Store, sized, memOf, pagesOf, place}
 use Rattle.spec.specs.History as history
 use Rattle.spec.specs.declared.UserSegment.{UserSegment}
 use Rattle.laws.proofs.Lists.{Each}
-use Rattle.laws.proofs.Frame.{Fits, Once, frame-unmapped, page-perm}
-use Rattle.laws.proofs.Place.{Ready, Distinct, Fresh, WholePages, fits-place, sized-place, free-place, each-place, mem-place-other, mem-place, once-place}
+use Rattle.laws.proofs.Frame.{Fits, Once, frame-unmapped, page-perm, perm-same}
+use Rattle.laws.proofs.Place.{Ready, Fresh, WholePages, fits-place, sized-place, free-place, each-place, mem-place-other, mem-place, once-place}
 use Rattle.laws.proofs.Apart.{Pieces, orPerm}
 use Rattle.laws.proofs.Pages.{length-pages, each-pages, distinct-pages, cellOr, over-pages}
 
@@ -63,8 +60,7 @@ module _ (m : Store) (n : ℕ) (f : ℕ → List ℕ) (gs : List UserSegment) (f
   mem-placed-other p ne = mem-place-other m n (pagesOf f gs) fits (whole .owner) ready p ne
 
   pub perm-placed-other : (p : ℕ) → (p ≡ n → ⊥) → (page : ℕ) → page % 4096 ≡ 0 → bookPerm (place m n (pagesOf f gs) .book) p page ≡ bookPerm (m .book) p page
-  perm-placed-other p ne page h =
-      page-perm (place m n (pagesOf f gs)) p page h ∙ ap (λ (mem : Mem). history.permIn (mem page)) (mem-placed-other p ne) ∙ sym (page-perm m p page h)
+  perm-placed-other p ne = perm-same (place m n (pagesOf f gs)) m p (mem-placed-other p ne)
 
   module _ (room : Room m n gs) where
     new : Fresh (m .book) n (pagesOf f gs)

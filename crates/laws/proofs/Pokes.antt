@@ -1,24 +1,22 @@
 -- Bytes of a process written over: only its own memory changes, as `write` says.
-use Prim.Native.Nat.{ℕ, zero, suc, _+_, _*_, _-_, _/_, _%_, _≤_, _<_}
+use Prim.Native.Nat.{ℕ, suc, _+_, _*_, _-_, _%_, _≤_}
 use native.Mathlib.Omega.{arith}
 use native.Mathlib.Nat.{add-zero}
-use native.Mathlib.Numerals.{add-one}
-use mathlib.Core.Path.{_≡_, refl, sym, ap, ap₂, _∙_}
-use mathlib.Core.Bool.{Bool, true, false, not, _&&_}
+use mathlib.Core.Path.{_≡_, refl, sym, ap, _∙_}
 use mathlib.Core.Option.{Option, none, some}
 use mathlib.Core.List.{List, [], _∷_, _++_}
-use lib.Dec.{eqb, ltb}
+use lib.Dec.{eqb}
 use lib.ListN.{length, getD, set, length-set}
 use lib.Seq.{sets, getD-set-same, getD-set-other}
-use borrow.Author.Tests.{eqb-true, eqb-false, eq-eqb, ne-eqb, lt-ltb, le-ltb}
-use Rattle.spec.specs.Tests.{_is_, _below_, within, _⇒_else_}
+use borrow.Author.Tests.{eqb-true, eqb-false}
+use Rattle.spec.specs.Tests.{within}
 use Rattle.spec.specs.Numbers.{pageDown}
-use Rattle.spec.specs.Book.{permOf, frameOf}
+use Rattle.spec.specs.Book.{frameOf}
 use Rattle.spec.specs.Frames.{Store, sized, cellIn, memOf, put, poke, pokes}
 use Rattle.spec.specs.Access.{rewrite, write}
 use Rattle.spec.proofs.Bools.{split, clash, within-means, within-test}
 use Rattle.laws.proofs.Lists.{put-sets}
-use Rattle.laws.proofs.Frame.{Fits, sized-same, Owns, frame-found, cell-eq, within-not}
+use Rattle.laws.proofs.Frame.{Fits, sized-same, frame-found, cell-eq, within-not}
 
 -- ---- one byte
 

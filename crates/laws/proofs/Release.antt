@@ -1,18 +1,17 @@
 -- Pages released: the words that pass a test become 0, and all else stays.
-use Prim.Native.Nat.{ℕ, zero, suc, _+_, _*_, _/_, _%_, _≤_, _<_}
+use Prim.Native.Nat.{ℕ, _+_, _*_, _%_}
 use native.Mathlib.Omega.{arith}
 use mathlib.Core.Path.{_≡_, refl, sym, ap, _∙_, fun-ext}
-use mathlib.Core.Bool.{Bool, true, false, not, _&&_}
+use mathlib.Core.Bool.{Bool, true, false, _&&_}
 use mathlib.Core.Option.{Option, none, some}
-use mathlib.Core.List.{List, [], _∷_, map}
-use lib.Dec.{eqb}
+use mathlib.Core.List.{List, map}
 use lib.ListN.{length, getD, length-map, List·getD-map}
-use borrow.Author.Tests.{eqb-true, eqb-false, eq-eqb, ne-eqb}
-use Rattle.spec.specs.Tests.{_is_, _isnt_, _below_, within, _⇒_else_}
+use borrow.Author.Tests.{eq-eqb, ne-eqb}
+use Rattle.spec.specs.Tests.{_is_, within, _⇒_else_}
 use Rattle.spec.specs.Numbers.{pageDown}
-use Rattle.spec.specs.Book.{pageOf, ownerOf, permOf, highest, owns, frameOf, bookPerm, permIn, free}
+use Rattle.spec.specs.Book.{pageOf, ownerOf, permOf, highest, owns, frameOf, bookPerm, permIn}
 use Rattle.spec.specs.History as history
-use Rattle.spec.specs.Frames.{Store, sized, Cell, cellIn, memOf, release}
+use Rattle.spec.specs.Frames.{Store, sized, cellIn, memOf, release}
 use Rattle.spec.proofs.Bools.{split, clash}
 use Rattle.spec.proofs.Search.{highest-none, highest-ext}
 use Rattle.laws.proofs.Frame.{Fits, sized-same, Owns, owns-means, owns-test, owns-not, frame-found, cell-eq, page-perm, Once}
