@@ -5,3 +5,4 @@ pub mod Released
 pub mod Filled
 pub mod FilePages
 pub mod Placing
+pub mod Copying
