@@ -1,6 +1,15 @@
--- The claim of demand 3, from laws of one state and of one call.
+-- The proof of demand 3: the claim from laws of one state and of one call, those laws, and the claim with no hypothesis.
+pub mod Passed
 pub mod Whole
 pub mod OneState
-pub mod Pages
-pub mod Left
-pub mod Forget
+pub mod Accepted
+pub mod Stored
+pub mod Change
+pub mod Ended
+pub mod Written
+pub mod Forked
+pub mod Moved
+pub mod Loaded
+pub mod EachCall
+pub mod Demand3
+pub mod Users

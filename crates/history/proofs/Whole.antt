@@ -1,32 +1,29 @@
 -- The claim about whole lists of calls follows from laws about one state and one call alone.
 use Prim.Native.Nat.{ℕ}
-use native.Mathlib.Omega.{arith}
 use mathlib.Core.Path.{_≡_, refl, sym, ap, ap₂, _∙_}
-use mathlib.Core.Bool.{Bool, true, false, not, _&&_, _||_}
-use mathlib.Core.Option.{Option, none, some}
+use mathlib.Core.Bool.{Bool, true, false, not}
 use mathlib.Core.List.{List, [], _∷_, map}
 use lib.Dec.{eqb}
 use lib.ListN.{length}
 use borrow.Author.Tests.{eqb-true, eqb-false}
-use Rattle.spec.proofs.Bools.{un-not}
 use Rattle.spec.specs.Tests.{_is_, _⇒_else_, same}
-use Rattle.spec.specs.Book.{valid, free, sameSegment, pieces, permAt}
-use Rattle.spec.specs.Machine.{Ask, start, replace, push, break, fork, end, user-range-ok, copy-from-user, copy-to-user, try-copy-str-from-user, Call, Kind, begins, forks, plain, kind, Outcome, accepted, refused, ended, Reply, outcome, refuse, Machine, off, run, feed, judge, weigh, lengthsFit, listFits, numbered, living, unclaimed}
-use Rattle.spec.specs.Frames.{sized}
-use Rattle.spec.specs.World.{State, sound, taken, view, answer, readable, after}
-use Rattle.spec.specs.History.{state, Asked, Entry, entry, Lines, put, later, join, lines, machine, held, heldPerm, Explained, typed, Begin, Claim}
+use Rattle.spec.specs.Book.{valid, free, pieces, permAt}
+use Rattle.spec.specs.Machine.{Ask, start, replace, push, break, fork, end, user-range-ok, copy-from-user, copy-to-user, try-copy-str-from-user, Call, Kind, begins, forks, plain, kind, Outcome, accepted, refused, ended, Reply, outcome, Machine, off, run, feed, judge, lengthsFit, living}
+use Rattle.spec.specs.World.{State, taken, view, answer, readable, after}
+use Rattle.spec.specs.History.{state, Asked, Entry, entry, Lines, put, later, join, lines, machine, held, heldPerm, Explained, Begin, Claim}
 use Rattle.spec.specs.declared.UserSegment.{UserSegment}
+use Rattle.history.proofs.Passed.{Good, answered, accepted≢, ended≢, passed, stray, stray-out}
 
 -- ---- put
 
-put-split : {A : Type 0} (P : A → Type 0) (f : ℕ → A) (n : ℕ) (x : A) (p : ℕ) → (p ≡ n → P x) → ((p ≡ n → ⊥) → P (f p)) → P (put f n x p)
+pub put-split : {A : Type 0} (P : A → Type 0) (f : ℕ → A) (n : ℕ) (x : A) (p : ℕ) → (p ≡ n → P x) → ((p ≡ n → ⊥) → P (f p)) → P (put f n x p)
 put-split P f n x p h k = go (eqb p n) refl
   where
     go : (b : Bool) → eqb p n ≡ b → P (b ⇒ x else f p)
     go true e = h (eqb-true p n e)
     go false e = k (eqb-false p n e)
 
-put-self : {A : Type 0} (f : ℕ → A) (n p : ℕ) (a : A) → a ≡ f n → put f n a p ≡ f p
+pub put-self : {A : Type 0} (f : ℕ → A) (n p : ℕ) (a : A) → a ≡ f n → put f n a p ≡ f p
 put-self f n p a e = put-split (λ x. x ≡ f p) f n a p (λ q. e ∙ ap f (sym q)) (λ ne. refl)
 
 put-map : {A B : Type 0} (g : A → B) (f : ℕ → A) (n p : ℕ) (a : A) → g (put f n a p) ≡ put (λ q. g (f q)) n (g a) p
@@ -61,66 +58,13 @@ effect-cong ms ks e c (forks child segments) refused p v w = e p v
 effect-cong ms ks e c (forks child segments) ended p v w = put-cong ms ks (c .number) p _ _ refl (e p v)
 effect-cong ms ks e c plain o p v w = put-cong ms ks (c .number) p _ _ (ap (λ m. feed m (c .ask) o) (e (c .number) w)) (e p v)
 
-effect-refused : (ms : ℕ → Machine) (c : Call) (k : Kind) (p : ℕ) → effect ms c k refused p ≡ ms p
+pub effect-refused : (ms : ℕ → Machine) (c : Call) (k : Kind) (p : ℕ) → effect ms c k refused p ≡ ms p
 unfolding effect
 effect-refused ms c begins p = refl
 effect-refused ms c (forks child segments) p = refl
 effect-refused ms c plain p = put-self ms (c .number) p _ refl
 
--- ---- what an outcome tells of the tests before it
-
-refusing : (t : Bool) (k : ℕ) (d : Ask) (x : Reply) (o : Outcome) → outcome (t ⇒ refuse k d else x) ≡ o → (o ≡ refused → ⊥) → (t ≡ false) × (outcome x ≡ o)
-refusing true k d x o e h = absurd (h (sym e))
-refusing false k d x o e h = (refl, e)
-
-accepted≢ : accepted ≡ refused → ⊥
-accepted≢ e = let z : _≡_ {A = ℕ} 0 1 = cc in omega arith
-
-ended≢ : ended ≡ refused → ⊥
-ended≢ e = let z : _≡_ {A = ℕ} 0 1 = cc in omega arith
-
--- who had to live lived
-lived : (m : Machine) (f : ℕ) (t : ℕ → Bool) (c : Call) (o : Outcome) → outcome (judge m f t c) ≡ o → (o ≡ refused → ⊥) → living t (c .number) (kind (c .ask)) ≡ true
-unfolding judge
-lived m f t c o e h =
-    let a5 : Reply = not (unclaimed t (c .number) (kind (c .ask))) ⇒ refuse 5 (c .ask) else weigh m f (c .ask) in
-    let a4 : Reply = not (living t (c .number) (kind (c .ask))) ⇒ refuse 4 (c .ask) else a5 in
-    let a3 : Reply = not (numbered (c .number) (kind (c .ask))) ⇒ refuse 3 (c .ask) else a4 in
-    let a2 : Reply = not (listFits m (c .number) (kind (c .ask))) ⇒ refuse 2 (c .ask) else a3 in
-    let h1 = refusing (not (lengthsFit (c .ask))) 1 (c .ask) a2 o e h in
-    let h2 = refusing (not (listFits m (c .number) (kind (c .ask)))) 2 (c .ask) a3 o (h1 .1) h in
-    let h3 = refusing (not (numbered (c .number) (kind (c .ask)))) 3 (c .ask) a4 o (h2 .1) h in
-    let h4 = refusing (not (living t (c .number) (kind (c .ask)))) 4 (c .ask) a5 o (h3 .1) h in
-    un-not _ (h4 .0)
-
--- a number outside 1 to 16 is refused, whatever the machine
-stray-list : (m : Machine) (n : ℕ) (k : Kind) → valid n ≡ false → listFits m n k ≡ true
-stray-list m n begins v = refl
-stray-list m n (forks child segments) v = rw v
-stray-list m n plain v = refl
-
-stray-number : (n : ℕ) (k : Kind) → valid n ≡ false → numbered n k ≡ false
-stray-number n begins v = v
-stray-number n (forks child segments) v = rw v
-stray-number n plain v = v
-
-abbrev strayAnswer : Call → Reply
-strayAnswer c = not (lengthsFit (c .ask)) ⇒ refuse 1 (c .ask) else refuse 3 (c .ask)
-
-stray-chain : (a b d e g : Bool) (x y z u v w : Reply) → b ≡ true → d ≡ false
-    → (not a ⇒ x else not b ⇒ y else not d ⇒ z else not e ⇒ u else not g ⇒ v else w) ≡ (not a ⇒ x else z)
-stray-chain a b d e g x y z u v w p q = rw (p, q)
-
-stray : (m : Machine) (f : ℕ) (t : ℕ → Bool) (c : Call) → valid (c .number) ≡ false → judge m f t c ≡ strayAnswer c
-unfolding judge
-stray m f t c v =
-    stray-chain (lengthsFit (c .ask)) (listFits m (c .number) (kind (c .ask))) (numbered (c .number) (kind (c .ask))) (living t (c .number) (kind (c .ask))) (unclaimed t (c .number) (kind (c .ask)))
-    (refuse 1 (c .ask)) (refuse 2 (c .ask)) (refuse 3 (c .ask)) (refuse 4 (c .ask)) (refuse 5 (c .ask)) (weigh m f (c .ask))
-    (stray-list m (c .number) (kind (c .ask)) v) (stray-number (c .number) (kind (c .ask)) v)
-
-stray-out : (t : Bool) (d : Ask) → outcome (not t ⇒ refuse 1 d else refuse 3 d) ≡ refused
-stray-out true d = refl
-stray-out false d = refl
+-- ---- what begins and what forks
 
 -- a process that forks goes on as it was
 fork-idle : (m : Machine) (q : Ask) (child : ℕ) (segments : List UserSegment) → kind q ≡ forks child segments → run m q ≡ m
@@ -184,10 +128,10 @@ module _ (l : Lines) (m : Machine) (f : ℕ) (t : ℕ → Bool) (c : Call) (a : 
       put-map machine (later l made (c .number)) child p (made ∷ l (c .number))
       ∙ put-cong (λ z. machine (later l made (c .number) z)) (λ z. machine (l z)) child p _ _ (ap (λ x. feed (machine (l (c .number))) (c .ask) x) r ∙ idle) (uncounted accepted r idle)
   line-law (forks child segments) refused q r e = uncounted refused r refl
-  line-law (forks child segments) ended q r e = counted ended r (sym (ap (living t (c .number)) q) ∙ lived m f t c ended e ended≢)
-  line-law plain accepted q r e = counted accepted r (sym (ap (living t (c .number)) q) ∙ lived m f t c accepted e accepted≢)
+  line-law (forks child segments) ended q r e = counted ended r (sym (ap (living t (c .number)) q) ∙ passed m f t c ended e ended≢ .lives)
+  line-law plain accepted q r e = counted accepted r (sym (ap (living t (c .number)) q) ∙ passed m f t c accepted e accepted≢ .lives)
   line-law plain refused q r e = uncounted refused r refl ∙ sym (put-self (λ z. machine (l z)) (c .number) p _ refl)
-  line-law plain ended q r e = counted ended r (sym (ap (living t (c .number)) q) ∙ lived m f t c ended e ended≢)
+  line-law plain ended q r e = counted ended r (sym (ap (living t (c .number)) q) ∙ passed m f t c ended e ended≢ .lives)
 
 -- ---- every answer of a grown line is explained
 
@@ -213,11 +157,6 @@ join-told l e p plain o q x y = later-told l e (e .asked .call .number) p x y
 
 -- ---- what is left to prove, of one state or of one call
 
-pub record Good (s : State) : Type 0 where
-  pub types : typed s ≡ true
-  pub sizes : sized (s .store) ≡ true
-  pub book : sound s ≡ true
-
 pub record Laws : Type 0 where
   pub first : (s : State) → Begin s → (n : ℕ) → valid n ≡ true → view s n ≡ off
   pub kept : (s : State) → Good s → (c : Call) → Good (after s c)
@@ -226,31 +165,15 @@ pub record Laws : Type 0 where
   pub pages : (s : State) → Good s → (n a : ℕ) → valid n ≡ true → heldPerm (view s n) a ≡ permAt (pieces (view s n .segments) (view s n .bss)) a
   pub numbers : (s : State) → Good s → (n : ℕ) → valid n ≡ true → taken s n ≡ not (length (view s n .segments) is 0)
 
--- in a sound book the answer is the table's over what the caller sees
-answer-chain : (a b d : Bool) (x y : Reply) (f : Bool → Reply) → a ≡ true → d ≡ true → f b ≡ (not b ⇒ x else f true) → (not (a && b) ⇒ x else not d ⇒ y else f b) ≡ f b
-answer-chain a true d x y f p q r = rw (p, q)
-answer-chain a false d x y f p q r = rw p (sym r)
-
-pub answered : (s : State) → Good s → (c : Call) → answer s c ≡ judge (view s (c .number)) (free (s .store .book)) (taken s) c
-unfolding answer judge
-answered s g c =
-    answer-chain (sized (s .store)) (lengthsFit (c .ask)) (sound s) (refuse 1 (c .ask)) (refuse 2 (c .ask))
-    (λ b. not b ⇒ refuse 1 (c .ask) else
-    not (listFits (view s (c .number)) (c .number) (kind (c .ask))) ⇒ refuse 2 (c .ask) else
-    not (numbered (c .number) (kind (c .ask))) ⇒ refuse 3 (c .ask) else
-    not (living (taken s) (c .number) (kind (c .ask))) ⇒ refuse 4 (c .ask) else
-    not (unclaimed (taken s) (c .number) (kind (c .ask))) ⇒ refuse 5 (c .ask) else
-    weigh (view s (c .number)) (free (s .store .book)) (c .ask)) (g .sizes) (g .book) refl
-
 module _ (laws : Laws) (s : State) (b : Begin s) where
-  good-after : (h : List Call) → Good (state s h)
+  pub good-after : (h : List Call) → Good (state s h)
   good-after [] = record { types = b .types; sizes = b .sizes; book = b .book }
   good-after (c ∷ h) = laws .kept (state s h) (good-after h) c
 
-  abbrev Seen : List Call → Type 0
+  abbrev pub Seen : List Call → Type 0
   Seen h = (p : ℕ) → valid p ≡ true → view (state s h) p ≡ machine (lines s h p)
 
-  heard : (h : List Call) → Seen h → (c : Call) → answer (state s h) c ≡ judge (machine (lines s h (c .number))) (free (state s h .store .book)) (taken (state s h)) c
+  pub heard : (h : List Call) → Seen h → (c : Call) → answer (state s h) c ≡ judge (machine (lines s h (c .number))) (free (state s h .store .book)) (taken (state s h)) c
   heard h ih c = answered (state s h) (good-after h) c ∙ go (valid (c .number)) refl
     where
       go : (v : Bool) → valid (c .number) ≡ v
@@ -272,7 +195,7 @@ module _ (laws : Laws) (s : State) (b : Begin s) where
           ∙ effect-refused (view (state s h)) c (kind (c .ask)) p ∙ ih p vp ∙ sym (effect-refused (λ q. machine (lines s h q)) c (kind (c .ask)) p)
           ∙ ap (λ o. effect (λ q. machine (lines s h q)) c (kind (c .ask)) o p) (sym out)
 
-  seen-after : (h : List Call) → Seen h
+  pub seen-after : (h : List Call) → Seen h
   seen-after [] p v = laws .first s b p v
   seen-after (c ∷ h) p v =
       laws .seen (state s h) (good-after h) c p v

@@ -13,7 +13,8 @@ use Rattle.spec.specs.Book.{pageOf, ownerOf, permOf, frameOf, permIn, bookPerm,
 use Rattle.spec.specs.Sound.{once, gives, booked, recorded}
 use Rattle.spec.specs.declared.UserSegment.{UserSegment}
 use Rattle.laws.proofs.Pieces.{perm-here, perm-there, aligned, aligned-means, Apart}
-use Rattle.laws.proofs.Owned.{in-range, Once, frame-is, frame-means}
+use Rattle.laws.proofs.Frame.{Once, frame-is, frame-found}
+use Rattle.laws.proofs.Owned.{in-range}
 
 -- ---- the book has the pages of pieces, and no others
 
@@ -85,14 +86,14 @@ exact-means book n gs al bk rc page z = go (frameOf book n page) refl (permAt gs
     go : (f : Option ℕ) → frameOf book n page ≡ f → (o : Option ℕ) → permAt gs page ≡ o → bookPerm book n page ≡ permAt gs page
     go none e none h = ap (permIn book) e ∙ sym h
     go none e (some q) h = in-book book n gs al bk page q z h ∙ sym h
-    go (some k) e o h =
-        let m = frame-means book n page k e in
-        ap (permIn book) e ∙ sym (recorded-at book n gs rc k (m .1) (m .2)) ∙ ap (permAt gs) (m .3)
+    go (some k) e r h =
+        let o = frame-found book n page k e .1 in
+        ap (permIn book) e ∙ sym (recorded-at book n gs rc k (o .used) (o .owner)) ∙ ap (permAt gs) (o .page)
 
 pub exact-recorded : (book : List ℕ) (n : ℕ) (gs : List UserSegment) → Once book → ((page : ℕ) → page % 4096 ≡ 0 → bookPerm book n page ≡ permAt gs page) → all (recorded n gs) book ≡ true
 exact-recorded book n gs once x =
     recorded-test book n gs (λ k nz o.
-    sym (x (pageOf (getD book k 0)) (omega arith)) ∙ ap (permIn book) (frame-is book once k n (pageOf (getD book k 0)) nz o refl))
+    sym (x (pageOf (getD book k 0)) (omega arith)) ∙ ap (permIn book) (frame-is book n (pageOf (getD book k 0)) k once (record { used = nz; owner = o; page = refl })))
 
 pub exact-booked : (book : List ℕ) (n : ℕ) (gs : List UserSegment) → all aligned gs ≡ true → Apart gs → ((page : ℕ) → page % 4096 ≡ 0 → bookPerm book n page ≡ permAt gs page) → all (booked book n) gs ≡ true
 exact-booked book n gs al apart x = booked-test book n gs al apart (λ a q z e. x a z ∙ e)

@@ -17,7 +17,8 @@ use Rattle.spec.specs.declared.Procs.{Procs}
 use Rattle.laws.proofs.Record.{WholeProc, Whole, dead-zero}
 use Rattle.laws.proofs.Shape.{segments-shape, shape-segments}
 use Rattle.laws.proofs.Pieces.{perm-page, aligned, shape-aligned, shape-apart, zero-pieces}
-use Rattle.laws.proofs.Owned.{valid-means, valid-test, word-means, word-test, in-range, Once, once-means, once-test, frame-means}
+use Rattle.laws.proofs.Frame.{Once, once-means, once-words, frame-found}
+use Rattle.laws.proofs.Owned.{valid-means, valid-test, word-means, word-test, in-range, once-tells, once-test}
 use Rattle.laws.proofs.Exact.{some-none, exact-means, exact-recorded, exact-booked}
 
 -- ---- one process
@@ -87,7 +88,7 @@ sound-test book ps w o f =
 pub sound-facts : (book : List ℕ) (ps : Procs) → Whole ps → soundBook book ps ≡ true → Sound book ps
 sound-facts book ps w e = record {
   words = words;
-  once = once-means book (λ k nz. words k nz .owner .0) (parts .1);
+  once = once-words book (λ k nz. words k nz .owner .0) (once-tells book (parts .1));
   shape = λ n v. proc-shape book n (procAt ps n) (w .each (n - 1)) (parts .2 n v);
   exact = λ n page v. proc-exact book n (procAt ps n) (w .each (n - 1)) (parts .2 n v) page;
 }
@@ -101,8 +102,8 @@ sound-facts book ps w e = record {
 -- and a sound book passes it
 pub facts-sound : (book : List ℕ) (ps : Procs) → Whole ps → Sound book ps → soundBook book ps ≡ true
 facts-sound book ps w s =
-    sound-test book ps (all-test wordOk 0 book (λ k l. word-test (getD book k 0) (s .words k))) (once-test book (s .once))
-    (λ n v. proc-test book n (procAt ps n) (w .each (n - 1)) (s .once) (s .shape n v) (λ page. s .exact n page v))
+    sound-test book ps (all-test wordOk 0 book (λ k l. word-test (getD book k 0) (s .words k))) (once-test book (once-means book (s .once)))
+    (λ n v. proc-test book n (procAt ps n) (w .each (n - 1)) (once-means book (s .once)) (s .shape n v) (λ page. s .exact n page v))
 
 -- ---- what a sound book says of one process
 
@@ -124,17 +125,16 @@ dead-frame book ps w s n v d page = go (frameOf book n page) refl
     go : (o : Option ℕ) → frameOf book n page ≡ o → o ≡ none
     go none e = refl
     go (some k) e =
-        let m = frame-means book n page k e in
-        let aligned : page % 4096 ≡ 0 = omega (arith, m .3) in
+        let aligned : page % 4096 ≡ 0 = omega (arith, frame-found book n page k e .1 .page) in
         some-none (bookPerm book n page) (permOf (getD book k 0)) (ap (permIn book) e)
         (s .exact n page v aligned ∙ ap (λ (p : Proc). permAt (piecesOf p) page) (dead-zero (procAt ps n) (w .each (n - 1)) d) ∙ zero-pieces page)
 
 -- an address whose page is found lies below UADDRTOP, from UTZERO on
 pub found-between : (book : List ℕ) (ps : Procs) → Sound book ps → (n a k : ℕ) → frameOf book n (pageDown a) ≡ some k → (utzero ≤ a) × (a < uaddrtop)
 found-between book ps s n a k e =
-    let m = frame-means book n (pageDown a) k e in
-    let w = s .words k (m .1) in
-    (omega (arith, m .3, w .page .0), omega (arith, m .3, w .page .1))
+    let o = frame-found book n (pageDown a) k e .1 in
+    let w = s .words k (o .used) in
+    (omega (arith, o .page, w .page .0), omega (arith, o .page, w .page .1))
 
 -- and a record gives permissions 1 to 3
 pub sound-between : (book : List ℕ) (ps : Procs) → Whole ps → Sound book ps → (n a q : ℕ) → valid n ≡ true → permAt (piecesOf (procAt ps n)) a ≡ some q → (1 ≤ q) × (q ≤ 3)
@@ -145,5 +145,4 @@ sound-between book ps w s n a q v e = go (frameOf book n (pageDown a)) refl
     go (some k) f =
         let r : some (permOf (getD book k 0)) ≡ some q = sym (ap (permIn book) f) ∙ sound-perm book ps w s n a v ∙ e in
         let same : permOf (getD book k 0) ≡ q = cc in
-        let m = frame-means book n (pageDown a) k f in
-        rw (← same) (s .words k (m .1) .perm)
+        rw (← same) (s .words k (frame-found book n (pageDown a) k f .1 .used) .perm)

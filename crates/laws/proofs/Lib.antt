@@ -1,7 +1,26 @@
--- Laws of the definitions that the calls' proofs and the proof of demand 3 cite.
+-- Laws of the definitions. Of frames and book: above these nothing reasons about frame numbers or words.
+pub mod Lists
+pub mod Frame
+pub mod Pokes
+pub mod Release
+pub mod Place
+pub mod Apart
+pub mod Pages
+pub mod Placed
+pub mod Contents
+pub mod Allowed
+pub mod Cursor
+pub mod Count
+-- Of records and soundness: the test and the facts are equivalent.
 pub mod Record
 pub mod Shape
 pub mod Pieces
 pub mod Owned
 pub mod Exact
 pub mod Facts
+-- Theorems of the definitions alone.
+pub mod Begins
+pub mod Accepted
+pub mod Started
+pub mod Turns
+pub mod Buffers

@@ -9,12 +9,13 @@ use lib.Dec.{ltb}
 use borrow.Author.Tests.{eqb-true, ltb-true, ltb-false, eq-eqb, lt-ltb, le-ltb}
 use Rattle.spec.proofs.Bools.{split, both, and-test, within-means, all-app}
 use Rattle.spec.specs.Tests.{_is_, _below_, _⇒_else_, all}
-use Rattle.spec.specs.Numbers.{utzero, limit, pageUp, pageDown}
+use Rattle.spec.specs.Numbers.{utzero, uaddrtop, limit, pageUp, pageDown}
 use Rattle.spec.specs.Book.{stack, bssSegment, inSegment, permAt, zeroProc, piecesOf}
 use Rattle.spec.specs.Sound.{Shape}
 use Rattle.spec.specs.declared.VirtRange.{VirtRange}
 use Rattle.spec.specs.declared.UserSegment.{UserSegment}
 use Rattle.spec.specs.declared.Proc.{Proc}
+use Rattle.laws.proofs.Lists.{Each, each-append}
 use Rattle.laws.proofs.Shape.{Image, imageEnd, Bss, image-top, shape-image, shape-bss, shape-used}
 
 -- ---- an address in a segment
@@ -177,3 +178,32 @@ shape-apart p image h =
 -- and a dead record's give nothing
 pub zero-pieces : (a : ℕ) → permAt (piecesOf zeroProc) a ≡ none
 zero-pieces a = rw (le-ltb a 0 (omega arith))
+
+-- ---- what holds of all pieces holds of what they give an address
+
+pub perm-between : (low high : ℕ) (gs : List UserSegment) → Each (λ g. (low ≤ g .range .start) × (g .range .end ≤ high)) gs → (a q : ℕ) → permAt gs a ≡ some q → (low ≤ a) × (a < high)
+perm-between low high [] h a q e = absurd (let z : _≡_ {A = ℕ} 0 1 = cc in omega arith)
+perm-between low high (g ∷ gs) h a q e =
+    split (inSegment a g)
+    (λ i. let w = within-means (g .range .start) (g .range .end) a i in (omega (arith, h .0 .0, w .0), omega (arith, h .0 .1, w .1)))
+    (λ i. perm-between low high gs (h .1) a q (rw i at e))
+
+pub perm-each : (P : ℕ → Type 0) (gs : List UserSegment) → Each (λ g. P (g .perm)) gs → (a q : ℕ) → permAt gs a ≡ some q → P q
+perm-each P [] h a q e = absurd (let z : _≡_ {A = ℕ} 0 1 = cc in omega arith)
+perm-each P (g ∷ gs) h a q e =
+    split (inSegment a g)
+    (λ i. let w : some (g .perm) ≡ some q = rw i at e in let same : g .perm ≡ q = cc in rw (← same) (h .0))
+    (λ i. perm-each P gs (h .1) a q (rw i at e))
+
+-- a living process's pages lie in user memory
+pub image-between : (end : ℕ) (image : List UserSegment) (bss : VirtRange) → Image end image → Bss (imageEnd end image) bss
+    → (a q : ℕ) → permAt (image ++ stack ∷ bssSegment bss ∷ []) a ≡ some q → (utzero ≤ a) × (a < uaddrtop)
+image-between end image bss i h =
+    perm-between utzero uaddrtop (image ++ stack ∷ bssSegment bss ∷ []) (each-append _ image (stack ∷ bssSegment bss ∷ []) (each end image i) ((omega arith, omega arith), ((omega (arith, h .start), omega (arith, h .low)), tt)))
+  where
+    each : (end : ℕ) (image : List UserSegment) → Image end image → Each (λ g. (utzero ≤ g .range .start) × (g .range .end ≤ uaddrtop)) image
+    each end [] i = tt
+    each end (g ∷ image) i = ((i .0 .between .0, omega (arith, i .0 .between .1)), each (g .range .end) image (i .2))
+
+pub shape-between : (p : Proc) (image : List UserSegment) → Shape p image → (a q : ℕ) → permAt (piecesOf p) a ≡ some q → (utzero ≤ a) × (a < uaddrtop)
+shape-between p image h a q e = image-between utzero image (p .bss) (shape-image p image h) (shape-bss p image h) a q (ap (λ (x : List UserSegment). permAt x a) (sym (shape-pieces p image h)) ∙ e)

@@ -17,7 +17,8 @@ use Rattle.spec.specs.declared.Procs.{Procs}
 use Rattle.spec.proofs.Bools.{split, all-at, all-test, below-at, below-test, within-test}
 use Rattle.spec.proofs.Words.{unpack, repack}
 use Rattle.laws.proofs.Record.{Whole, WholeProc}
-use Rattle.laws.proofs.Owned.{valid-means, valid-test, in-range, Once, frame-is, frame-means}
+use Rattle.laws.proofs.Owned.{valid-means, valid-test, in-range}
+use Rattle.sound.proofs.Frames.{Once, frame-is, frame-means}
 use Rattle.laws.proofs.Exact.{some-none}
 use Rattle.laws.proofs.Facts.{sound-facts, facts-sound, sound-between}
 use Rattle.sound.specs.Records.{passes}

@@ -14,7 +14,8 @@ use Rattle.spec.specs.declared.Found.{Found}
 use Rattle.spec.specs.declared.Found.the-variants.{At, Nothing}
 use Rattle.spec.specs.declared.Procs.{Procs}
 use Rattle.laws.proofs.Record.{Whole}
-use Rattle.laws.proofs.Owned.{in-range, frame-is, frame-means}
+use Rattle.laws.proofs.Owned.{in-range}
+use Rattle.sound.proofs.Frames.{frame-is, frame-means}
 use Rattle.sound.specs.Records.{passes}
 use Rattle.sound.specs.Plan.{owner, hits, nth, rank, Plan, LaidAll}
 use Rattle.sound.specs.Table.{frameWith, entry, answerOf, foundOf, Planned, Tabled, Ready}

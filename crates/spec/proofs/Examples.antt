@@ -1,12 +1,11 @@
--- The worked examples of the scope: what the definitions give, beside what the paper says, and one proof.
--- Assumes nothing.
+-- The worked examples of the scope: what the definitions give, beside what the scope says, and one proof.
 use mathlib.Core.Path.{_≡_, refl}
 use mathlib.Core.Bool.{Bool, true, false, _&&_}
 use mathlib.Core.Option.{Option, none, some}
 use mathlib.Core.List.{List, [], _∷_, _++_, map}
-use Prim.Native.Nat.{ℕ, _+_, _-_, _^_}
-use lib.ListN.{replicate, length}
-use Rattle.spec.specs.Tests.{_is_, _⇒_else_, all, same}
+use Prim.Native.Nat.{ℕ, zero, suc, _+_, _-_, _^_}
+use lib.ListN.{replicate, length, set}
+use Rattle.spec.specs.Tests.{_is_, _⇒_else_, all, same, ascii}
 use Rattle.spec.specs.Numbers.{utzero, limit, ustktop, leBytes}
 use Rattle.spec.specs.Name.{elem, kstrcpy}
 use Rattle.spec.specs.Book.{range, segment, sameSegment, pageCount}
@@ -19,7 +18,7 @@ use Rattle.spec.specs.Listing.{listError, listing}
 -- an ELF header whose unlisted fields are valid or 0, and a program header
 abbrev pub ehdr : ℕ → ℕ → ℕ → List ℕ
 ehdr entry phoff phnum =
-    (127 ∷ 69 ∷ 76 ∷ 70 ∷ 2 ∷ 1 ∷ 1 ∷ []) ++ replicate 9 0
+    (127 ∷ ascii "ELF" ++ 2 ∷ 1 ∷ 1 ∷ []) ++ replicate 9 0
     ++ leBytes 2 2 ++ leBytes 2 183 ++ leBytes 4 1 ++ leBytes 8 entry ++ leBytes 8 phoff ++ replicate 14 0 ++ leBytes 2 56 ++ leBytes 2 phnum ++ replicate 6 0
 
 abbrev pub phdr : ℕ → ℕ → ℕ → ℕ → ℕ → List ℕ
@@ -34,8 +33,16 @@ one flags offset vaddr filesz memsz = ehdr 65652 64 1 ++ phdr flags offset vaddr
 abbrev pub image184 : List ℕ
 image184 = ehdr 65712 64 2 ++ phdr 5 0 65536 180 180 ++ phdr 6 180 69812 4 8000 ++ replicate 4 170 ++ 1 ∷ 2 ∷ 3 ∷ 4 ∷ []
 
+-- k text headers, a page each, and an image of nothing else
+abbrev pub texts : ℕ → ℕ → List ℕ
+texts zero vaddr = []
+texts (suc k) vaddr = phdr 5 0 vaddr 120 120 ++ texts k (vaddr + 4096)
+
+abbrev pub many : ℕ → List ℕ
+many k = ehdr 65652 64 k ++ texts k 65536
+
 abbrev pub lex-mot : List (List ℕ)
-lex-mot = (108 ∷ 101 ∷ 120 ∷ []) ∷ (109 ∷ 111 ∷ 116 ∷ []) ∷ []
+lex-mot = ascii "lex" ∷ ascii "mot" ∷ []
 
 -- what the definitions give, and what the scope says
 abbrev pub starred : List (ℕ × ℕ)
@@ -75,6 +82,30 @@ unstarred =
     ∷ (userRangeOk (λ a. none) false (2 ^ 47) 0 ⇒ 1 else 0, 1)
     ∷ (userRangeOk (λ a. none) false (2 ^ 47 + 1) 0 ⇒ 1 else 0, 0)
     ∷ (copyStr (λ a. none) [] 7 .size, 0)
+    ∷ (elfError (set image184 0 126), 12)
+    ∷ (elfError (set image184 4 1), 13)
+    ∷ (elfError (set image184 5 2), 14)
+    ∷ (elfError (set image184 6 0), 15)
+    ∷ (elfError (set image184 20 2), 15)
+    ∷ (elfError (set image184 16 3), 16)
+    ∷ (elfError (set image184 18 62), 17)
+    ∷ (elfError (set image184 54 64), 18)
+    ∷ (elfError (set image184 24 177), 19)
+    ∷ (elfError (set image184 57 1), 20)
+    ∷ (elfError (set image184 153 32), 21)
+    ∷ (elfError (set image184 152 5), 22)
+    ∷ (elfError (set image184 136 181), 23)
+    ∷ (elfError (set image184 124 2), 25)
+    ∷ (elfError (set image184 137 0), 26)
+    ∷ (elfError (one 5 0 65536 117 120), 0)
+    ∷ (elfError (one 5 0 65536 116 120), 27)
+    ∷ (imageError (set image184 137 0), 30)
+    ∷ (imageError (ehdr 116 64 1 ++ phdr 5 0 0 120 120), 30)
+    ∷ (imageError (one 5 0 65536 120 (limit - 65536)), 0)
+    ∷ (imageError (one 5 0 65536 120 (limit - 65535)), 30)
+    ∷ (imageError (ehdr 73844 64 2 ++ phdr 6 0 65536 120 120 ++ phdr 5 0 73728 120 120), 30)
+    ∷ (imageError (many 15), 0)
+    ∷ (imageError (many 16), 31)
     ∷ (length image184, 184)
     ∷ (imageError image184, 0)
     ∷ (entry image184, 65712)
@@ -89,7 +120,20 @@ unstarred =
 
 -- the listing's five lines
 abbrev pub lines184 : List ℕ
-lines184 = 101 ∷ 110 ∷ 116 ∷ 114 ∷ 121 ∷ 61 ∷ 54 ∷ 53 ∷ 55 ∷ 49 ∷ 50 ∷ 10 ∷ 115 ∷ 101 ∷ 103 ∷ 109 ∷ 101 ∷ 110 ∷ 116 ∷ 61 ∷ 116 ∷ 101 ∷ 120 ∷ 116 ∷ 32 ∷ 54 ∷ 53 ∷ 53 ∷ 51 ∷ 54 ∷ 32 ∷ 54 ∷ 57 ∷ 54 ∷ 51 ∷ 50 ∷ 10 ∷ 115 ∷ 101 ∷ 103 ∷ 109 ∷ 101 ∷ 110 ∷ 116 ∷ 61 ∷ 100 ∷ 97 ∷ 116 ∷ 97 ∷ 32 ∷ 54 ∷ 57 ∷ 54 ∷ 51 ∷ 50 ∷ 32 ∷ 55 ∷ 51 ∷ 55 ∷ 50 ∷ 56 ∷ 10 ∷ 98 ∷ 115 ∷ 115 ∷ 61 ∷ 54 ∷ 57 ∷ 56 ∷ 49 ∷ 54 ∷ 32 ∷ 55 ∷ 55 ∷ 56 ∷ 50 ∷ 52 ∷ 10 ∷ 112 ∷ 97 ∷ 103 ∷ 101 ∷ 115 ∷ 61 ∷ 55 ∷ 10 ∷ []
+lines184 = ascii "entry=65712\nsegment=text 65536 69632\nsegment=data 69632 73728\nbss=69816 77824\npages=7\n"
+
+-- names: an element, 27 bytes as they are, 28 cut at 24, a cut before a byte that continues a character, and at place 0
+abbrev pub names : List (List ℕ × List ℕ)
+names =
+    (elem (ascii "bin/rc/lex"), ascii "lex")
+    ∷ (elem (ascii "lex/"), [])
+    ∷ (elem (ascii "lex"), ascii "lex")
+    ∷ (kstrcpy (replicate 27 97), replicate 27 97 ++ 0 ∷ [])
+    ∷ (kstrcpy (replicate 28 97), replicate 24 97 ++ ascii "..." ++ 0 ∷ [])
+    ∷ (kstrcpy (replicate 23 97 ++ replicate 5 128), replicate 22 97 ++ ascii "..." ++ replicate 3 0)
+    ∷ (kstrcpy (replicate 22 97 ++ 195 ∷ replicate 6 191), replicate 22 97 ++ ascii "..." ++ replicate 3 0)
+    ∷ (kstrcpy (replicate 28 128), ascii "..." ++ replicate 25 0)
+    ∷ []
 
 abbrev pub agree : List (ℕ × ℕ) → Bool
 agree rows = all (λ row. row .0 is row .1) rows
@@ -105,3 +149,6 @@ unstarred-hold = refl
 pub listing-holds : listing image184 ≡ lines184
 unfolding ehdrError phdrs phdrError segmentsOf elfError listError listing
 listing-holds = refl
+
+pub names-hold : all (λ row. same _is_ (row .0) (row .1)) names ≡ true
+names-hold = refl

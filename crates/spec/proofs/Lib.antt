@@ -2,6 +2,7 @@
 pub mod Bools
 pub mod Search
 pub mod Words
+pub mod Chain
 pub mod Near
 pub mod Taken
 pub mod ReadBack

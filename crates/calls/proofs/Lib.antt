@@ -1,0 +1,2 @@
+-- What the numbers that come first make of an answer.
+pub mod Answers

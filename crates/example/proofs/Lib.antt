@@ -1,0 +1,2 @@
+-- A history computed by the checker.
+pub mod Play

@@ -1,0 +1,64 @@
+-- A short history on the 184-byte image, computed: a process starts, writes, breaks and forks, and parent and child differ afterwards.
+use mathlib.Core.Path.{_≡_, refl}
+use mathlib.Core.Bool.{Bool, true, false, _&&_}
+use mathlib.Core.List.{List, [], _∷_, _++_, map}
+use Prim.Native.Nat.{ℕ, _+_, _-_, _*_}
+use lib.ListN.{replicate}
+use Rattle.spec.specs.Tests.{_is_, all, same, ascii}
+use Rattle.spec.specs.Numbers.{ustktop, pageBytes, zeroPage}
+use Rattle.spec.specs.Book.{zeroProc, segment, stack}
+use Rattle.spec.specs.Frames.{place, release, pokes}
+use Rattle.spec.specs.Sound.{soundBook}
+use Rattle.spec.specs.Elf.{ehdrError, phdrs, phdrError, segmentsOf, elfError}
+use Rattle.spec.specs.Exec.{argBuffer, copyArgv}
+use Rattle.spec.specs.Segment.{ibrk}
+use Rattle.spec.specs.Machine.{Ask, start, replace, push, break, fork, end, user-range-ok, copy-from-user, copy-to-user, try-copy-str-from-user, Call, Reply, numberOf, valueOf, judge}
+use Rattle.spec.specs.World.{State, answer, after}
+use Rattle.spec.proofs.Examples.{image184}
+
+-- frames and book with no process
+abbrev fresh : ℕ → State
+fresh n = record { store = record { frames = replicate (4096 * n) 0; book = replicate n 0 }; procs = record { all = replicate 16 zeroProc } }
+
+abbrev call : ℕ → Ask → Call
+call n q = record { number = n; ask = q }
+
+-- the answers of calls, first call first
+abbrev play : State → List Call → List Reply
+play s [] = []
+play s (c ∷ cs) =
+    let t : State = after s c in
+    answer s c ∷ play t cs
+
+-- of an answer its number, its value and its buffer
+abbrev told : Reply → List ℕ
+told r = numberOf (r .says) ∷ valueOf (r .says) ∷ r .buffer
+
+-- the process starts with two arguments; its data hold file bytes; it writes; its break grows and the new page is zero; it forks; each
+-- writes its own byte and reads its own; the break shrinks inside a page and the tail stays; a string is read; a bad range ends the child
+abbrev calls : List Call
+calls =
+    call 1 (start image184 (ascii "bin/lex") (ascii "lexmot") (3 ∷ 3 ∷ []))
+    ∷ call 1 (copy-from-user (replicate 6 9) 69812)
+    ∷ call 1 (copy-to-user 73730 (5 ∷ 6 ∷ []))
+    ∷ call 1 (break 77825)
+    ∷ call 1 (copy-from-user (replicate 3 9) 77823)
+    ∷ call 1 (fork 2 (segment 65536 69632 1 ∷ segment 69632 73728 3 ∷ stack ∷ []))
+    ∷ call 2 (copy-to-user 73730 (7 ∷ []))
+    ∷ call 1 (copy-from-user (replicate 2 9) 73730)
+    ∷ call 2 (copy-from-user (replicate 2 9) 73730)
+    ∷ call 1 (break 73729)
+    ∷ call 1 (copy-from-user (replicate 2 9) 73730)
+    ∷ call 1 (user-range-ok 77823 1 false)
+    ∷ call 1 (try-copy-str-from-user (replicate 5 9) (ustktop - 8))
+    ∷ call 2 (copy-to-user 65536 (1 ∷ []))
+    ∷ call 2 (break 0)
+    ∷ call 1 end
+    ∷ []
+
+pub played : map told (play (fresh 16) calls)
+    ≡ (0 ∷ 0 ∷ []) ∷ (0 ∷ 0 ∷ 1 ∷ 2 ∷ 3 ∷ 4 ∷ 0 ∷ 0 ∷ []) ∷ (0 ∷ 0 ∷ []) ∷ (0 ∷ 0 ∷ []) ∷ (0 ∷ 0 ∷ 0 ∷ 0 ∷ 0 ∷ []) ∷ (0 ∷ 0 ∷ []) ∷ (0 ∷ 0 ∷ [])
+    ∷ (0 ∷ 0 ∷ 5 ∷ 6 ∷ []) ∷ (0 ∷ 0 ∷ 7 ∷ 6 ∷ []) ∷ (0 ∷ 0 ∷ []) ∷ (0 ∷ 0 ∷ 5 ∷ 6 ∷ []) ∷ (0 ∷ 1 ∷ []) ∷ (0 ∷ 3 ∷ 108 ∷ 101 ∷ 120 ∷ 9 ∷ 9 ∷ [])
+    ∷ (35 ∷ 0 ∷ []) ∷ (4 ∷ 0 ∷ []) ∷ (0 ∷ 0 ∷ []) ∷ []
+unfolding ehdrError phdrs phdrError segmentsOf elfError ibrk argBuffer copyArgv place release pokes soundBook pageBytes zeroPage judge answer after
+played = refl

@@ -1,0 +1,106 @@
+-- A call that changes one process and leaves all others: the state stays good, and each process sees what the machine says.
+use Prim.Native.Nat.{ℕ, _-_, _%_}
+use native.Mathlib.Omega.{arith}
+use mathlib.Core.Path.{_≡_, refl, sym, ap, _∙_, subst}
+use mathlib.Core.Bool.{true}
+use lib.Dec.{eqb}
+use lib.Seq.{getD-set-same, getD-set-other}
+use borrow.Author.Tests.{eqb-true, eqb-false}
+use Rattle.spec.proofs.Bools.{split}
+use Rattle.spec.specs.Book.{valid, bookPerm, zeroProc, lives, used, permAt, pieces, piecesOf, procAt}
+use Rattle.spec.specs.Frames.{Store, Mem, memOf}
+use Rattle.spec.specs.Machine.{Machine, withMem}
+use Rattle.spec.specs.World.{State, view, setProc, withStore}
+use Rattle.spec.specs.History.{put, heldPerm}
+use Rattle.spec.specs.declared.Proc.{Proc}
+use Rattle.spec.specs.declared.Procs.{Procs}
+use Rattle.laws.proofs.Frame.{once-means, once-words, page-perm}
+use Rattle.laws.proofs.Record.{WholeProc, Whole, whole-typed, whole-set}
+use Rattle.laws.proofs.Owned.{valid-means}
+use Rattle.laws.proofs.Facts.{Shaped, facts-sound}
+use Rattle.history.proofs.Passed.{Good}
+use Rattle.history.proofs.Whole.{put-split}
+use Rattle.history.proofs.OneState.{known, pages}
+use Rattle.history.proofs.Stored.{Stored}
+
+-- a machine holds bytes for exactly its pieces' addresses, with their permissions
+abbrev pub Exact : Machine → Type 0
+Exact m = (a : ℕ) → heldPerm m a ≡ permAt (pieces (m .segments) (m .bss)) a
+
+-- from s to t process n comes to see m, and no other process sees a change
+pub record Change (s t : State) (n : ℕ) (m : Machine) : Type 0 where
+  pub stored : Stored (s .store) (t .store) n (m .mem)
+  pub whole : Whole (t .procs)
+  pub shape : lives (procAt (t .procs) n) ≡ true → Shaped (procAt (t .procs) n)
+  pub segments : used (procAt (t .procs) n .segments) ≡ m .segments
+  pub bss : procAt (t .procs) n .bss ≡ m .bss
+  pub exact : Exact m
+  pub proc-else : (q : ℕ) → valid q ≡ true → (q ≡ n → ⊥) → procAt (t .procs) q ≡ procAt (s .procs) q
+
+-- ---- what follows
+
+view-eq : (s t : State) (q : ℕ) → procAt (t .procs) q ≡ procAt (s .procs) q → memOf (t .store) q ≡ memOf (s .store) q → view t q ≡ view s q
+view-eq s t q e f = λ i. record { segments = used (e i .segments); bss = e i .bss; mem = f i }
+
+pub change-here : (s t : State) (n : ℕ) (m : Machine) → Change s t n m → view t n ≡ m
+change-here s t n m c = let x = c .segments in let y = c .bss in let z = c .stored .here in λ i. record { segments = x i; bss = y i; mem = z i }
+
+pub change-view : (s t : State) (n : ℕ) (m : Machine) → Change s t n m → (q : ℕ) → valid q ≡ true → view t q ≡ put (view s) n m q
+change-view s t n m c q v =
+    put-split (λ x. view t q ≡ x) (view s) n m q (λ e. ap (view t) e ∙ change-here s t n m c) (λ ne. view-eq s t q (c .proc-else q v ne) (c .stored .other q ne))
+
+pub change-good : (s t : State) → Good s → (n : ℕ) (m : Machine) → Change s t n m → Good t
+change-good s t g n m c = record {
+  types = whole-typed t (c .whole);
+  sizes = c .stored .sizes;
+  book =
+      facts-sound (t .store .book) (t .procs) (c .whole)
+      (record { words = c .stored .words; once = once-words (t .store .book) (λ k nz. c .stored .words k nz .owner .0) (c .stored .once); shape = shape; exact = exact });
+}
+  where
+    shape : (q : ℕ) → valid q ≡ true → lives (procAt (t .procs) q) ≡ true → Shaped (procAt (t .procs) q)
+    shape q v l =
+        split (eqb q n)
+        (λ e. let z = eqb-true q n e in rw z (c .shape (rw z at l)))
+        (λ e. let z = c .proc-else q v (eqb-false q n e) in rw z (known s g .facts .shape q v (rw z at l)))
+
+    exact : (q page : ℕ) → valid q ≡ true → page % 4096 ≡ 0 → bookPerm (t .store .book) q page ≡ permAt (piecesOf (procAt (t .procs) q)) page
+    exact q page v z =
+        let all : Exact (view t q) = subst Exact (sym (change-view s t n m c q v)) (put-split Exact (view s) n m q (λ e. c .exact) (λ ne a. pages s g q a v)) in
+        page-perm (t .store) q page z ∙ all page
+
+-- ---- a call that sets a record, and one that sets none
+
+-- frames and book as they are
+pub stored-self : (s : State) → Good s → (n : ℕ) → Stored (s .store) (s .store) n (view s n .mem)
+stored-self s g n = let k = known s g .facts in record { sizes = g .sizes; words = k .words; once = once-means (s .store .book) (k .once); here = refl; other = λ q ne. refl }
+
+proc-same : (ps : Procs) (n : ℕ) (p : Proc) → Whole ps → valid n ≡ true → procAt (setProc ps n p) n ≡ p
+proc-same ps n p w v = let i = valid-means n v in getD-set-same (ps .all) (n - 1) p zeroProc (omega (arith, i .0, i .1, w .records))
+
+proc-other : (ps : Procs) (n q : ℕ) (p : Proc) → valid n ≡ true → valid q ≡ true → (q ≡ n → ⊥) → procAt (setProc ps n p) q ≡ procAt ps q
+proc-other ps n q p v u ne = let i = valid-means n v in let j = valid-means q u in getD-set-other (ps .all) (n - 1) (q - 1) p zeroProc (λ z. ne (omega (arith, i .0, j .0)))
+
+-- what a record and a memory hold
+abbrev pub holds : Proc → Mem → Machine
+holds p mem = record { segments = used (p .segments); bss = p .bss; mem = mem }
+
+pub change-set : (s : State) → Good s → (n : ℕ) → valid n ≡ true → (m : Store) (p : Proc) (mem : Mem) → Stored (s .store) m n mem → WholeProc p → (lives p ≡ true → Shaped p) → Exact (holds p mem)
+    → Change s (record { store = m; procs = setProc (s .procs) n p }) n (holds p mem)
+change-set s g n v m p mem h w shape exact =
+    let k = known s g .whole in
+    let e = proc-same (s .procs) n p k v in
+    record {
+      stored = h;
+      whole = whole-set (s .procs) n p k w;
+      shape = rw e shape;
+      segments = ap (λ (x : Proc). used (x .segments)) e;
+      bss = ap (λ (x : Proc). x .bss) e;
+      exact = exact;
+      proc-else = λ q u ne. proc-other (s .procs) n q p v u ne;
+    }
+
+pub change-store : (s : State) → Good s → (n : ℕ) → valid n ≡ true → (m : Store) (mem : Mem) → Stored (s .store) m n mem → Exact (withMem (view s n) mem) → Change s (withStore s m) n (withMem (view s n) mem)
+change-store s g n v m mem h exact =
+    let k = known s g in
+    record { stored = h; whole = k .whole; shape = k .facts .shape n v; segments = refl; bss = refl; exact = exact; proc-else = λ q u ne. refl }

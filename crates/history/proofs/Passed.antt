@@ -1,0 +1,110 @@
+-- The tests 1 to 5: which a call has passed that is not refused, and that a number outside 1 to 16 is refused.
+use Prim.Native.Nat.{ℕ}
+use native.Mathlib.Omega.{arith}
+use mathlib.Core.Path.{_≡_, refl, sym}
+use mathlib.Core.Bool.{Bool, true, false, not, _&&_}
+use Rattle.spec.proofs.Bools.{both}
+use Rattle.spec.specs.Tests.{_⇒_else_}
+use Rattle.spec.specs.Book.{valid, free}
+use Rattle.spec.specs.Frames.{sized}
+use Rattle.spec.specs.Machine.{Ask, Call, Kind, begins, forks, plain, kind, Outcome, accepted, refused, ended, Reply, outcome, refuse, Machine, judge, weigh, lengthsFit, listFits, numbered, living, unclaimed}
+use Rattle.spec.specs.World.{State, sound, taken, view, answer}
+use Rattle.spec.specs.History.{typed}
+
+-- what holds after any list of calls
+pub record Good (s : State) : Type 0 where
+  pub types : typed s ≡ true
+  pub sizes : sized (s .store) ≡ true
+  pub book : sound s ≡ true
+
+-- in a sound book the answer is the table's over what the caller sees
+answer-chain : (a b d : Bool) (x y : Reply) (f : Bool → Reply) → a ≡ true → d ≡ true → f b ≡ (not b ⇒ x else f true) → (not (a && b) ⇒ x else not d ⇒ y else f b) ≡ f b
+answer-chain a true d x y f p q r = rw (p, q)
+answer-chain a false d x y f p q r = rw p (sym r)
+
+pub answered : (s : State) → Good s → (c : Call) → answer s c ≡ judge (view s (c .number)) (free (s .store .book)) (taken s) c
+unfolding answer judge
+answered s g c =
+    answer-chain (sized (s .store)) (lengthsFit (c .ask)) (sound s) (refuse 1 (c .ask)) (refuse 2 (c .ask))
+    (λ b. not b ⇒ refuse 1 (c .ask) else
+    not (listFits (view s (c .number)) (c .number) (kind (c .ask))) ⇒ refuse 2 (c .ask) else
+    not (numbered (c .number) (kind (c .ask))) ⇒ refuse 3 (c .ask) else
+    not (living (taken s) (c .number) (kind (c .ask))) ⇒ refuse 4 (c .ask) else
+    not (unclaimed (taken s) (c .number) (kind (c .ask))) ⇒ refuse 5 (c .ask) else
+    weigh (view s (c .number)) (free (s .store .book)) (c .ask)) (g .sizes) (g .book) refl
+
+-- ---- a call that is not refused
+
+pub accepted≢ : accepted ≡ refused → ⊥
+accepted≢ e = let z : _≡_ {A = ℕ} 0 1 = cc in omega arith
+
+pub ended≢ : ended ≡ refused → ⊥
+ended≢ e = let z : _≡_ {A = ℕ} 0 1 = cc in omega arith
+
+pub record Passed (m : Machine) (f : ℕ) (t : ℕ → Bool) (c : Call) (o : Outcome) : Type 0 where
+  pub lengths : lengthsFit (c .ask) ≡ true
+  pub list : listFits m (c .number) (kind (c .ask)) ≡ true
+  pub number : numbered (c .number) (kind (c .ask)) ≡ true
+  pub lives : living t (c .number) (kind (c .ask)) ≡ true
+  pub new : unclaimed t (c .number) (kind (c .ask)) ≡ true
+  pub weighed : outcome (weigh m f (c .ask)) ≡ o
+
+refusing : (t : Bool) (k : ℕ) (d : Ask) (x : Reply) (o : Outcome) → outcome (not t ⇒ refuse k d else x) ≡ o → (o ≡ refused → ⊥) → (t ≡ true) × (outcome x ≡ o)
+refusing true k d x o e h = (refl, e)
+refusing false k d x o e h = absurd (h (sym e))
+
+-- has passed 1 to 5, and comes to what its own tests give
+pub passed : (m : Machine) (f : ℕ) (t : ℕ → Bool) (c : Call) (o : Outcome) → outcome (judge m f t c) ≡ o → (o ≡ refused → ⊥) → Passed m f t c o
+unfolding judge
+passed m f t c o e h =
+    let a5 : Reply = not (unclaimed t (c .number) (kind (c .ask))) ⇒ refuse 5 (c .ask) else weigh m f (c .ask) in
+    let a4 : Reply = not (living t (c .number) (kind (c .ask))) ⇒ refuse 4 (c .ask) else a5 in
+    let a3 : Reply = not (numbered (c .number) (kind (c .ask))) ⇒ refuse 3 (c .ask) else a4 in
+    let a2 : Reply = not (listFits m (c .number) (kind (c .ask))) ⇒ refuse 2 (c .ask) else a3 in
+    let h1 = refusing (lengthsFit (c .ask)) 1 (c .ask) a2 o e h in
+    let h2 = refusing (listFits m (c .number) (kind (c .ask))) 2 (c .ask) a3 o (h1 .1) h in
+    let h3 = refusing (numbered (c .number) (kind (c .ask))) 3 (c .ask) a4 o (h2 .1) h in
+    let h4 = refusing (living t (c .number) (kind (c .ask))) 4 (c .ask) a5 o (h3 .1) h in
+    let h5 = refusing (unclaimed t (c .number) (kind (c .ask))) 5 (c .ask) (weigh m f (c .ask)) o (h4 .1) h in
+    record { lengths = h1 .0; list = h2 .0; number = h3 .0; lives = h4 .0; new = h5 .0; weighed = h5 .1 }
+
+-- and the other way round
+pub weighs : (m : Machine) (f : ℕ) (t : ℕ → Bool) (c : Call) → lengthsFit (c .ask) ≡ true → listFits m (c .number) (kind (c .ask)) ≡ true → numbered (c .number) (kind (c .ask)) ≡ true
+    → living t (c .number) (kind (c .ask)) ≡ true → unclaimed t (c .number) (kind (c .ask)) ≡ true → judge m f t c ≡ weigh m f (c .ask)
+unfolding judge
+weighs m f t c p q r s u = rw (p, q, r, s, u)
+
+pub valid-number : (n : ℕ) (k : Kind) → numbered n k ≡ true → valid n ≡ true
+valid-number n begins e = e
+valid-number n (forks child segments) e = both (valid n) (valid child) e .0
+valid-number n plain e = e
+
+-- ---- a number outside 1 to 16 is refused, whatever the machine
+
+stray-list : (m : Machine) (n : ℕ) (k : Kind) → valid n ≡ false → listFits m n k ≡ true
+stray-list m n begins v = refl
+stray-list m n (forks child segments) v = rw v
+stray-list m n plain v = refl
+
+stray-number : (n : ℕ) (k : Kind) → valid n ≡ false → numbered n k ≡ false
+stray-number n begins v = v
+stray-number n (forks child segments) v = rw v
+stray-number n plain v = v
+
+abbrev pub strayAnswer : Call → Reply
+strayAnswer c = not (lengthsFit (c .ask)) ⇒ refuse 1 (c .ask) else refuse 3 (c .ask)
+
+stray-chain : (a b d e g : Bool) (x y z u v w : Reply) → b ≡ true → d ≡ false
+    → (not a ⇒ x else not b ⇒ y else not d ⇒ z else not e ⇒ u else not g ⇒ v else w) ≡ (not a ⇒ x else z)
+stray-chain a b d e g x y z u v w p q = rw (p, q)
+
+pub stray : (m : Machine) (f : ℕ) (t : ℕ → Bool) (c : Call) → valid (c .number) ≡ false → judge m f t c ≡ strayAnswer c
+unfolding judge
+stray m f t c v =
+    stray-chain (lengthsFit (c .ask)) (listFits m (c .number) (kind (c .ask))) (numbered (c .number) (kind (c .ask))) (living t (c .number) (kind (c .ask))) (unclaimed t (c .number) (kind (c .ask)))
+    (refuse 1 (c .ask)) (refuse 2 (c .ask)) (refuse 3 (c .ask)) (refuse 4 (c .ask)) (refuse 5 (c .ask)) (weigh m f (c .ask))
+    (stray-list m (c .number) (kind (c .ask)) v) (stray-number (c .number) (kind (c .ask)) v)
+
+pub stray-out : (t : Bool) (d : Ask) → outcome (not t ⇒ refuse 1 d else refuse 3 d) ≡ refused
+stray-out true d = refl
+stray-out false d = refl

@@ -1,0 +1,54 @@
+-- Push and copy_to_user: bytes of one process written over.
+use Prim.Native.Nat.{ℕ, _+_, _-_}
+use mathlib.Core.Path.{_≡_, refl, _∙_}
+use mathlib.Core.Bool.{Bool, true, false}
+use mathlib.Core.Option.{Option, none, some}
+use mathlib.Core.List.{List}
+use lib.ListN.{length, getD}
+use Rattle.spec.specs.Tests.{within, _⇒_else_}
+use Rattle.spec.specs.Book.{valid}
+use Rattle.spec.specs.Frames.{Cell, Mem, Store, pokes}
+use Rattle.spec.specs.Access.{rewrite, write}
+use Rattle.spec.specs.Exec.{strings, stringsAt, argvAt, pointers, pushed}
+use Rattle.spec.specs.Machine.{Machine, withMem}
+use Rattle.spec.specs.World.{State, view, pushIn, withStore}
+use Rattle.spec.specs.History.{permIn}
+use Rattle.history.proofs.Passed.{Good}
+use Rattle.history.proofs.OneState.{pages}
+use Rattle.history.proofs.Stored.{Stored, stored-pokes}
+use Rattle.history.proofs.Change.{Exact, Change, stored-self, change-store}
+
+-- a byte written over keeps its page's permission
+pub perm-write : (a : ℕ) (bs : List ℕ) (mem : Mem) (x : ℕ) → permIn (write a bs mem x) ≡ permIn (mem x)
+perm-write a bs mem x = go (within a (a + length bs) x)
+  where
+    over : (c : Option Cell) → permIn (rewrite (getD bs (x - a) 0) c) ≡ permIn c
+    over none = refl
+    over (some c) = refl
+
+    go : (b : Bool) → permIn (b ⇒ rewrite (getD bs (x - a) 0) (mem x) else mem x) ≡ permIn (mem x)
+    go true = over (mem x)
+    go false = refl
+
+pub exact-write : (m : Machine) → Exact m → (a : ℕ) (bs : List ℕ) → Exact (withMem m (write a bs (m .mem)))
+exact-write m e a bs x = perm-write a bs (m .mem) x ∙ e x
+
+pub copy-change : (s : State) → Good s → (n : ℕ) → valid n ≡ true → (dst : ℕ) (bytes : List ℕ) → Change s (withStore s (pokes (s .store) n dst bytes)) n (withMem (view s n) (write dst bytes (view s n .mem)))
+copy-change s g n v dst bytes =
+    change-store s g n v (pokes (s .store) n dst bytes) (write dst bytes (view s n .mem)) (stored-pokes (s .store) (s .store) n (view s n .mem) (stored-self s g n) dst bytes)
+    (exact-write (view s n) (λ a. pages s g n a v) dst bytes)
+
+-- strings, then pointers
+pub exact-pushed : (m : Machine) → Exact m → (top : ℕ) (args : List (List ℕ)) → Exact (withMem m (pushed top args (m .mem)))
+exact-pushed m e top args =
+    exact-write (withMem m (write (stringsAt top args) (strings args) (m .mem))) (exact-write m e (stringsAt top args) (strings args)) (argvAt top args) (pointers (stringsAt top args) args)
+
+pub stored-pushed : (b m : Store) (n : ℕ) (mem : Mem) → Stored b m n mem → (top : ℕ) (args : List (List ℕ)) → Stored b (pushIn m n top args) n (pushed top args mem)
+stored-pushed b m n mem h top args =
+    stored-pokes b (pokes m n (stringsAt top args) (strings args)) n (write (stringsAt top args) (strings args) mem)
+    (stored-pokes b m n mem h (stringsAt top args) (strings args)) (argvAt top args) (pointers (stringsAt top args) args)
+
+pub push-change : (s : State) → Good s → (n : ℕ) → valid n ≡ true → (top : ℕ) (args : List (List ℕ)) → Change s (withStore s (pushIn (s .store) n top args)) n (withMem (view s n) (pushed top args (view s n .mem)))
+push-change s g n v top args =
+    change-store s g n v (pushIn (s .store) n top args) (pushed top args (view s n .mem)) (stored-pushed (s .store) (s .store) n (view s n .mem) (stored-self s g n) top args)
+    (exact-pushed (view s n) (λ a. pages s g n a v) top args)

@@ -1,0 +1,58 @@
+-- The premise of demand 3 is met: a book of zeros, with no process, is where calls may begin.
+use Prim.Native.Nat.{ℕ, zero, suc, _+_, _*_, _-_, _≤_}
+use native.Mathlib.Omega.{arith}
+use mathlib.Core.Path.{_≡_, refl, sym, ap, _∙_}
+use mathlib.Core.Bool.{Bool, true, false, _&&_}
+use mathlib.Core.List.{List}
+use lib.ListN.{length, getD, replicate, length-replicate}
+use borrow.Author.Tests.{eq-eqb}
+use Rattle.spec.proofs.Bools.{clash, and-test, within-test}
+use Rattle.spec.proofs.Search.{highest-none}
+use Rattle.spec.specs.Tests.{_is_, within}
+use Rattle.spec.specs.Numbers.{maxFrames}
+use Rattle.spec.specs.Book.{valid, owns, permIn, zeroProc, lives, permAt, procAt, piecesOf}
+use Rattle.spec.specs.Sound.{Sound}
+use Rattle.spec.specs.World.{State}
+use Rattle.spec.specs.History.{Begin}
+use Rattle.spec.specs.declared.Proc.{Proc}
+use Rattle.spec.specs.declared.Procs.{Procs}
+use Rattle.laws.proofs.Record.{typed-whole}
+use Rattle.laws.proofs.Pieces.{zero-pieces}
+use Rattle.laws.proofs.Facts.{facts-sound}
+
+-- n free frames with any bytes, and no process
+abbrev pub noProcs : Procs
+noProcs = record { all = replicate 16 zeroProc }
+
+abbrev pub blank : ℕ → List ℕ → State
+blank n frames = record { store = record { frames = frames; book = replicate n 0 }; procs = noProcs }
+
+getD-same : {A : Type 0} (n k : ℕ) (d : A) → getD (replicate n d) k d ≡ d
+getD-same zero k d = refl
+getD-same (suc n) zero d = refl
+getD-same (suc n) (suc k) d = getD-same n k d
+
+zero-book : (n : ℕ) → Sound (replicate n 0) noProcs
+zero-book n = record {
+  words = λ k nz. absurd (nz (getD-same n k 0));
+  once = λ j k nz. absurd (nz (getD-same n j 0));
+  shape = λ p v l. clash (lives (procAt noProcs p)) l (ap lives (getD-same 16 (p - 1) zeroProc));
+  exact = λ p page v z.
+      ap (permIn (replicate n 0)) (highest-none (λ k. owns p page (getD (replicate n 0) k 0)) (length (replicate n 0)) (λ k l. ap (owns p page) (getD-same n k 0)))
+      ∙ sym (ap (λ (x : Proc). permAt (piecesOf x) page) (getD-same 16 (p - 1) zeroProc) ∙ zero-pieces page);
+}
+
+pub blank-begins : (n : ℕ) (frames : List ℕ) → 1 ≤ n → n ≤ maxFrames → length frames ≡ 4096 * n → Begin (blank n frames)
+blank-begins n frames l h e = record {
+  types = refl;
+  sizes =
+      let k = length-replicate {A = ℕ} n 0 in
+      and-test (length frames is 4096 * length (replicate n 0)) (within 1 (maxFrames + 1) (length (replicate n 0)))
+      (eq-eqb (length frames) (4096 * length (replicate n 0)) (omega arith)) (within-test 1 (maxFrames + 1) (length (replicate n 0)) (omega arith) (omega arith));
+  book = facts-sound (replicate n 0) noProcs (typed-whole (blank n frames) refl) (zero-book n);
+  nobody = λ p. ap (λ (x : Proc). valid p && lives x) (getD-same 16 (p - 1) zeroProc) ∙ never (valid p);
+}
+  where
+    never : (b : Bool) → (b && false) ≡ false
+    never true = refl
+    never false = refl

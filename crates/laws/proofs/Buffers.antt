@@ -1,0 +1,123 @@
+-- A refusal gives a lent buffer back as it was, but for the string copy's 35.
+use Prim.Native.Nat.{ℕ, _+_}
+use native.Mathlib.Omega.{arith}
+use native.Mathlib.Numerals.{add-one}
+use mathlib.Core.Path.{_≡_, refl, sym, ap, _∙_}
+use mathlib.Core.Bool.{Bool, true, false, not, _&&_}
+use mathlib.Core.List.{List, [], _∷_}
+use lib.ListN.{length, take, drop}
+use Rattle.spec.proofs.Bools.{split, clash}
+use Rattle.spec.specs.Tests.{_is_, _⇒_else_}
+use Rattle.spec.specs.Book.{valid, free}
+use Rattle.spec.specs.Frames.{Mem, sized}
+use Rattle.spec.specs.Access.{userRangeOk, byteOf, bytesAt, copyStr}
+use Rattle.spec.specs.Machine.{Ask, start, replace, push, break, fork, end, user-range-ok, copy-from-user, copy-to-user, try-copy-str-from-user, Call, accepted, refused, ended, Reply, outcome, outcomeOf, numberOf, lent, refuse, Machine, lengthsFit, kind, listFits, numbered, living, unclaimed, weigh, judge}
+use Rattle.spec.specs.World.{State, sound, taken, view, answer}
+use Rattle.spec.specs.declared.Answer.{Answer}
+use Rattle.spec.specs.declared.Answer.the-variants.{Value, Done, Refused, Ended}
+
+-- the string copy's 35
+abbrev pub strayString : Ask → Answer → Bool
+strayString (start image name bytes lengths) a = false
+strayString (replace image name argv) a = false
+strayString (push pc top bytes lengths) a = false
+strayString (break addr) a = false
+strayString (fork child segments) a = false
+strayString end a = false
+strayString (user-range-ok addr len write) a = false
+strayString (copy-from-user buffer src) a = false
+strayString (copy-to-user dst bytes) a = false
+strayString (try-copy-str-from-user buffer src) a = numberOf a is 35
+
+-- what is left of a reply to a question
+abbrev Kept : Ask → Reply → Type 0
+Kept q r = outcome r ≡ refused → strayString q (r .says) ≡ false → r .buffer ≡ lent q
+
+-- a refusal of the table, or what follows it
+refuse-kept : (t : Bool) (k : ℕ) (q : Ask) (r : Reply) → Kept q r → Kept q (t ⇒ refuse k q else r)
+refuse-kept true k q r h = λ e f. refl
+refuse-kept false k q r h = h
+
+-- a copy ends the process or is done
+copy-answers : (b : Bool) (x y : Reply) → outcome x ≡ ended → outcome y ≡ accepted → outcome (b ⇒ x else y) ≡ refused → ⊥
+copy-answers true x y p q e = let w : ended ≡ refused = sym p ∙ e in let z : _≡_ {A = ℕ} 0 1 = cc in omega arith
+copy-answers false x y p q e = let w : accepted ≡ refused = sym q ∙ e in let z : _≡_ {A = ℕ} 0 1 = cc in omega arith
+
+-- a string copy is refused with 35 alone
+string-answers : (b : Bool) (n : ℕ) → outcomeOf (not b ⇒ Refused 35 else Value n) ≡ refused → (numberOf (not b ⇒ Refused 35 else Value n) is 35) ≡ false → ⊥
+string-answers true n e f = let z : _≡_ {A = ℕ} 0 1 = cc in omega arith
+string-answers false n e f = clash true refl f
+
+-- of its own numbers a call gives only the string copy's 35 with a buffer that has changed
+weigh-kept : (m : Machine) (free : ℕ) (q : Ask) → Kept q (weigh m free q)
+weigh-kept m free (start image name bytes lengths) e f = refl
+weigh-kept m free (replace image name argv) e f = refl
+weigh-kept m free (push pc top bytes lengths) e f = refl
+weigh-kept m free (break addr) e f = refl
+weigh-kept m free (fork child segments) e f = refl
+weigh-kept m free end e f = refl
+weigh-kept m free (user-range-ok addr len write) e f = refl
+weigh-kept m free (copy-from-user buffer src) e f =
+    absurd (copy-answers (not (userRangeOk (m .mem) false src (length buffer))) (record { says = Ended 35; buffer = buffer }) (record { says = Done; buffer = bytesAt (m .mem) src (length buffer) }) refl refl e)
+weigh-kept m free (copy-to-user dst bytes) e f = refl
+weigh-kept m free (try-copy-str-from-user buffer src) e f = absurd (string-answers (copyStr (m .mem) buffer src .whole) (copyStr (m .mem) buffer src .size) e f)
+
+pub refused-lent : (s : State) (c : Call) → outcome (answer s c) ≡ refused → strayString (c .ask) (answer s c .says) ≡ false → answer s c .buffer ≡ lent (c .ask)
+unfolding answer judge
+refused-lent s c =
+    let q : Ask = c .ask in
+    let m : Machine = view s (c .number) in
+    let r₅ : Reply = not (unclaimed (taken s) (c .number) (kind q)) ⇒ refuse 5 q else weigh m (free (s .store .book)) q in
+    let r₄ : Reply = not (living (taken s) (c .number) (kind q)) ⇒ refuse 4 q else r₅ in
+    let r₃ : Reply = not (numbered (c .number) (kind q)) ⇒ refuse 3 q else r₄ in
+    let r₂ : Reply = not (listFits m (c .number) (kind q)) ⇒ refuse 2 q else r₃ in
+    let r₁ : Reply = not (lengthsFit q) ⇒ refuse 1 q else r₂ in
+    let r₀ : Reply = not (sound s) ⇒ refuse 2 q else r₁ in
+    refuse-kept (not (sized (s .store) && lengthsFit q)) 1 q r₀
+    (refuse-kept (not (sound s)) 2 q r₁
+    (refuse-kept (not (lengthsFit q)) 1 q r₂
+    (refuse-kept (not (listFits m (c .number) (kind q))) 2 q r₃
+    (refuse-kept (not (numbered (c .number) (kind q))) 3 q r₄
+    (refuse-kept (not (living (taken s) (c .number) (kind q))) 4 q r₅
+    (refuse-kept (not (unclaimed (taken s) (c .number) (kind q))) 5 q (weigh m (free (s .store .book)) q) (weigh-kept m (free (s .store .book)) q)))))))
+
+-- ---- and what the string copy's 35 leaves
+
+others-number : (t : Bool) (k : ℕ) (q : Ask) (r : Reply) → ¬ (k ≡ 35) → (t ⇒ refuse k q else r) .says ≡ Refused 35 → (t ⇒ refuse k q else r) ≡ r
+others-number true k q r ne e = absurd (ne (let w : Refused k ≡ Refused 35 = e in let z : k ≡ 35 = cc in z))
+others-number false k q r ne e = refl
+
+pub string-left : (s : State) (n : ℕ) (buffer : List ℕ) (src : ℕ)
+    → let c : Call = record { number = n; ask = try-copy-str-from-user buffer src } in
+    answer s c .says ≡ Refused 35 → answer s c .buffer ≡ copyStr (view s n .mem) buffer src .buffer
+unfolding answer judge
+string-left s n buffer src e =
+    let q : Ask = try-copy-str-from-user buffer src in
+    let r₄ : Reply = weigh (view s n) (free (s .store .book)) q in
+    let r₃ : Reply = not (taken s n) ⇒ refuse 4 q else r₄ in
+    let r₂ : Reply = not (valid n) ⇒ refuse 3 q else r₃ in
+    let r₁ : Reply = not (sound s) ⇒ refuse 2 q else r₂ in
+    let p₁ = others-number (not (sized (s .store) && true)) 1 q r₁ (λ z. omega arith) e in
+    let p₂ = others-number (not (sound s)) 2 q r₂ (λ z. omega arith) (ap (λ (r : Reply). r .says) (sym p₁) ∙ e) in
+    let p₃ = others-number (not (valid n)) 3 q r₃ (λ z. omega arith) (ap (λ (r : Reply). r .says) (sym (p₁ ∙ p₂)) ∙ e) in
+    let p₄ = others-number (not (taken s n)) 4 q r₄ (λ z. omega arith) (ap (λ (r : Reply). r .says) (sym (p₁ ∙ p₂ ∙ p₃)) ∙ e) in
+    ap (λ (r : Reply). r .buffer) (p₁ ∙ p₂ ∙ p₃ ∙ p₄)
+
+-- bytes before the string's end, or a bad page, are copied
+pub string-copied : (mem : Mem) (dst : List ℕ) (a : ℕ) → take (copyStr mem dst a .size) (copyStr mem dst a .buffer) ≡ bytesAt mem a (copyStr mem dst a .size)
+string-copied mem [] a = refl
+string-copied mem (d ∷ dst) a =
+    split (userRangeOk mem false a 1)
+    (λ q.
+    split (byteOf (mem a) is 0)
+    (λ z. rw (q, z))
+    (λ z. rw (q, z, add-one (copyStr mem dst (a + 1) .size)) (ap (λ (x : List ℕ). byteOf (mem a) ∷ x) (string-copied mem dst (a + 1)))))
+    (λ q. rw q)
+
+-- and the rest of the buffer is unchanged
+pub string-rest : (mem : Mem) (dst : List ℕ) (a : ℕ) → drop (copyStr mem dst a .size) (copyStr mem dst a .buffer) ≡ drop (copyStr mem dst a .size) dst
+string-rest mem [] a = refl
+string-rest mem (d ∷ dst) a =
+    split (userRangeOk mem false a 1)
+    (λ q. split (byteOf (mem a) is 0) (λ z. rw (q, z)) (λ z. rw (q, z, add-one (copyStr mem dst (a + 1) .size)) (string-rest mem dst (a + 1))))
+    (λ q. rw q)

@@ -1,0 +1,156 @@
+-- The pages of pieces: how many, no page twice, and the cell that they give an address.
+use Prim.Native.Nat.{ℕ, zero, suc, _+_, _*_, _-_, _/_, _%_, _≤_, _<_}
+use native.Mathlib.Omega.{arith}
+use mathlib.Core.Path.{_≡_, refl, sym, ap, ap₂, _∙_}
+use mathlib.Core.Bool.{Bool, true}
+use mathlib.Core.Option.{Option, none, some}
+use mathlib.Core.List.{List, [], _∷_, _++_, append-assoc}
+use lib.Dec.{eqb}
+use lib.ListN.{length, getD, length-append}
+use borrow.Author.Tests.{eqb-true, eqb-false}
+use Rattle.spec.specs.Tests.{_is_, within, _⇒_else_}
+use Rattle.spec.specs.Numbers.{pageDown}
+use Rattle.spec.specs.Book.{inSegment, permAt, pageCount}
+use Rattle.spec.specs.Frames.{Cell, Page, pagesFrom, pagesOf}
+use Rattle.spec.specs.declared.UserSegment.{UserSegment}
+use Rattle.spec.proofs.Bools.{split, clash, within-means, within-test}
+use Rattle.laws.proofs.Lists.{Each, each-append}
+use Rattle.laws.proofs.Frame.{within-not}
+use Rattle.laws.proofs.Place.{Distinct, over}
+use Rattle.laws.proofs.Apart.{Piece, Pieces, perm-tail}
+
+-- how many pages a piece has
+abbrev pages : UserSegment → ℕ
+pages g = (g .range .end - g .range .start) / 4096
+
+-- ---- lists of pages
+
+pub length-from : (f : ℕ → List ℕ) (perm a k : ℕ) → length (pagesFrom f perm a k) ≡ k
+length-from f perm a zero = refl
+length-from f perm a (suc k) = ap suc (length-from f perm (a + 4096) k)
+
+pub length-pages : (f : ℕ → List ℕ) (gs : List UserSegment) → length (pagesOf f gs) ≡ pageCount gs
+length-pages f [] = refl
+length-pages f (g ∷ gs) =
+    length-append (pagesFrom f (g .perm) (g .range .start) (pages g)) (pagesOf f gs)
+    ∙ ap₂ _+_ (length-from f (g .perm) (g .range .start) (pages g)) (length-pages f gs)
+
+pub from-append : (f : ℕ → List ℕ) (perm a j k : ℕ) → pagesFrom f perm a (j + k) ≡ pagesFrom f perm a j ++ pagesFrom f perm (a + 4096 * j) k
+from-append f perm a zero k =
+    let e : 0 + k ≡ k = omega arith in
+    let z : a + 4096 * 0 ≡ a = omega arith in
+    ap (pagesFrom f perm a) e ∙ ap (λ (x : ℕ). pagesFrom f perm x k) (sym z)
+from-append f perm a (suc j) k =
+    let e : suc j + k ≡ suc (j + k) = omega arith in
+    let z : a + 4096 + 4096 * j ≡ a + 4096 * suc j = omega arith in
+    ap (pagesFrom f perm a) e
+    ∙ ap (λ (ps : List Page). record { page = a; perm = perm; bytes = f a } ∷ ps)
+    (from-append f perm (a + 4096) j k ∙ ap (λ (x : ℕ). pagesFrom f perm (a + 4096) j ++ pagesFrom f perm x k) z)
+
+pub pages-append : (f : ℕ → List ℕ) (gs hs : List UserSegment) → pagesOf f (gs ++ hs) ≡ pagesOf f gs ++ pagesOf f hs
+pages-append f [] hs = refl
+pages-append f (g ∷ gs) hs =
+    ap (λ (ps : List Page). pagesFrom f (g .perm) (g .range .start) (pages g) ++ ps) (pages-append f gs hs)
+    ∙ sym (append-assoc (pagesFrom f (g .perm) (g .range .start) (pages g)) (pagesOf f gs) (pagesOf f hs))
+
+-- ---- what holds of each page
+
+each-from : (f : ℕ → List ℕ) (perm a k : ℕ) (P : Page → Type 0) → a % 4096 ≡ 0
+    → ((x : ℕ) → x % 4096 ≡ 0 → a ≤ x → x < a + 4096 * k → P (record { page = x; perm = perm; bytes = f x })) → Each P (pagesFrom f perm a k)
+each-from f perm a zero P z h = tt
+each-from f perm a (suc k) P z h = (h a z (omega arith) (omega arith), each-from f perm (a + 4096) k P (omega arith) (λ x e l u. h x e (omega arith) (omega arith)))
+
+each-piece : (f : ℕ → List ℕ) (g : UserSegment) (gs : List UserSegment) (P : Page → Type 0) → Piece g gs
+    → ((x : ℕ) → x % 4096 ≡ 0 → inSegment x g ≡ true → P (record { page = x; perm = g .perm; bytes = f x })) → Each P (pagesFrom f (g .perm) (g .range .start) (pages g))
+each-piece f g gs P p h =
+    each-from f (g .perm) (g .range .start) (pages g) P (p .start)
+    (λ x e l u. h x e (within-test (g .range .start) (g .range .end) x l (omega (arith, p .end, p .start))))
+
+-- a fact of each page of pieces, from its permission
+pub each-pages : (f : ℕ → List ℕ) (gs : List UserSegment) (P : Page → Type 0) → Pieces gs
+    → ((a q : ℕ) → a % 4096 ≡ 0 → permAt gs a ≡ some q → P (record { page = a; perm = q; bytes = f a })) → Each P (pagesOf f gs)
+each-pages f [] P p h = tt
+each-pages f (g ∷ gs) P p h =
+    each-append P (pagesFrom f (g .perm) (g .range .start) (pages g)) (pagesOf f gs)
+    (each-piece f g gs P (p .0) (λ x e s. h x (g .perm) e (rw s)))
+    (each-pages f gs P (p .1) (λ a q e s. h a q e (perm-tail g gs a q (p .0) s)))
+
+-- pages by two rules are the same if the rules agree at each page
+pub pages-same : (f h : ℕ → List ℕ) (gs : List UserSegment) → Pieces gs → ((a q : ℕ) → a % 4096 ≡ 0 → permAt gs a ≡ some q → f a ≡ h a) → pagesOf f gs ≡ pagesOf h gs
+pages-same f h [] p e = refl
+pages-same f h (g ∷ gs) p e =
+    ap₂ (λ (x y : List Page). x ++ y)
+    (go (pages g) (g .range .start) (p .0 .start) (λ x z l u. e x (g .perm) z (rw (within-test (g .range .start) (g .range .end) x l (omega (arith, p .0 .end, p .0 .start))))))
+    (pages-same f h gs (p .1) (λ a q z s. e a q z (perm-tail g gs a q (p .0) s)))
+  where
+    go : (k a : ℕ) → a % 4096 ≡ 0 → ((x : ℕ) → x % 4096 ≡ 0 → a ≤ x → x < a + 4096 * k → f x ≡ h x) → pagesFrom f (g .perm) a k ≡ pagesFrom h (g .perm) a k
+    go zero a z e = refl
+    go (suc k) a z e =
+        ap₂ (λ (b : List ℕ) (ps : List Page). record { page = a; perm = g .perm; bytes = b } ∷ ps) (e a z (omega arith) (omega arith))
+        (go k (a + 4096) (omega arith) (λ x y l u. e x y (omega arith) (omega arith)))
+
+-- ---- no page twice
+
+distinct-append : (ps qs : List Page) → Distinct ps → Distinct qs → Each (λ p. Each (λ q. ¬ (q .page ≡ p .page)) qs) ps → Distinct (ps ++ qs)
+distinct-append [] qs a b c = b
+distinct-append (p ∷ ps) qs a b c = (each-append (λ q. ¬ (q .page ≡ p .page)) ps qs (a .0) (c .0), distinct-append ps qs (a .1) b (c .1))
+
+distinct-from : (f : ℕ → List ℕ) (perm a k : ℕ) → a % 4096 ≡ 0 → Distinct (pagesFrom f perm a k)
+distinct-from f perm a zero z = tt
+distinct-from f perm a (suc k) z = (each-from f perm (a + 4096) k (λ q. ¬ (q .page ≡ a)) (omega arith) (λ x e l u y. omega arith), distinct-from f perm (a + 4096) k (omega arith))
+
+pub distinct-pages : (f : ℕ → List ℕ) (gs : List UserSegment) → Pieces gs → Distinct (pagesOf f gs)
+distinct-pages f [] p = tt
+distinct-pages f (g ∷ gs) p =
+    distinct-append (pagesFrom f (g .perm) (g .range .start) (pages g)) (pagesOf f gs) (distinct-from f (g .perm) (g .range .start) (pages g) (p .0 .start)) (distinct-pages f gs (p .1))
+    (each-piece f g gs (λ r. Each (λ q. ¬ (q .page ≡ r .page)) (pagesOf f gs)) (p .0)
+    (λ x e s. each-pages f gs (λ q. ¬ (q .page ≡ x)) (p .1)
+    (λ a q z h y. let n : permAt gs a ≡ none = ap (permAt gs) y ∙ p .0 .apart x s in absurd (let w : _≡_ {A = ℕ} 0 1 = cc in omega arith))))
+
+-- ---- the cell at an address
+
+-- a permission with a byte, or else what was there
+abbrev pub cellOr : Option ℕ → ℕ → Option Cell → Option Cell
+cellOr none byte c = c
+cellOr (some perm) byte c = some (record { perm = perm; byte = byte })
+
+over-append : (ps qs : List Page) (x : ℕ) (c : Option Cell) → over (ps ++ qs) x c ≡ over ps x (over qs x c)
+over-append [] qs x c = refl
+over-append (p ∷ ps) qs x c = ap (λ (o : Option Cell). p .page is pageDown x ⇒ some (record { perm = p .perm; byte = getD (p .bytes) (x % 4096) 0 }) else o) (over-append ps qs x c)
+
+over-from : (f : ℕ → List ℕ) (perm a k x : ℕ) (c : Option Cell) → a % 4096 ≡ 0
+    → over (pagesFrom f perm a k) x c ≡ (within a (a + 4096 * k) x ⇒ some (record { perm = perm; byte = getD (f (pageDown x)) (x % 4096) 0 }) else c)
+over-from f perm a zero x c z = sym (rw (within-not a (a + 4096 * 0) x (λ l u. omega arith)))
+over-from f perm a (suc k) x c z =
+    split (eqb a (pageDown x))
+    (λ q.
+    let e : a ≡ pageDown x = eqb-true a (pageDown x) q in
+    rw (q, within-test a (a + 4096 * suc k) x (omega arith) (omega arith))
+    (ap (λ (y : ℕ). some (record { perm = perm; byte = getD (f y) (x % 4096) 0 })) e))
+    (λ q.
+    let ne : a ≡ pageDown x → ⊥ = eqb-false a (pageDown x) q in
+    rw q (over-from f perm (a + 4096) k x c (omega arith)
+    ∙ ap (λ (b : Bool). b ⇒ some (record { perm = perm; byte = getD (f (pageDown x)) (x % 4096) 0 }) else c) (next ne)))
+  where
+    next : (a ≡ pageDown x → ⊥) → within (a + 4096) (a + 4096 + 4096 * k) x ≡ within a (a + 4096 * suc k) x
+    next ne =
+        split (within a (a + 4096 * suc k) x)
+        (λ q. let r = within-means a (a + 4096 * suc k) x q in within-test (a + 4096) (a + 4096 + 4096 * k) x (omega arith) (omega arith) ∙ sym q)
+        (λ q. within-not (a + 4096) (a + 4096 + 4096 * k) x (λ l u. clash _ (within-test a (a + 4096 * suc k) x (omega arith) (omega arith)) q) ∙ sym q)
+
+pub over-pages : (f : ℕ → List ℕ) (gs : List UserSegment) → Pieces gs → (x : ℕ) (c : Option Cell) → over (pagesOf f gs) x c ≡ cellOr (permAt gs x) (getD (f (pageDown x)) (x % 4096) 0) c
+over-pages f [] p x c = refl
+over-pages f (g ∷ gs) p x c =
+    over-append (pagesFrom f (g .perm) (g .range .start) (pages g)) (pagesOf f gs) x c
+    ∙ over-from f (g .perm) (g .range .start) (pages g) x (over (pagesOf f gs) x c) (p .0 .start)
+    ∙ split (inSegment x g)
+    (λ q.
+    let r = within-means (g .range .start) (g .range .end) x q in
+    rw (q, within-test (g .range .start) (g .range .start + 4096 * pages g) x (r .0) (omega (arith, p .0 .start, p .0 .end))))
+    (λ q.
+    rw (
+      q,
+      within-not (g .range .start) (g .range .start + 4096 * pages g) x
+          (λ l u. clash (inSegment x g) (within-test (g .range .start) (g .range .end) x l (omega (arith, p .0 .start, p .0 .end))) q),
+    )
+    (over-pages f gs (p .1) x c))

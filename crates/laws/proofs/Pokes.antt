@@ -1,0 +1,150 @@
+-- Bytes of a process written over: only its own memory changes, as `write` says.
+use Prim.Native.Nat.{ℕ, suc, _+_, _*_, _-_, _%_, _≤_}
+use native.Mathlib.Omega.{arith}
+use native.Mathlib.Nat.{add-zero}
+use mathlib.Core.Path.{_≡_, refl, sym, ap, _∙_}
+use mathlib.Core.Option.{Option, none, some}
+use mathlib.Core.List.{List, [], _∷_, _++_}
+use lib.Dec.{eqb}
+use lib.ListN.{length, getD, set, length-set}
+use lib.Seq.{sets, getD-set-same, getD-set-other}
+use borrow.Author.Tests.{eqb-true, eqb-false}
+use Rattle.spec.specs.Tests.{within}
+use Rattle.spec.specs.Numbers.{pageDown}
+use Rattle.spec.specs.Book.{frameOf}
+use Rattle.spec.specs.Frames.{Store, sized, cellIn, memOf, put, poke, pokes}
+use Rattle.spec.specs.Access.{rewrite, write}
+use Rattle.spec.proofs.Bools.{split, clash, within-means, within-test}
+use Rattle.laws.proofs.Lists.{put-sets}
+use Rattle.laws.proofs.Frame.{Fits, sized-same, frame-found, cell-eq, within-not}
+
+-- ---- one byte
+
+poke-book : (m : Store) (a b : ℕ) (o : Option ℕ) → poke m a b o .book ≡ m .book
+poke-book m a b none = refl
+poke-book m a b (some k) = refl
+
+poke-frames : (m : Store) (a b : ℕ) (o : Option ℕ) → length (poke m a b o .frames) ≡ length (m .frames)
+poke-frames m a b none = refl
+poke-frames m a b (some k) = length-set (m .frames) (4096 * k + a % 4096) b
+
+-- what a process sees through a poked frame
+module _ (m : Store) (n a b p x : ℕ) (fits : Fits m) where
+  poke-here : p ≡ n → x ≡ a → memOf (poke m a b (frameOf (m .book) n (pageDown a))) p x ≡ rewrite b (memOf m p x)
+  poke-here ep ex = rw (ep, ex) (go (frameOf (m .book) n (pageDown a)) refl)
+    where
+      go : (o : Option ℕ) → frameOf (m .book) n (pageDown a) ≡ o → cellIn (poke m a b o) a (frameOf (poke m a b o .book) n (pageDown a)) ≡ rewrite b (cellIn m a o)
+      go none e = rw e
+      go (some k) e = let f = frame-found (m .book) n (pageDown a) k e in
+          rw e (cell-eq _ _ _ _ refl (getD-set-same (m .frames) (4096 * k + a % 4096) b 0 (omega (arith, f .0))))
+
+  poke-else : (p ≡ n → x ≡ a → ⊥) → memOf (poke m a b (frameOf (m .book) n (pageDown a))) p x ≡ memOf m p x
+  poke-else out = go (frameOf (m .book) n (pageDown a)) refl (frameOf (m .book) p (pageDown x)) refl
+    where
+      go : (o : Option ℕ) → frameOf (m .book) n (pageDown a) ≡ o → (r : Option ℕ) → frameOf (m .book) p (pageDown x) ≡ r
+          → cellIn (poke m a b o) x (frameOf (poke m a b o .book) p (pageDown x)) ≡ cellIn m x r
+      go none e r f = rw f
+      go (some k) e none f = rw f
+      go (some k) e (some j) f =
+          let u = frame-found (m .book) n (pageDown a) k e .1 in
+          let v = frame-found (m .book) p (pageDown x) j f .1 in
+          rw f (cell-eq _ _ _ _ refl (getD-set-other (m .frames) (4096 * k + a % 4096) (4096 * j + x % 4096) b 0
+          (λ z.
+          let same : j ≡ k = omega arith in
+          let w : getD (m .book) j 0 ≡ getD (m .book) k 0 = ap (λ (i : ℕ). getD (m .book) i 0) same in
+          out (cc) (omega (arith, u .page, v .page)))))
+
+-- ---- bytes
+
+pub pokes-book : (m : Store) (n a : ℕ) (bs : List ℕ) → pokes m n a bs .book ≡ m .book
+unfolding pokes
+pokes-book m n a [] = refl
+pokes-book m n a (b ∷ bs) = pokes-book (poke m a b (frameOf (m .book) n (pageDown a))) n (a + 1) bs ∙ poke-book m a b (frameOf (m .book) n (pageDown a))
+
+pub pokes-length : (m : Store) (n a : ℕ) (bs : List ℕ) → length (pokes m n a bs .frames) ≡ length (m .frames)
+unfolding pokes
+pokes-length m n a [] = refl
+pokes-length m n a (b ∷ bs) = pokes-length (poke m a b (frameOf (m .book) n (pageDown a))) n (a + 1) bs ∙ poke-frames m a b (frameOf (m .book) n (pageDown a))
+
+pub pokes-append : (m : Store) (n a : ℕ) (bs cs : List ℕ) → pokes m n a (bs ++ cs) ≡ pokes (pokes m n a bs) n (a + length bs) cs
+unfolding pokes
+pokes-append m n a [] cs = ap (λ (x : ℕ). pokes m n x cs) (sym (add-zero a))
+pokes-append m n a (b ∷ bs) cs =
+    let e : a + 1 + length bs ≡ a + suc (length bs) = omega arith in
+    pokes-append (poke m a b (frameOf (m .book) n (pageDown a))) n (a + 1) bs cs
+    ∙ ap (λ (x : ℕ). pokes (pokes (poke m a b (frameOf (m .book) n (pageDown a))) n (a + 1) bs) n x cs) e
+
+poke-fits : (m : Store) (a b : ℕ) (o : Option ℕ) → Fits m → Fits (poke m a b o)
+poke-fits m a b o fits = poke-frames m a b o ∙ fits ∙ ap (λ (l : List ℕ). 4096 * length l) (sym (poke-book m a b o))
+
+pub fits-pokes : (m : Store) (n a : ℕ) (bs : List ℕ) → Fits m → Fits (pokes m n a bs)
+fits-pokes m n a bs fits = pokes-length m n a bs ∙ fits ∙ ap (λ (l : List ℕ). 4096 * length l) (sym (pokes-book m n a bs))
+
+pub sized-pokes : (m : Store) (n a : ℕ) (bs : List ℕ) → sized (pokes m n a bs) ≡ sized m
+sized-pokes m n a bs = sized-same (pokes m n a bs) m (pokes-length m n a bs) (ap length (pokes-book m n a bs))
+
+-- another process sees what it saw
+pub mem-pokes-other : (m : Store) (n a : ℕ) (bs : List ℕ) → Fits m → (p : ℕ) → (p ≡ n → ⊥) → memOf (pokes m n a bs) p ≡ memOf m p
+unfolding pokes
+mem-pokes-other m n a [] fits p ne = refl
+mem-pokes-other m n a (b ∷ bs) fits p ne =
+    mem-pokes-other (poke m a b (frameOf (m .book) n (pageDown a))) n (a + 1) bs (poke-fits m a b (frameOf (m .book) n (pageDown a)) fits) p ne
+    ∙ (λ i x. poke-else m n a b p x fits (λ e z. ne e) i)
+
+-- the process itself sees the bytes where they were written, and elsewhere what it saw
+mem-pokes-at : (m : Store) (n a : ℕ) (bs : List ℕ) → Fits m → (x : ℕ) → memOf (pokes m n a bs) n x ≡ write a bs (memOf m n) x
+unfolding pokes
+mem-pokes-at m n a [] fits x = sym (rw (within-not a (a + 0) x (λ l h. omega arith)))
+mem-pokes-at m n a (b ∷ bs) fits x =
+    mem-pokes-at t n (a + 1) bs (poke-fits m a b (frameOf (m .book) n (pageDown a)) fits) x ∙ split (eqb x a) (λ q. here (eqb-true x a q)) (λ q. there (eqb-false x a q))
+  where
+    t : Store
+    t = poke m a b (frameOf (m .book) n (pageDown a))
+
+    here : x ≡ a → write (a + 1) bs (memOf t n) x ≡ write a (b ∷ bs) (memOf m n) x
+    here e =
+        let z : x - a ≡ 0 = omega arith in
+        rw (within-not (a + 1) (a + 1 + length bs) x (λ l h. omega arith), within-test a (a + suc (length bs)) x (omega arith) (omega arith), z)
+        (poke-here m n a b n x fits refl e)
+
+    there : (x ≡ a → ⊥) → write (a + 1) bs (memOf t n) x ≡ write a (b ∷ bs) (memOf m n) x
+    there ne =
+        let same : memOf t n x ≡ memOf m n x = poke-else m n a b n x fits (λ e z. ne z) in
+        split (within a (a + suc (length bs)) x)
+        (λ q.
+        let r = within-means a (a + suc (length bs)) x q in
+        let z : x - a ≡ suc (x - (a + 1)) = omega arith in
+        rw (q, within-test (a + 1) (a + 1 + length bs) x (omega arith) (omega arith), z) (ap (rewrite (getD bs (x - (a + 1)) 0)) same))
+        (λ q. rw (q, within-not (a + 1) (a + 1 + length bs) x (λ l h. clash _ (within-test a (a + suc (length bs)) x (omega arith) (omega arith)) q)) same)
+
+pub mem-pokes : (m : Store) (n a : ℕ) (bs : List ℕ) → Fits m → memOf (pokes m n a bs) n ≡ write a bs (memOf m n)
+mem-pokes m n a bs fits = λ i x. mem-pokes-at m n a bs fits x i
+
+-- ---- bytes within one page
+
+-- stored one after the other
+pokes-sets : (m : Store) (n a : ℕ) (bs : List ℕ) (k : ℕ) → frameOf (m .book) n (pageDown a) ≡ some k → a % 4096 + length bs ≤ 4096
+    → pokes m n a bs ≡ record { frames = sets (m .frames) (4096 * k + a % 4096) bs; book = m .book }
+unfolding pokes
+pokes-sets m n a [] k e h = refl
+pokes-sets m n a (b ∷ bs) k e h = rw e (go bs (λ g l. pokes-sets (poke m a b (some k)) n (a + 1) bs k g l) h)
+  where
+    at : ℕ
+    at = 4096 * k + a % 4096
+
+    go : (cs : List ℕ) → (frameOf (m .book) n (pageDown (a + 1)) ≡ some k → (a + 1) % 4096 + length cs ≤ 4096
+        → pokes (poke m a b (some k)) n (a + 1) cs ≡ record { frames = sets (set (m .frames) at b) (4096 * k + (a + 1) % 4096) cs; book = m .book })
+        → a % 4096 + suc (length cs) ≤ 4096 → pokes (poke m a b (some k)) n (a + 1) cs ≡ record { frames = sets (set (m .frames) at b) (suc at) cs; book = m .book }
+    go [] more l = refl
+    go (c ∷ cs) more l =
+        let q : pageDown (a + 1) ≡ pageDown a = omega arith in
+        let z : 4096 * k + (a + 1) % 4096 ≡ suc at = omega arith in
+        more (rw q e) (omega arith) ∙ ap (λ (i : ℕ). record { frames = sets (set (m .frames) at b) i (c ∷ cs); book = m .book }) z
+
+-- bytes within one page are put into its frame at once
+pub pokes-page : (m : Store) (n a : ℕ) (bs : List ℕ) (k : ℕ) → Fits m → frameOf (m .book) n (pageDown a) ≡ some k → a % 4096 + length bs ≤ 4096
+    → pokes m n a bs ≡ record { frames = put (m .frames) (4096 * k + a % 4096) bs; book = m .book }
+pokes-page m n a bs k fits e h =
+    let f = frame-found (m .book) n (pageDown a) k e in
+    pokes-sets m n a bs k e h
+    ∙ ap (λ (l : List ℕ). record { frames = l; book = m .book }) (sym (put-sets (m .frames) bs (4096 * k + a % 4096) (omega (arith, f .0))))

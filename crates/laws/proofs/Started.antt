@@ -1,0 +1,94 @@
+-- What a start makes of an accepted image: a whole record, and pages with the record's permissions.
+use Prim.Native.Nat.{ℕ, zero, suc, _+_, _-_, _≤_, _<_}
+use native.Mathlib.Omega.{arith}
+use mathlib.Core.Path.{_≡_, sym, ap, _∙_}
+use mathlib.Core.Bool.{true}
+use mathlib.Core.Option.{some}
+use mathlib.Core.List.{List, [], _∷_, _++_}
+use lib.ListN.{length, getD, take, replicate, length-append, length-replicate, length-take}
+use borrow.Author.Tests.{ltb-true}
+use Rattle.spec.proofs.Bools.{split, all-app}
+use Rattle.spec.specs.Tests.{_below_, within, all, ascii}
+use Rattle.spec.specs.Numbers.{utzero, uaddrtop, pageUp}
+use Rattle.spec.specs.Name.{elem, cut, padded, kstrcpy}
+use Rattle.spec.specs.Book.{zeroSegment, stack, bssSegment, permAt, piecesOf, pageCount}
+use Rattle.spec.specs.Elf.{Segment, segmentsOf}
+use Rattle.spec.specs.Exec.{userSegment, imageSegments, imageBss, imageError, startPieces}
+use Rattle.spec.specs.World.{procOf}
+use Rattle.spec.specs.declared.UserSegment.{UserSegment}
+use Rattle.laws.proofs.Lists.{Each, each-append}
+use Rattle.laws.proofs.Record.{WholeProc}
+use Rattle.laws.proofs.Shape.{imageEnd}
+use Rattle.laws.proofs.Apart.{count-append}
+use Rattle.laws.proofs.Pieces.{perm-each, shape-between, aligned, Apart, image-aligned, bss-aligned, image-apart, bss-stack-apart, bss-stack-low, swap-stack, perm-tail, shape-pieces}
+use Rattle.laws.proofs.Accepted.{AllLoad, nonEmpty, kept, accepted-means, elf-loads, image-recorded, image-shape}
+
+-- ---- its record
+
+pub padded-long : (s : List ℕ) → length s ≤ 28 → length (padded s) ≡ 28
+padded-long s l = omega (arith, length-append s (replicate (28 - length s) 0), length-replicate {A = ℕ} (28 - length s) 0)
+
+pub cut-low : (s : List ℕ) (n : ℕ) → cut s n ≤ n
+cut-low s zero = omega arith
+cut-low s (suc n) = let h = cut-low s n in split (within 128 192 (getD s (suc n) 0)) (λ q. rw q (omega arith)) (λ q. rw q (omega arith))
+
+-- a name is 28 bytes
+pub name-long : (s : List ℕ) → length (kstrcpy s) ≡ 28
+name-long s =
+    split (length s below 28)
+    (λ q. let l = ltb-true (length s) 28 q in rw q (padded-long s (omega arith)))
+    (λ q. rw q (padded-long (take (cut s 24) s ++ ascii "...") (omega (arith, length-append (take (cut s 24) s) (ascii "..."), length-take (cut s 24) s, cut-low s 24))))
+
+pub proc-whole : (image name : List ℕ) → imageError image ≡ 0 → WholeProc (procOf image name)
+proc-whole image name e = record {
+  segments =
+      let k : ℕ = 15 - length (imageSegments image) in
+      omega (arith, length-append (imageSegments image) (stack ∷ replicate k zeroSegment), length-replicate k zeroSegment, accepted-means image e .few);
+  text = name-long (elem name);
+}
+
+-- ---- its pages
+
+-- permissions are 1 to 3
+pub start-perm : (image : List ℕ) → imageError image ≡ 0 → (a q : ℕ) → permAt (startPieces image) a ≡ some q → (1 ≤ q) × (q ≤ 3)
+start-perm image e =
+    perm-each (λ q. (1 ≤ q) × (q ≤ 3)) (startPieces image)
+    (each-append _ (imageSegments image) (bssSegment (imageBss image) ∷ stack ∷ []) (each (segmentsOf image) 0 (elf-loads image (accepted-means image e .elf))) ((omega arith, omega arith), ((omega arith, omega arith), tt)))
+  where
+    each : (gs : List Segment) (end : ℕ) → AllLoad end gs → Each (λ g. (1 ≤ g .perm) × (g .perm ≤ 3)) (kept (imageBss image) gs)
+    each [] end l = tt
+    each (g ∷ gs) end l =
+        let more = each gs (pageUp (g .vaddr + g .memsz)) (l .1) in
+        split (nonEmpty (userSegment (imageBss image) g)) (λ q. rw q (l .0 .perm, more)) (λ q. rw q more)
+
+-- they are aligned and disjoint
+pub start-aligned : (image : List ℕ) → imageError image ≡ 0 → all aligned (startPieces image) ≡ true
+start-aligned image e =
+    let r = image-recorded image e in
+    all-app aligned (imageSegments image) (bssSegment (imageBss image) ∷ stack ∷ []) (image-aligned utzero (imageSegments image) (r .ascends)) (rw (bss-aligned _ (imageBss image) (r .bss-ok)))
+
+pub start-apart : (image : List ℕ) → imageError image ≡ 0 → Apart (startPieces image)
+start-apart image e =
+    let r = image-recorded image e in
+    let end : ℕ = imageEnd utzero (imageSegments image) in
+    image-apart utzero (imageSegments image) (bssSegment (imageBss image) ∷ stack ∷ []) (r .ascends) (bss-stack-apart end (imageBss image) (r .bss-ok)) (bss-stack-low end (imageBss image) (r .bss-ok))
+
+-- the pages in the order of a start, and of the record that it leaves, give every address the same
+pub start-pieces : (image name : List ℕ) → imageError image ≡ 0 → (a : ℕ) → permAt (startPieces image) a ≡ permAt (piecesOf (procOf image name)) a
+start-pieces image name e a =
+    let r = image-recorded image e in
+    perm-tail (imageSegments image) (bssSegment (imageBss image) ∷ stack ∷ []) (stack ∷ bssSegment (imageBss image) ∷ []) a (swap-stack (imageEnd utzero (imageSegments image)) (imageBss image) (r .bss-ok) a)
+    ∙ ap (λ (x : List UserSegment). permAt x a) (sym (shape-pieces (procOf image name) (imageSegments image) (image-shape image name e)))
+
+-- they lie in user memory
+pub start-between : (image : List ℕ) → imageError image ≡ 0 → (a q : ℕ) → permAt (startPieces image) a ≡ some q → (utzero ≤ a) × (a < uaddrtop)
+start-between image e a q f =
+    shape-between (procOf image []) (imageSegments image) (image-shape image [] e) a q (sym (start-pieces image [] e a) ∙ f)
+
+-- and are equally many
+pub start-count : (image name : List ℕ) → imageError image ≡ 0 → pageCount (startPieces image) ≡ pageCount (piecesOf (procOf image name))
+start-count image name e =
+    let x = count-append (imageSegments image) (bssSegment (imageBss image) ∷ stack ∷ []) in
+    let y = count-append (imageSegments image) (stack ∷ bssSegment (imageBss image) ∷ []) in
+    let z = ap pageCount (shape-pieces (procOf image name) (imageSegments image) (image-shape image name e)) in
+    omega arith

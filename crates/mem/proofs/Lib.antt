@@ -1,0 +1,2 @@
+-- What a rounding that callers match on tells.
+pub mod Laws

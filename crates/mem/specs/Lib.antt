@@ -1,0 +1,2 @@
+-- What rounding past 64 bits comes to.
+pub mod Rounding

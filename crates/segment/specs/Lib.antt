@@ -1,0 +1,2 @@
+-- What the declared types of this crate stand for in the specification.
+pub mod Rule

@@ -1,0 +1,91 @@
+// User memory, as r9's segment.rs, which follows Plan 9's port/segment.c: the break's rule.
+
+ghost use mathlib.Core.Path.{_≡_};
+ghost use mathlib.Core.Option.{some};
+ghost use Rattle.spec.specs.Segment.{ibrk};
+ghost use Rattle.segment.specs.Rule.{optOf, breakOf};
+use spec::VirtRange;
+
+// A process's bss, or none until it's set: `Option<VirtRange>`.
+pub enum Bss {
+    Unset,
+    Set(VirtRange),
+}
+
+// What a break comes to: the number it is refused with, or 0; its value; and the bss handed back.
+pub struct Break {
+    pub error: u64,
+    pub value: u64,
+    pub bss: Bss,
+}
+
+// A break that moved the bss's end.
+fn accepted(bss: VirtRange) -> Break
+    ensures { λ r. ⌜ r ≡ record { error = 0; value = 0; bss = Bss.Set bss } ⌝ }
+{
+    Break {
+        error: 0,
+        value: 0,
+        bss: Bss::Set(bss),
+    }
+}
+
+// A break that is refused, with the bss as it was.
+fn refused(error: u64, bss: VirtRange) -> Break
+    ensures { λ r. ⌜ r ≡ record { error = error; value = 0; bss = Bss.Set bss } ⌝ }
+{
+    Break {
+        error,
+        value: 0,
+        bss: Bss::Set(bss),
+    }
+}
+
+// `ibrk`'s rule for a bss that is set.
+fn moved(range: VirtRange, addr: u64, free: u64) -> Break
+    ensures { λ r. ⌜ breakOf r ≡ ibrk (some range) addr free ⌝ }
+{
+    let start = range.start;
+    let end = range.end;
+    if addr == 0 {
+        return Break {
+            error: 0,
+            value: start,
+            bss: Bss::Set(range),
+        };
+    }
+    if addr < start {
+        return refused(spec::ENOVMEM, range);
+    }
+    let mem::Rounded::To(newtop) = mem::checked_page_up(addr) else {
+        return refused(spec::ENOVMEM, range);
+    };
+    // One guard page is kept below the stack, so that it can't run into the bss.
+    if newtop > spec::LIMIT {
+        return refused(spec::ESOVERLAP, range);
+    }
+    let bss = VirtRange { start, end: newtop };
+    if newtop < end {
+        return accepted(bss);
+    }
+    // 4,096 × free may pass 64 bits: the pages that the growth touches are counted instead.
+    if (newtop - end + 4095) / 4096 > free {
+        return refused(spec::ENOVMEM, range);
+    }
+    accepted(bss)
+}
+
+// Move the end of `bss` to `addr`, rounded up to a page, as Plan 9's ibrk, if `free` frames hold the new pages. An `addr` of 0
+// answers the bss's start. On failure nothing changes.
+pub fn ibrk(bss: Bss, addr: u64, free: u64) -> Break
+    ensures { λ r. ⌜ breakOf r ≡ ibrk (optOf bss) addr free ⌝ }
+{
+    match bss {
+        Bss::Unset => Break {
+            error: spec::EBADARG,
+            value: 0,
+            bss: Bss::Unset,
+        },
+        Bss::Set(range) => moved(range, addr, free),
+    }
+}

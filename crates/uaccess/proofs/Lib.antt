@@ -1,0 +1,2 @@
+-- Ranges and strings, page by page.
+pub mod Chunk
