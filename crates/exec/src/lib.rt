@@ -121,7 +121,7 @@ fn layout(image: &[u8], h: Elf) -> Fit
 }
 
 // A segment's pages, given the bss: but the data's only up to the bss's start, rounded up, since the bss owns the pages from there.
-fn user_segment(bss: VirtRange, g: Segment) -> UserSegment
+pub fn user_segment(bss: VirtRange, g: Segment) -> UserSegment
     requires { ⌜ (g .vaddr + g .memsz ≤ 2 ^ 64 - 4096) × (bss .start ≤ 2 ^ 64 - 4096) ⌝ }
     ensures { λ r. ⌜ r ≡ pagesIn bss g ⌝ }
 {

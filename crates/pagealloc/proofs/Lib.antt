@@ -6,4 +6,3 @@ pub mod Filled
 pub mod FilePages
 pub mod Placing
 pub mod Copying
-pub mod Chunks

@@ -1,0 +1,3 @@
+-- The pages of an image, segment by segment.
+pub mod FileBytes
+pub mod Segments
