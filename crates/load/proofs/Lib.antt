@@ -1,3 +1,4 @@
 -- The pages of an image, segment by segment.
 pub mod FileBytes
 pub mod Segments
+pub mod Headers
