@@ -17,7 +17,7 @@ use Rattle.elf.specs.declared.Load.{Load}
 use Rattle.elf.specs.declared.Load.the-variants.{Skip, Segment as Taken}
 use Rattle.elf.specs.declared.Segment.{Segment as Held}
 use Rattle.elf.specs.Reader.{loadOf, Checked, CheckedLoad}
-use Rattle.elf.proofs.Walk.{front}
+use Rattle.elf.proofs.Walk.{segmentIn, front}
 use Rattle.laws.proofs.Accepted.{Placed, layout-first}
 use Rattle.exec.specs.Plan.{pagesIn}
 use Rattle.pagealloc.specs.Contents.{fileAt}
@@ -50,7 +50,7 @@ front-pages image bss (Taken g) gs = refl
 -- it keeps to the layout, and so do the others
 pub front-laid : (image : List ℕ) (l : Load) (gs : List Segment) → layoutOk (front image l gs) ≡ true → LaidLoad l × (layoutOk gs ≡ true)
 front-laid image Skip gs e = (tt, e)
-front-laid image (Taken g) gs e = let p = layout-first _ gs e in (p .0 .end, p .2)
+front-laid image (Taken g) gs e = let p = layout-first (segmentIn image g) gs e in (p .0 .end, p .2)
 
 -- a header that is skipped places nothing
 pub place-skip : (m : Store) (n : ℕ) (image : List ℕ) (bss : VirtRange) (l : Load) → l ≡ Skip → m ≡ place m n (loadPages image bss l)
@@ -63,3 +63,8 @@ pub load-taken : (m : Store) (n : ℕ) (image : List ℕ) (bss : VirtRange) (l :
 load-taken m n image bss l g u k e w z =
     ap₂ (λ (j : ℕ) (v : UserSegment). place m n (pagesOf (pageBytes (fileAt (g .vaddr) (take j (drop (g .offset) image)))) (v ∷ []))) z w
     ∙ sym (ap (λ (x : Load). place m n (loadPages image bss x)) e)
+
+-- with no segment left nothing more is placed
+pub place-done : (m : Store) (n : ℕ) (bss : VirtRange) (gs : List Segment) → gs ≡ [] → place m n (segmentPages bss gs) ≡ m
+unfolding place segmentPages
+place-done m n bss gs e = ap (λ (x : List Segment). place m n (segmentPages bss x)) e
