@@ -2,3 +2,4 @@
 pub mod FileBytes
 pub mod Segments
 pub mod Headers
+pub mod Whole

@@ -13,7 +13,6 @@ ghost use Rattle.spec.specs.Exec.{layoutOk, imageBss, imageError, startPieces, 
 ghost use Rattle.elf.specs.Reader.{loadOf, CheckedLoad, said, parsed};
 ghost use Rattle.pagealloc.specs.Lent.{store, Passed};
 ghost use Rattle.load.specs.Pages.{segmentPages, loadPages, LaidLoad};
-
 use elf::Elf;
 use elf::Load;
 use elf::Parsed;

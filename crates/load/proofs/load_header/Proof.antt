@@ -15,7 +15,7 @@ use Rattle.exec.specs.Plan.{pagesIn}
 use Rattle.pagealloc.specs.Lent.{store}
 use Rattle.pagealloc.specs.Contents.{fileAt}
 use Rattle.load.specs.Pages.{loadPages}
-use Rattle.load.proofs.Headers.{checked-of, laid-of, Whole, whole, place-skip, load-taken}
+use Rattle.load.proofs.Headers.{checked-of, laid-of, whole, place-skip, load-taken}
 use Rattle.load.proofs.load_header.Statement.{statement}
 use Rattle.load.proofs.load_header.Tie as tie
 
@@ -55,10 +55,12 @@ returns c =
 returns-2 : tie.Need-returns-2
 returns-2 c =
     let a = c .before .before .before .before .before .before .before .before .before .before .before .before .before .before .before .before .before .args in
-    let g = c .before .before .before .before .before .before .before .before .before .before .before .l .given .0 .0 in
-    (c .before .before .before .before .load-segment .ensures .0
-    ∙ load-taken (store (now (a .frames)) (now (a .book))) (a .owner) (now (a .image)) (a .bss) _ g (c .before .before .before .before .before .before .before .before .before .user-segment .result) (g .offset + g .filesz - g .offset)
-    (sym (c .before .before .before .before .before .before .before .before .before .before .before .before .before .segment-at .ensures) ∙ c .before .before .before .before .before .before .before .before .before .before .before .l .given .1) (c .before .before .before .before .before .before .before .before .before .user-segment .ensures) (omega arith), c .before .before .before .before .load-segment .ensures .1)
+    let g = c .before .before .before .before .before .before .before .before .before .before .before .l .given .0 .0 in (
+      c .before .before .before .before .load-segment .ensures .0
+          ∙ load-taken (store (now (a .frames)) (now (a .book))) (a .owner) (now (a .image)) (a .bss) _ g (c .before .before .before .before .before .before .before .before .before .user-segment .result) (g .offset + g .filesz - g .offset)
+          (sym (c .before .before .before .before .before .before .before .before .before .before .before .before .before .segment-at .ensures) ∙ c .before .before .before .before .before .before .before .before .before .before .before .l .given .1) (c .before .before .before .before .before .before .before .before .before .user-segment .ensures) (omega arith),
+      c .before .before .before .before .load-segment .ensures .1,
+    )
 
 pub load-header-spec : {M : Type 1} → statement M
 load-header-spec =
