@@ -26,7 +26,8 @@ readable-rest mem a x s r = record {
 abbrev pub afterBytes : List ℕ → Str → Str
 afterBytes s t = record { whole = t .whole; size = length s + t .size; buffer = s ++ t .buffer }
 
-none : (t : Str) → t ≡ afterBytes [] t
+-- a copy after no bytes
+pub none : (t : Str) → t ≡ afterBytes [] t
 none t = let z : t .size ≡ 0 + t .size = omega arith in λ i. record { whole = t .whole; size = z i; buffer = t .buffer }
 
 one : (x : ℕ) (s : List ℕ) (t : Str) → longer x (afterBytes s t) ≡ afterBytes (x ∷ s) t
