@@ -1,17 +1,16 @@
 -- The loops of a string copy.
 use Prim.Native.Nat.{ℕ, zero, suc, _+_, _-_, _%_, _≤_, _<_}
 use native.Mathlib.Omega.{arith}
-use native.Mathlib.Nat.{add-zero, add-assoc}
+use native.Mathlib.Nat.{add-zero}
 use native.Mathlib.Numerals.{add-one}
 use mathlib.Core.Path.{_≡_, refl, sym, ap, _∙_}
 use mathlib.Core.Bool.{Bool, true, false}
-use mathlib.Core.List.{List, [], _∷_, _++_, append-assoc, append-nil}
+use mathlib.Core.List.{List, [], _∷_, _++_, append-assoc}
 use lib.ListN.{length, getD, take, drop, length-append, length-drop, take-append-drop, drop-of-length-le}
-use lib.Seq.{drop-cons, length-take-le, take-all, take-add, drop-drop, take-at, take-take, getD-drop, getD-take}
+use lib.Seq.{drop-cons, length-take-le, take-add, drop-drop, take-take}
 use borrow.Author.Tests.{eqb-true, eq-eqb, ne-eqb}
 use borrow.Rule.Slice.PartMut.{putMid, midOf}
-use Rattle.spec.specs.Tests.{_is_, _⇒_else_}
-use Rattle.spec.specs.Numbers.{bytesFrom}
+use Rattle.spec.specs.Tests.{_is_}
 use Rattle.spec.specs.Frames.{Mem}
 use Rattle.spec.specs.Access.{userRangeOk, byteOf, bytesAt, Str, copyStr}
 use Rattle.spec.proofs.Bools.{split}

@@ -22,7 +22,7 @@ pub struct Str {
     pub size: usize,
 }
 
-// The frame of the page that holds an address.
+// The frame of the page that holds an address. The table answers; the book is there for the contract alone.
 fn frame_at(
     book: &[u64],
     tags: &[u64; 272],
@@ -107,7 +107,7 @@ fn phys(k: usize, va: u64) -> mem::PhysAddr
     mem::PhysAddr::add(pagealloc::frames::frame_addr(k), va % spec::PAGE_SIZE_4K)
 }
 
-// The `n` bytes of a process from an address on, all in one page, which can be read.
+// The `n` bytes of a process from an address on, all in one page, which has been checked.
 fn user_bytes<'a>(
     frames: &'a [u8],
     book: &[u64],
@@ -157,7 +157,7 @@ pub fn read_user(
     }
 }
 
-// Puts `bytes` at an address of a page that can be written and holds them all.
+// Puts `bytes` at an address, all in one page, which has been checked for writing.
 fn write_part(
     frames: &mut [u8],
     book: &[u64],

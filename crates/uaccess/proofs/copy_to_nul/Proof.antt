@@ -1,12 +1,12 @@
 -- `uaccess::copy_to_nul` meets its contract. The loop's invariant: the first `i` bytes are those of `s`, none of them NUL, and the
 -- others as they were.
-use Prim.Native.Nat.{ℕ, _+_, _-_, _≤_}
+use Prim.Native.Nat.{_+_, _-_, _≤_}
 use native.Mathlib.Omega.{arith}
-use mathlib.Core.Path.{_≡_, refl, sym, ap, _∙_}
+use mathlib.Core.Path.{_≡_, refl}
 use lib.ListN.{length, length-set, drop}
 use denote.Ref.{now}
 use borrow.Author.Needs.{needs}
-use Rattle.pagealloc.proofs.Overwrite.{mix, mix-none, mix-turn}
+use Rattle.pagealloc.proofs.Overwrite.{mix, mix-turn}
 use Rattle.uaccess.specs.Strings.{toNul}
 use Rattle.uaccess.proofs.Strings.{nul-here, nul-next, nul-end}
 use Rattle.uaccess.proofs.copy_to_nul.Statement.{statement}
@@ -26,7 +26,7 @@ shared-slice-read-b : tie.Need-shared-slice-read-b Inv-loop μ-loop
 shared-slice-read-b c = omega arith
 
 same-length : tie.Need-same-length Inv-loop μ-loop
-same-length c = omega arith
+same-length c = search needs
 
 returns : tie.Need-returns Inv-loop μ-loop
 unfolding mix

@@ -1,11 +1,10 @@
 -- `uaccess::read_user` meets its contract. The loop's invariant: the first `i` bytes are read, and the others as they were.
-use Prim.Native.Nat.{ℕ, _+_, _-_, _≤_}
+use Prim.Native.Nat.{_+_, _-_, _≤_}
 use native.Mathlib.Omega.{arith}
 use mathlib.Core.Path.{_≡_, refl, sym, ap, _∙_}
 use mathlib.Core.Bool.{false}
 use lib.ListN.{length}
 use denote.Ref.{now}
-use borrow.Author.Needs.{needs}
 use borrow.Rule.Slice.PartMut.{mid-len}
 use Rattle.spec.specs.Numbers.{uaddrtop}
 use Rattle.spec.specs.Frames.{Mem, memOf}
