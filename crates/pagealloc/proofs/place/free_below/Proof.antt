@@ -1,4 +1,4 @@
--- `pagealloc::book::free_below` meets its contract. The loop's invariant: the highest free frame below `c` is the highest below `i`.
+-- `pagealloc::place::free_below` meets its contract. The loop's invariant: the highest free frame below `c` is the highest below `i`.
 use mathlib.Core.Path.{_≡_, refl, sym, ap, _∙_}
 use mathlib.Core.Bool.{Bool}
 use Prim.Native.Nat.{ℕ, _-_, _≤_}
@@ -10,8 +10,8 @@ use Rattle.spec.specs.Tests.{_is_}
 use Rattle.spec.specs.Book.{highest}
 use Rattle.pagealloc.specs.Lent.{foundOf}
 use Rattle.pagealloc.proofs.Searches.{highest-here, highest-less, highest-end}
-use Rattle.pagealloc.proofs.book.free_below.Statement.{statement}
-use Rattle.pagealloc.proofs.book.free_below.Tie as tie
+use Rattle.pagealloc.proofs.place.free_below.Statement.{statement}
+use Rattle.pagealloc.proofs.place.free_below.Tie as tie
 
 abbrev Inv-loop : tie.InvT-loop
 Inv-loop book c i₀ i = (i ≤ length book) × (highest (λ k. getD book k 0 is 0) c ≡ highest (λ k. getD book k 0 is 0) i)
