@@ -21,10 +21,10 @@ fn free_below(book: &[u64], c: usize) -> spec::Found
 {
     let mut i = c;
     while 0 < i {
-        i -= 1;
-        if book[i] == 0 {
-            return spec::Found::At(i);
+        if book[i - 1] == 0 {
+            return spec::Found::At(i - 1);
         }
+        i -= 1;
     }
     spec::Found::Nothing
 }
