@@ -6,3 +6,4 @@ pub mod Filled
 pub mod FilePages
 pub mod Placing
 pub mod Copying
+pub mod Chunks
