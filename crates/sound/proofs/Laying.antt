@@ -14,12 +14,12 @@ use Rattle.spec.specs.declared.UserSegment.{UserSegment}
 use Rattle.spec.specs.declared.Proc.{Proc}
 use Rattle.spec.specs.declared.Procs.{Procs}
 use Rattle.spec.proofs.Bools.{split}
-use Rattle.sound.specs.Plan.{part, tag, size, sumTo, partAt, tagAt, baseAt, Small, Laid, LaidTo, LaidAll}
+use Rattle.sound.specs.Plan.{seat, part, tag, size, sumTo, partAt, tagAt, baseAt, Small, Laid, LaidTo, LaidAll}
 use Rattle.sound.proofs.Ranks.{sum-none, sum-more}
 
 -- ---- the parts of a record
 
-pub part-segment : (p : Proc) (j : ℕ) → j < 16 → getD (p .segments) j zeroSegment ≡ part p j
+pub part-segment : (p : Proc) (j : ℕ) → j < 16 → seat (getD (p .segments) j zeroSegment) ≡ part p j
 unfolding part
 part-segment p j h = rw (lt-ltb j 16 h) refl
 
