@@ -62,6 +62,11 @@ pushed r u =
     u .range .start below u .range .end ⇒ record { segments = r .count below 15 ⇒ set (r .segments) (r .count) u else r .segments; count = r .count + 1 } else
     r
 
+abbrev pub recordedWith : VirtRange → Recorded → Load → Recorded
+recordedWith bss r Skip = r
+recordedWith bss r (Taken g) = pushed r (pagesIn bss g)
+
+-- all of them
 abbrev pub recorded : List UserSegment → Recorded
 recorded us = record { segments = take 15 us ++ replicate (16 - length (take 15 us)) zeroSegment; count = length us }
 
@@ -72,7 +77,7 @@ abbrev pub refusedPlan : ℕ → ℕ → Plan
 refusedPlan number elf = record { number = number; elf = elf; entry = 0; segments = replicate 16 zeroSegment; count = 0; bss = range 0 0; pages = 0 }
 
 -- what a start needs of an image
-abbrev pub planOf : List ℕ → Plan
+unfoldable pub planOf : List ℕ → Plan
 planOf image =
     imageError image isnt 0 ⇒ refusedPlan (imageError image) (elfError image) else
     record {
