@@ -52,6 +52,10 @@ baseAt ps k = sumTo (λ i. size (partAt ps i)) k
 
 -- ---- laying the plan
 
+-- more pages than these no part has
+abbrev pub maxPages : ℕ
+maxPages = uaddrtop / 4096
+
 -- a part whose tag and base don't wrap
 pub record Small (g : UserSegment) : Type 0 where
   pub ordered : g .range .start ≤ g .range .end
@@ -70,7 +74,7 @@ pub record Laid (p : Proc) (n total : ℕ) (tags₀ bases₀ tags bases : List �
   pub tags-before : (k : ℕ) → k < 17 * n → getD tags k 0 ≡ getD tags₀ k 0
   pub bases-before : (k : ℕ) → k < 17 * n → getD bases k 0 ≡ getD bases₀ k 0
   pub sum : t ≡ total + sumTo (λ i. size (part p i)) j
-  pub bound : t ≤ (17 * n + j) * 34359738368
+  pub bound : t ≤ (17 * n + j) * maxPages
   pub tags-long : length tags ≡ 272
   pub bases-long : length bases ≡ 273
 
@@ -79,7 +83,7 @@ pub record LaidTo (ps : Procs) (n : ℕ) (tags bases : List ℕ) (t : ℕ) : Typ
   pub tag-is : (k : ℕ) → k < 17 * n → getD tags k 0 ≡ tagAt ps k
   pub base-is : (k : ℕ) → k < 17 * n → getD bases k 0 ≡ baseAt ps k
   pub sum : t ≡ baseAt ps (17 * n)
-  pub bound : t ≤ 17 * n * 34359738368
+  pub bound : t ≤ 17 * n * maxPages
   pub tags-long : length tags ≡ 272
   pub bases-long : length bases ≡ 273
 

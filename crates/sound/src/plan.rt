@@ -6,7 +6,8 @@ ghost use Prim.Native.Nat.{_+_, _*_, _<_, _≤_};
 ghost use lib.ListN.{length};
 ghost use Rattle.spec.specs.Tests.{all};
 ghost use Rattle.sound.specs.Records.{passes};
-ghost use Rattle.sound.specs.Plan.{seat as seatOf, SmallParts, Laid, LaidAll, Rising, hits as hitsOf, later as laterOf, Ascending, Span, PartOf, Plan};
+ghost use Rattle.sound.specs.Plan.{seat as seatOf, maxPages, SmallParts, Laid, LaidAll, Rising, hits as hitsOf, later as laterOf, Ascending, Span, PartOf, Plan};
+use spec::DATA;
 use spec::Proc;
 use spec::Procs;
 use spec::USTKTOP;
@@ -29,7 +30,7 @@ pub fn seat(s: UserSegment) -> UserSegment
 
 // Lays the parts of process n + 1, where the processes before it have `total` pages, and gives the pages up to its last.
 pub fn lay(tags: &mut [u64; 272], bases: &mut [u64; 273], p: Proc, n: usize, total: u64) -> u64
-    requires { ⌜ (n < 16) × SmallParts p × (total ≤ 17 * n * 34359738368) × (length (now tags) ≡ 272) × (length (now bases) ≡ 273) ⌝ }
+    requires { ⌜ (n < 16) × SmallParts p × (total ≤ 17 * n * maxPages) × (length (now tags) ≡ 272) × (length (now bases) ≡ 273) ⌝ }
     ensures { λ r. ⌜ Laid p n total (now (tags .entry)) (now (bases .entry)) (now (tags .exit)) (now (bases .exit)) r 17 ⌝ }
 {
     let segments = p.segments;
@@ -52,7 +53,7 @@ pub fn lay(tags: &mut [u64; 272], bases: &mut [u64; 273], p: Proc, n: usize, tot
     let from = (p.bss.start + 4095) / 4096 * 4096;
     let to = p.bss.end;
     let k = first + 16;
-    tags[k] = from + owner + 3;
+    tags[k] = from + owner + DATA;
     bases[k] = t;
     t + (to - from) / 4096
 }

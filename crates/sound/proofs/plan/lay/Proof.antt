@@ -3,13 +3,13 @@ use Prim.Native.Nat.{ℕ, _+_, _-_, _*_, _≤_, _<_}
 use native.Mathlib.Omega.{arith}
 use mathlib.Core.Path.{_∙_}
 use borrow.Author.Needs.{needs}
-use Rattle.sound.specs.Plan.{Small, Laid}
+use Rattle.sound.specs.Plan.{maxPages, Small, Laid}
 use Rattle.sound.proofs.Laying.{part-segment, laid-none, laid-more, laid-bss}
 use Rattle.sound.proofs.plan.lay.Statement.{statement}
 use Rattle.sound.proofs.plan.lay.Tie as tie
 
 abbrev Inv-loop : tie.InvT-loop
-Inv-loop tags₀ bases₀ p n total segments owner first t₀ j₀ tags bases t j = (j ≤ 16) × (t ≤ (17 * n + j) * 34359738368) × Laid p n total tags₀ bases₀ tags bases t j
+Inv-loop tags₀ bases₀ p n total segments owner first t₀ j₀ tags bases t j = (j ≤ 16) × (t ≤ (17 * n + j) * maxPages) × Laid p n total tags₀ bases₀ tags bases t j
 
 abbrev μ-loop : tie.MeasureT-loop
 μ-loop tags₀ bases₀ p n total segments owner first t₀ j₀ tags bases t j = 16 - j
