@@ -26,9 +26,8 @@ use Rattle.sound.specs.Records.{passes}
 use Rattle.sound.specs.Plan.{rank, nth, Plan, LaidAll}
 use Rattle.sound.specs.Table.{frameWith, entry, Planned, Tabled, marked}
 use Rattle.sound.proofs.Counting.{count, free-used, Lists, counted}
-use Rattle.sound.proofs.Laying.{part-segment}
 use Rattle.sound.proofs.Pass.{with-found, with-missing, entry-none, rank-below, rank-word}
-use Rattle.sound.proofs.Parts.{each-made, parts-of, part-gives}
+use Rattle.sound.proofs.Parts.{each-made, parts-of, place-gives}
 use Rattle.sound.proofs.Passing.{Mapped, shape-pass, pass-shape}
 use Rattle.sound.proofs.Planning.{Made, base-total, rank-hits, rank-good, rank-gives, gives-rank, nth-apart, plan}
 
@@ -85,9 +84,8 @@ records-of b ps w s = all-test passes zeroProc (ps .all) (λ k h. let e : k + 1 
         mapped j h some-page =
             let g = getD (p .segments) j zeroSegment in
             let hj : j < 16 = omega (arith, w .each (n - 1) .segments) in
-            let e = part-segment p j hj in
             sound-between b ps w s n (g .range .start) (g .perm) v
-            (rw (sym e) at (part-gives p (w .each (n - 1)) (parts-of p (w .each (n - 1)) (s .shape n v)) j (g .range .start) (omega arith) (rw (sym e) (within-test (g .range .start) (g .range .end) (g .range .start) (omega arith) some-page))))
+            (place-gives p (w .each (n - 1)) (parts-of p (w .each (n - 1)) (s .shape n v)) j (g .range .start) hj (within-test (g .range .start) (g .range .end) (g .range .start) (omega arith) some-page))
 
 -- ---- against a plan that is laid
 

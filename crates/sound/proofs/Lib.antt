@@ -6,6 +6,7 @@ pub mod Pass
 pub mod Laying
 pub mod Parts
 pub mod Passing
+pub mod Seats
 pub mod Planning
 pub mod Counting
 pub mod Decides
