@@ -3,12 +3,12 @@ use Prim.Native.Nat.{ℕ, _+_, _*_, _-_, _/_, _≤_, _<_}
 use native.Mathlib.Omega.{arith}
 use mathlib.Core.Path.{_≡_, refl, sym, ap, ap₂, _∙_}
 use mathlib.Core.Bool.{Bool, true, false}
-use mathlib.Core.List.{List, [], _∷_, _++_}
-use lib.Dec.{leb, ltb}
+use mathlib.Core.List.{List, [], _∷_}
+use lib.Dec.{leb}
 use lib.ListN.{length, take, length-append}
 use lib.Seq.{take-append-seam}
-use borrow.Author.Tests.{ltb-true, ltb-false, leb-true, leb-false, lt-ltb, le-ltb}
-use Rattle.spec.specs.Tests.{_is_, _above_, _⇒_else_, any, has, sum}
+use borrow.Author.Tests.{ltb-false, leb-true, leb-false, lt-ltb, le-ltb}
+use Rattle.spec.specs.Tests.{_above_, _⇒_else_, any, has, sum}
 use Rattle.spec.specs.Numbers.{ustktop, ustksize, argLimit, leBytes}
 use Rattle.spec.specs.Frames.{put}
 use Rattle.spec.specs.Exec.{argsOf, strings, stackSize, argsError, stringsAt, argvAt, registers, pointers, belowZero}

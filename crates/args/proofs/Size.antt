@@ -1,13 +1,12 @@
 -- What args_size comes to, by cases, and what it tells a caller.
-use Prim.Native.Nat.{ℕ, _+_, _*_, _≤_, _<_}
+use Prim.Native.Nat.{ℕ, _+_, _≤_, _<_}
 use native.Mathlib.Omega.{arith}
 use mathlib.Core.Path.{_≡_, refl, sym, ap, _∙_}
-use mathlib.Core.Bool.{Bool, true, false, not}
+use mathlib.Core.Bool.{true, false}
 use mathlib.Core.List.{List}
-use lib.Dec.{eqb, ltb}
 use lib.ListN.{length}
 use borrow.Author.Tests.{eqb-true, eq-eqb, lt-ltb, le-ltb}
-use Rattle.spec.specs.Tests.{_is_, _isnt_, _above_, _⇒_else_, any, has, sum}
+use Rattle.spec.specs.Tests.{_is_, _above_, _⇒_else_, has, sum}
 use Rattle.spec.specs.Numbers.{argLimit}
 use Rattle.spec.specs.Exec.{argsOf, strings, stackSize, argsError}
 use Rattle.spec.proofs.Bools.{split}
@@ -20,7 +19,7 @@ use Rattle.args.proofs.Places.{passed-size}
 abbrev errorBy : List ℕ → List ℕ → ℕ
 errorBy bytes lengths = has 0 bytes ⇒ 32 else stackSize (length bytes + length lengths) (length lengths) above argLimit ⇒ 33 else 0
 
-pub error-by : (bytes lengths : List ℕ) → sum lengths ≡ length bytes → argsError (argsOf bytes lengths) ≡ errorBy bytes lengths
+error-by : (bytes lengths : List ℕ) → sum lengths ≡ length bytes → argsError (argsOf bytes lengths) ≡ errorBy bytes lengths
 error-by bytes lengths e = rw (cut-has 0 bytes lengths e, cut-size bytes lengths e, cut-count bytes lengths)
 
 module _ (bytes lengths : List ℕ) where
@@ -64,7 +63,7 @@ size-number bytes lengths fit =
 -- of arguments that pass: the lengths sum to the bytes, the strings are of the size told, and that and the pointers' size are within the limit
 pub record Passed (bytes lengths : List ℕ) (size : ℕ) : Type 0 where
   pub sums : sum lengths ≡ length bytes
-  pub none : argsError (argsOf bytes lengths) ≡ 0
+  pub passed : argsError (argsOf bytes lengths) ≡ 0
   pub strings-size : size ≡ length (strings (argsOf bytes lengths))
   pub bytes-size : size ≡ length bytes + length lengths
   pub limit : stackSize size (length lengths) ≤ argLimit
@@ -78,7 +77,7 @@ size-passed bytes lengths r e z =
     let size : r .strings ≡ length bytes + length lengths = ap (λ (x : ArgsSize). x .strings) (e ∙ size-fine bytes lengths q none) in
     record {
       sums = fit;
-      none = none;
+      passed = none;
       strings-size = size ∙ sym (cut-size bytes lengths fit);
       bytes-size = size;
       limit = rw (size ∙ sym (cut-size bytes lengths fit), ← cut-count bytes lengths) (passed-size (argsOf bytes lengths) none);

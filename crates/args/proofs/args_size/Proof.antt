@@ -1,5 +1,5 @@
 -- `args::args_size` meets its contract: the tests, in order, on the bytes and lengths themselves.
-use mathlib.Core.Path.{_≡_, sym, _∙_}
+use mathlib.Core.Path.{sym, _∙_}
 use Prim.Native.Nat.{_+_}
 use native.Mathlib.Omega.{arith}
 use denote.Ref.{now}

@@ -1,6 +1,5 @@
 -- `args::below_zero` meets its contract.
 use mathlib.Core.Path.{sym}
-use native.Mathlib.Omega.{arith}
 use Rattle.args.proofs.Places.{low-past, low-words}
 use Rattle.args.proofs.below_zero.Statement.{statement}
 use Rattle.args.proofs.below_zero.Tie as tie

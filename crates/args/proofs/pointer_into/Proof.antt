@@ -1,6 +1,5 @@
 -- `args::pointer_into` meets its contract: a lent part.
 use mathlib.Core.Path.{_∙_}
-use native.Mathlib.Omega.{arith}
 use denote.Ref.{now}
 use borrow.Author.Needs.{needs}
 use Rattle.args.proofs.Lay.{put-pointer}
