@@ -4,5 +4,3 @@
 
 // What comes first in every call.
 pub mod front;
-// End.
-pub mod end;
