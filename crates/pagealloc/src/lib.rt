@@ -1,1 +1,15 @@
-// pagealloc: to come.
+// Frames and book, where r9 has its page allocator and the MMU's tables: frame bytes are lent, with one 64-bit book word a frame.
+// A word of 0 is a free frame; otherwise it is page address + 16 × owner + permission. Callers have checked sizes, numbers and
+// ranges: what these functions ask of them stands in their `requires`.
+
+// Book words, and searches of the book.
+pub mod book;
+
+// Pages released: book words that become 0.
+pub mod release;
+
+// The bytes of frames.
+pub mod frames;
+
+// Pages placed in free frames.
+pub mod place;

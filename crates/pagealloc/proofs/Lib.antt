@@ -1,0 +1,7 @@
+-- Laws that the proofs of this crate cite.
+pub mod Searches
+pub mod Overwrite
+pub mod Released
+pub mod Filled
+pub mod FilePages
+pub mod Placing

@@ -1,0 +1,50 @@
+-- The turns of loops over the book: free frames counted, and the highest frame that passes a test.
+use Prim.Native.Nat.{ℕ, zero, suc, _+_, _*_, _-_, _/_, _%_, _≤_, _<_}
+use native.Mathlib.Omega.{arith}
+use native.Mathlib.Numerals.{add-one}
+use mathlib.Core.Path.{_≡_, refl, sym, ap, _∙_}
+use mathlib.Core.Bool.{Bool, true, false}
+use mathlib.Core.Option.{Option, none, some}
+use mathlib.Core.List.{List, [], _∷_}
+use lib.Dec.{eqb}
+use lib.ListN.{length, getD, drop, drop-of-length-le}
+use lib.Seq.{drop-cons}
+use borrow.Author.Tests.{eqb-true, eq-eqb, ne-eqb}
+use Rattle.spec.specs.Tests.{_is_, _⇒_else_}
+use Rattle.spec.specs.Book.{pageOf, ownerOf, highest, owns, frameOf, free}
+use Rattle.spec.proofs.Bools.{split, clash}
+use Rattle.laws.proofs.Frame.{owns-means, owns-test}
+
+-- ---- free frames
+
+-- a frame that is free, and one that isn't
+pub free-hit : (book : List ℕ) (i : ℕ) → i < length book → getD book i 0 ≡ 0 → free (drop i book) ≡ free (drop (i + 1) book) + 1
+free-hit book i h e = rw (add-one i) (ap free (drop-cons book i 0 h) ∙ rw (eq-eqb (getD book i 0) 0 e))
+
+pub free-miss : (book : List ℕ) (i : ℕ) → i < length book → (getD book i 0 ≡ 0 → ⊥) → free (drop i book) ≡ free (drop (i + 1) book)
+free-miss book i h e = rw (add-one i) (ap free (drop-cons book i 0 h) ∙ rw (ne-eqb (getD book i 0) 0 e))
+
+pub free-end : (book : List ℕ) (i : ℕ) → length book ≤ i → free (drop i book) ≡ 0
+free-end book i h = ap free (drop-of-length-le book h)
+
+-- ---- the highest
+
+pub highest-here : (t : ℕ → Bool) (i : ℕ) → 0 < i → t (i - 1) ≡ true → highest t i ≡ some (i - 1)
+highest-here t i h e = let d : i ≡ suc (i - 1) = omega arith in ap (highest t) d ∙ rw e
+
+pub highest-less : (t : ℕ → Bool) (i : ℕ) → 0 < i → t (i - 1) ≡ false → highest t i ≡ highest t (i - 1)
+highest-less t i h e = let d : i ≡ suc (i - 1) = omega arith in ap (highest t) d ∙ rw e
+
+pub highest-end : (t : ℕ → Bool) (i : ℕ) → i ≡ 0 → highest t i ≡ none
+highest-end t i e = ap (highest t) e
+
+-- ---- a word without its permission is owner and page
+
+pub key-owns : (n page w : ℕ) → 1 ≤ n → n < 256 → page % 4096 ≡ 0 → w / 16 ≡ page / 16 + n → owns n page w ≡ true
+key-owns n page w lo hi al e = owns-test n page w (record { used = λ z. omega arith; owner = omega arith; page = omega arith })
+
+pub key-not : (n page w : ℕ) → n < 256 → page % 4096 ≡ 0 → (w / 16 ≡ page / 16 + n → ⊥) → owns n page w ≡ false
+key-not n page w hi al ne =
+    split (owns n page w)
+    (λ q. let o = owns-means n page w q in absurd (ne (omega (arith, o .owner, o .page))))
+    (λ q. q)
