@@ -7,8 +7,9 @@ use lib.Dec.{eqb}
 use Rattle.spec.specs.Tests.{_is_, _isnt_, _⇒_else_, _orElse_}
 use Rattle.spec.specs.Book.{valid, free}
 use Rattle.spec.specs.Frames.{sized}
-use Rattle.spec.specs.Machine.{Ask, start, Call, Kind, plain, kind, Reply, outcome, refused, refuse, lengthsFit, listFits, numbered, living, unclaimed, judge, weigh}
-use Rattle.spec.specs.World.{State, sound, taken, view, answer, after, Does}
+use Rattle.spec.specs.Machine.{Ask, start, fork, Call, Kind, plain, kind, Reply, outcome, refused, refuse, lengthsFit, listFits, numbered, living, unclaimed, judge, weigh}
+use Rattle.spec.specs.World.{State, sound, taken, view, answer, leave, after, Does}
+use Rattle.spec.proofs.Chain.{here, past, isnt-holds-through, isnt-fails-through}
 use Rattle.spec.proofs.Taken.{refused-keeps}
 use Rattle.calls.specs.Front.{call, numberError, plainError, beginError, forkError}
 
@@ -64,6 +65,22 @@ answer-start s n image name bytes lengths =
     ∙ ap (orRefuse (numberError s n (lengthsFit q)) q) (step (not (taken s n)) 5 0 q w w refl refl)
     ∙ join (numberError s n (lengthsFit q)) (not (not (taken s n)) ⇒ 5 else 0) q w
 
+-- ---- what a call does, from what was found first
+
 -- a call that is refused
 pub does-refused : (s : State) (n : ℕ) (q : Ask) (e : ℕ) → answer s (call n q) ≡ refuse e q → Does s (call n q) s (refuse e q)
 does-refused s n q e h = record { left = sym (refused-keeps s (call n q) (ap outcome h)); said = sym h }
+
+-- a call whose answer is known
+pub does-answered : (s : State) (n : ℕ) (q : Ask) (t : State) (r : Reply) → answer s (call n q) ≡ r → t ≡ leave s (call n q) (outcome r) → Does s (call n q) t r
+unfolding after
+does-answered s n q t r h l = record { left = l ∙ ap (λ (x : Reply). leave s (call n q) (outcome x)) (sym h); said = sym h }
+
+-- e is the number that was found first, and w what the call answers if there is none
+module _ (s : State) (n : ℕ) (q : Ask) (e a : ℕ) (w : Reply) (all : answer s (call n q) ≡ orRefuse a q w) (first : e ≡ a) where
+  pub refused-first : (e ≡ 0 → ⊥) → Does s (call n q) s (refuse e q)
+  refused-first ne =
+      does-refused s n q e (all ∙ sym (here (a isnt 0) (refuse a q) w (refuse e q) (isnt-holds-through e a 0 first ne) (ap (λ (k : ℕ). refuse k q) first)))
+
+  pub goes-on : e ≡ 0 → (t : State) (r : Reply) → w ≡ r → t ≡ leave s (call n q) (outcome r) → Does s (call n q) t r
+  goes-on z t r h l = does-answered s n q t r (all ∙ sym (past (a isnt 0) (refuse a q) w w (isnt-fails-through e a 0 first z) refl) ∙ h) l

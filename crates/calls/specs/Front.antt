@@ -30,21 +30,18 @@ numberError s n fits =
 
 -- 1 to 4 of a call that a living process makes for itself
 unfoldable pub plainError : State → ℕ → Bool → ℕ
-unfolding numberError
 plainError s n fits =
     numberError s n fits orElse
     (not (taken s n) ⇒ 4 else 0)
 
 -- 1, 2, 3 and 5 of a start
 unfoldable pub beginError : State → ℕ → Bool → ℕ
-unfolding numberError
 beginError s n fits =
     numberError s n fits orElse
     (not (not (taken s n)) ⇒ 5 else 0)
 
 -- 1 to 5 of a fork whose list is the record's own
 unfoldable pub forkError : State → ℕ → ℕ → ℕ
-unfolding numberError
 forkError s n child =
     numberError s n true orElse
     (not (valid child) ⇒ 3 else

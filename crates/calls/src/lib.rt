@@ -1,6 +1,19 @@
 // The ten calls: the library's front door. Each takes frames and book lent, records by value and its own arguments, checks all of
-// them, and answers. No caller has anything to check: no function here has a `requires`. What a call leaves and answers is what
-// `after` and `answer` of the specification say, refusals too.
+// them, and answers. No caller has anything to check: no call has a `requires`. What a call leaves and answers is what `after` and
+// `answer` of the specification say, refusals too.
+
+// The records of processes.
+pub mod record;
 
 // What comes first in every call.
 pub mod front;
+
+// What a call leaves, and a process that ends.
+mod left;
+
+pub use left::Left;
+
+// The calls.
+mod call_end;
+
+pub use call_end::end;
