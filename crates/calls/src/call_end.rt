@@ -3,9 +3,8 @@
 ghost use mathlib.Core.Path.{_≡_};
 ghost use Rattle.spec.specs.Machine.{end, plainly};
 ghost use Rattle.spec.specs.World.{Does};
-ghost use Rattle.calls.specs.Front.{stateOf, call};
+ghost use Rattle.front.specs.Numbers.{stateOf, call};
 use crate::left::Left;
-use crate::left::forget;
 use spec::Answer;
 use spec::Procs;
 
@@ -13,14 +12,14 @@ use spec::Procs;
 pub fn end(frames: &mut [u8], book: &mut [u64], procs: Procs, number: u64) -> Left
     ensures { λ r. ⌜ Does (stateOf (now (frames .entry)) (now (book .entry)) procs) (call number end) (stateOf (now (frames .exit)) (now (book .exit)) (r .procs)) (plainly (r .answer)) ⌝ }
 {
-    let e = crate::front::plain_error(frames, book, procs, number, true);
+    let e = front::numbers::plain_error(frames, book, procs, number, true);
     if e != 0 {
         return Left {
             procs: procs,
             answer: Answer::Refused(e),
         };
     }
-    let after = forget(book, procs, number);
+    let after = front::ending::forget(book, procs, number);
     Left {
         procs: after,
         answer: Answer::Done,

@@ -2,13 +2,7 @@
 // them, and answers. No caller has anything to check: no call has a `requires`. What a call leaves and answers is what `after` and
 // `answer` of the specification say, refusals too.
 
-// The records of processes.
-pub mod record;
-
-// What comes first in every call.
-pub mod front;
-
-// What a call leaves, and a process that ends.
+// What a call leaves.
 mod left;
 
 pub use left::Left;

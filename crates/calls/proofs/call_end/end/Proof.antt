@@ -4,9 +4,9 @@ use denote.Ref.{now}
 use borrow.Author.Needs.{needs}
 use Rattle.spec.specs.Machine.{end, plainly}
 use Rattle.spec.specs.declared.Answer.the-variants.{Done}
-use Rattle.calls.specs.Front.{stateOf}
-use Rattle.calls.proofs.First.{plain-none}
-use Rattle.calls.proofs.Answers.{answer-plain, refused-first, goes-on}
+use Rattle.front.specs.Numbers.{stateOf}
+use Rattle.front.proofs.First.{plain-none}
+use Rattle.front.proofs.Answers.{answer-plain, refused-first, goes-on}
 use Rattle.calls.proofs.call_end.end.Statement.{statement}
 use Rattle.calls.proofs.call_end.end.Tie as tie
 
