@@ -5,3 +5,5 @@ pub mod Released
 pub mod Filled
 pub mod FilePages
 pub mod Placing
+pub mod Copying
+pub mod Chunks

@@ -74,6 +74,9 @@ module _ (book : List ℕ) (c : ℕ) (passed : Passed c book) where
       let f = found-at (highest (isFree book) c) k e in
       (omega (arith, hit (isFree book) c k f .0), highest-from (isFree book) (length book) c (passed .0) (passed .1) ∙ f)
 
+  pub free-word : (k : ℕ) → At k ≡ foundOf (highest (isFree book) c) → getD book k 0 ≡ 0
+  free-word k e = eqb-true (getD book k 0) 0 (hit (isFree book) c k (found-at (highest (isFree book) c) k e) .1)
+
   -- once it is taken, no frame from it on is free
   pub passed-taken : (k w : ℕ) → At k ≡ foundOf (highest (isFree book) c) → (w ≡ 0 → ⊥) → Passed k (set book k w)
   passed-taken k w e nz =
@@ -107,11 +110,12 @@ pub record Ran (f : ℕ → List ℕ) (perm owner end first : ℕ) (m t : Store)
   pub frames : length (t .frames) ≡ length (m .frames)
   pub book : length (t .book) ≡ length (m .book)
   pub aligned : page % 4096 ≡ 0
+  pub onward : first ≤ page
   pub passed : Passed c (t .book)
   pub rest : place m owner (run f perm end first) ≡ place t owner (run f perm end page)
 
 pub ran-start : (f : ℕ → List ℕ) (perm owner end first : ℕ) (m : Store) (c : ℕ) → first % 4096 ≡ 0 → Passed c (m .book) → Ran f perm owner end first m m first c
-ran-start f perm owner end first m c al passed = record { frames = refl; book = refl; aligned = al; passed = passed; rest = refl }
+ran-start f perm owner end first m c al passed = record { frames = refl; book = refl; aligned = al; onward = omega arith; passed = passed; rest = refl }
 
 module _ (f : ℕ → List ℕ) (perm owner end first : ℕ) (m t : Store) (page c : ℕ) (lo : 1 ≤ owner) (ran : Ran f perm owner end first m t page c) where
   one : pagesOf f (segment first end perm ∷ []) ≡ run f perm end first
@@ -134,6 +138,7 @@ module _ (f : ℕ → List ℕ) (perm owner end first : ℕ) (m t : Store) (page
         frames = l ∙ ran .frames;
         book = ap length eb ∙ length-set (t .book) k w ∙ ran .book;
         aligned = omega arith;
+        onward = omega (arith, ran .onward);
         passed = rw eb (passed-taken (t .book) c (ran .passed) k w e (used-word page owner perm lo));
         rest =
             ran .rest ∙ ap (λ (j : ℕ). place t owner (pagesFrom f perm page j)) d ∙ ap (λ (o : Option ℕ). place (hold t owner p o) owner left) (found .1)

@@ -13,3 +13,6 @@ pub mod frames;
 
 // Pages placed in free frames.
 pub mod place;
+
+// A process's bytes, read and written over.
+pub mod user;

@@ -5,12 +5,13 @@
 ghost use mathlib.Core.Path.{_≡_};
 ghost use mathlib.Core.Option.{some};
 ghost use mathlib.Core.List.{[], _∷_};
-ghost use Prim.Native.Nat.{_*_, _%_, _^_, _≤_, _<_};
-ghost use lib.ListN.{length};
-ghost use Rattle.spec.specs.Numbers.{zeroPage};
-ghost use Rattle.spec.specs.Book.{segment};
-ghost use Rattle.spec.specs.Frames.{pagesOf, hold, place};
-ghost use Rattle.pagealloc.specs.Lent.{store, Passed};
+ghost use Prim.Native.Nat.{ℕ, _+_, _*_, _%_, _^_, _≤_, _<_};
+ghost use lib.ListN.{length, getD};
+ghost use Rattle.spec.specs.Numbers.{pageBytes, zeroPage};
+ghost use Rattle.spec.specs.Book.{frameOf, segment};
+ghost use Rattle.spec.specs.Frames.{pagesOf, hold, place, frameBytes};
+ghost use Rattle.pagealloc.specs.Lent.{store, Passed, Mapped};
+ghost use Rattle.pagealloc.specs.Contents.{fileAt};
 
 // Frame `k` becomes a data page of zeros.
 fn hold_zeroed(frames: &mut [u8], book: &mut [u64], k: usize, owner: u64, page: u64)
@@ -43,6 +44,115 @@ pub fn map_zeroed(
             return 0;
         };
         hold_zeroed(frames, book, k, owner, page);
+        c = k;
+        page += spec::PAGE_SIZE_4K;
+    }
+    c
+}
+
+// Frame `k` becomes the page at address `page` of a segment whose file bytes stand at `vaddr`.
+fn hold_loaded(
+    frames: &mut [u8],
+    book: &mut [u64],
+    k: usize,
+    owner: u64,
+    perm: u64,
+    page: u64,
+    vaddr: u64,
+    file: &[u8],
+)
+    requires { ⌜ (length (now frames) ≡ 4096 * length (now book)) × (k < length (now book)) × (owner < 256) × (perm < 16) × (page < 2 ^ 63) ⌝ }
+    requires { ⌜ vaddr + length (now file) < 2 ^ 64 ⌝ }
+    ensures { λ _. ⌜ store (now (frames .exit)) (now (book .exit)) ≡ hold (store (now (frames .entry)) (now (book .entry))) owner (record { page = page; perm = perm; bytes = pageBytes (fileAt vaddr (now (file .entry))) page }) (some k) ⌝ }
+{
+    crate::frames::load_frame(frames, crate::frames::frame_addr(k), page, vaddr, file);
+    book[k] = crate::book::pack(page, owner, perm);
+}
+
+// Places the pages of a recorded segment, holding the file bytes that stand from `vaddr` on and zero elsewhere, as `load_segment`.
+pub fn load_segment(
+    frames: &mut [u8],
+    book: &mut [u64],
+    top: usize,
+    owner: u64,
+    recorded: spec::UserSegment,
+    vaddr: u64,
+    file: &[u8],
+) -> usize
+    requires { ⌜ (length (now frames) ≡ 4096 * length (now book)) × (1 ≤ owner) × (owner < 256) × (recorded .perm < 16) ⌝ }
+    requires { ⌜ (recorded .range .start % 4096 ≡ 0) × (recorded .range .end % 4096 ≡ 0) × (recorded .range .end < 2 ^ 63) × (vaddr + length (now file) < 2 ^ 64) ⌝ }
+    requires { ⌜ Passed top (now book) ⌝ }
+    ensures { λ _. ⌜ store (now (frames .exit)) (now (book .exit)) ≡ place (store (now (frames .entry)) (now (book .entry))) owner (pagesOf (pageBytes (fileAt vaddr (now (file .entry)))) (recorded ∷ [])) ⌝ }
+    ensures { λ r. ⌜ Passed r (now (book .exit)) ⌝ }
+{
+    let perm = recorded.perm;
+    let range = recorded.range;
+    let end = range.end;
+    let mut page = range.start;
+    let mut c = top;
+    while page < end {
+        let spec::Found::At(k) = crate::book::free_below(book, c) else {
+            return 0;
+        };
+        hold_loaded(frames, book, k, owner, perm, page, vaddr, file);
+        c = k;
+        page += spec::PAGE_SIZE_4K;
+    }
+    c
+}
+
+// Frame `k`, which is free, becomes the child's copy of a page of the parent's.
+fn hold_copied(
+    frames: &mut [u8],
+    book: &mut [u64],
+    k: usize,
+    parent: u64,
+    child: u64,
+    perm: u64,
+    page: u64,
+)
+    requires { ⌜ (length (now frames) ≡ 4096 * length (now book)) × (k < length (now book)) × (getD (now book) k 0 ≡ 0) ⌝ }
+    requires { ⌜ (1 ≤ parent) × (parent < 256) × (child < 256) × (perm < 16) × (page % 4096 ≡ 0) × (page < 2 ^ 63) ⌝ }
+    requires { ⌜ ((j : ℕ) × (frameOf (now book) parent page ≡ some j)) ⌝ }
+    ensures { λ _. ⌜ store (now (frames .exit)) (now (book .exit)) ≡ hold (store (now (frames .entry)) (now (book .entry))) child (record { page = page; perm = perm; bytes = frameBytes (now (frames .entry)) (frameOf (now (book .entry)) parent page) }) (some k) ⌝ }
+{
+    let spec::Found::At(from) = crate::book::frame_of(book, parent, page) else {
+        return;
+    };
+    crate::frames::copy_frame(
+        frames,
+        crate::frames::frame_addr(from),
+        crate::frames::frame_addr(k),
+    );
+    book[k] = crate::book::pack(page, child, perm);
+}
+
+// Places copies of the pages of a segment of the parent's for the child, as `copy_segments`.
+pub fn copy_segment(
+    frames: &mut [u8],
+    book: &mut [u64],
+    top: usize,
+    parent: u64,
+    child: u64,
+    recorded: spec::UserSegment,
+) -> usize
+    requires { ⌜ (length (now frames) ≡ 4096 * length (now book)) × (1 ≤ parent) × (parent < 256) × (1 ≤ child) × (child < 256) × (parent ≡ child → ⊥) ⌝ }
+    requires { ⌜ (recorded .range .start % 4096 ≡ 0) × (recorded .range .end % 4096 ≡ 0) × (recorded .range .end < 2 ^ 63) × (recorded .perm < 16) ⌝ }
+    requires { ⌜ Mapped (now book) parent (recorded .range .start) (recorded .range .end) ⌝ }
+    requires { ⌜ Passed top (now book) ⌝ }
+    ensures { λ _. ⌜ store (now (frames .exit)) (now (book .exit)) ≡ place (store (now (frames .entry)) (now (book .entry))) child (pagesOf (λ a. frameBytes (now (frames .entry)) (frameOf (now (book .entry)) parent a)) (recorded ∷ [])) ⌝ }
+    ensures { λ r. ⌜ Passed r (now (book .exit)) ⌝ }
+{
+    let perm = recorded.perm;
+    let range = recorded.range;
+    let end = range.end;
+    let mut page = range.start;
+    let mut c = top;
+    while page < end {
+        let spec::Found::At(k) = crate::book::free_below(book, c) else {
+            return 0;
+        };
+        hold_copied(frames, book, k, parent, child, perm, page);
         c = k;
         page += spec::PAGE_SIZE_4K;
     }

@@ -1,5 +1,4 @@
 -- Laws of the check, from a walk over a list to the book being sound.
-pub mod Frames
 pub mod Walk
 pub mod Whole
 pub mod Ranks

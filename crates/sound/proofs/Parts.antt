@@ -7,16 +7,15 @@ use mathlib.Core.Path.{_≡_, refl, sym, ap, _∙_}
 use mathlib.Core.Bool.{Bool, true, false}
 use mathlib.Core.Option.{Option, none, some}
 use mathlib.Core.List.{List, [], _∷_, _++_, append-assoc}
-use lib.Dec.{ltb}
 use lib.ListN.{length, getD, replicate, length-append, List·getD-append}
 use lib.Seq.{getD-at}
-use borrow.Author.Tests.{ltb-true, ltb-false}
 use Rattle.spec.specs.Numbers.{utzero, uaddrtop}
 use Rattle.spec.specs.Book.{zeroSegment, zeroProc, lives, stack, bssSegment, inSegment, permAt, piecesOf}
 use Rattle.spec.specs.Sound.{ImageSegment, Shape}
 use Rattle.spec.specs.declared.UserSegment.{UserSegment}
 use Rattle.spec.specs.declared.Proc.{Proc}
 use Rattle.spec.proofs.Bools.{split, clash}
+use Rattle.laws.proofs.Lists.{by-order, Each, each-append}
 use Rattle.laws.proofs.Record.{WholeProc, dead-zero}
 use Rattle.laws.proofs.Shape.{Image, imageEnd, Bss, shape-image, shape-bss}
 use Rattle.laws.proofs.Pieces.{Apart, outside-high, perm-here, perm-there, perm-tail, image-apart, stack-bss-apart, stack-bss-low, shape-pieces}
@@ -27,10 +26,6 @@ use Rattle.sound.proofs.Laying.{part-segment, part-bss}
 
 -- ---- what holds of each segment of a list
 
-abbrev pub Each : (UserSegment → Type 0) → List UserSegment → Type 0
-Each P [] = Unit {0}
-Each P (g ∷ gs) = P g × Each P gs
-
 pub each-at : (P : UserSegment → Type 0) (gs : List UserSegment) → Each P gs → (j : ℕ) → j < length gs → P (getD gs j zeroSegment)
 each-at P [] e j h = absurd (not-suc-le-zero h)
 each-at P (g ∷ gs) e zero h = e .0
@@ -39,10 +34,6 @@ each-at P (g ∷ gs) e (suc j) h = each-at P gs (e .1) j (le-of-suc-le-suc h)
 pub each-made : (P : UserSegment → Type 0) (gs : List UserSegment) → ((j : ℕ) → j < length gs → P (getD gs j zeroSegment)) → Each P gs
 each-made P [] f = tt
 each-made P (g ∷ gs) f = (f 0 (omega arith), each-made P gs (λ j h. f (suc j) (omega arith)))
-
-pub each-app : (P : UserSegment → Type 0) (gs hs : List UserSegment) → Each P gs → Each P hs → Each P (gs ++ hs)
-each-app P [] hs e f = f
-each-app P (g ∷ gs) hs e f = (e .0, each-app P gs hs (e .1) f)
 
 pub each-same : (P : UserSegment → Type 0) (g : UserSegment) → P g → (k : ℕ) → Each P (replicate k g)
 each-same P g e zero = tt
@@ -113,10 +104,9 @@ parts-long p w = length-append (p .segments) (bssSegment (p .bss) ∷ []) ∙ ap
 
 pub part-is : (p : Proc) → length (p .segments) ≡ 16 → (j : ℕ) → j < 17 → part p j ≡ getD (parts p) j zeroSegment
 part-is p w j h =
-    split (ltb j 16)
-    (λ q. let l = ltb-true j 16 q in sym (part-segment p j l) ∙ sym (List·getD-append (p .segments) (bssSegment (p .bss) ∷ []) zeroSegment j (omega arith)))
-    (λ q. let l = ltb-false j 16 q in
-    let e : j ≡ 16 = omega arith in
+    by-order j 16
+    (λ l. sym (part-segment p j l) ∙ sym (List·getD-append (p .segments) (bssSegment (p .bss) ∷ []) zeroSegment j (omega arith)))
+    (λ l. let e : j ≡ 16 = omega arith in
     rw e (sym (part-bss p) ∙ sym (getD-at (p .segments) (bssSegment (p .bss)) [] zeroSegment 16 w)))
 
 pub each-part : (P : UserSegment → Type 0) (p : Proc) → length (p .segments) ≡ 16 → Each P (parts p) → (j : ℕ) → j < 17 → P (part p j)
@@ -130,7 +120,7 @@ pub record Parts (p : Proc) : Type 0 where
 -- of a dead process's record
 dead-parts : Parts zeroProc
 dead-parts = record {
-  each = each-app Part (replicate 16 zeroSegment) (bssSegment (zeroProc .bss) ∷ []) (each-same Part zeroSegment zero-part 16)
+  each = each-append Part (replicate 16 zeroSegment) (bssSegment (zeroProc .bss) ∷ []) (each-same Part zeroSegment zero-part 16)
       (record { ordered = omega arith; high = omega arith; start-page = refl; end-page = refl; low = λ h. absurd (omega arith) }, tt);
   apart = apart-zeros 16 (bssSegment (zeroProc .bss) ∷ []) (λ a i. refl, tt);
   same = λ a. perm-zeros 16 (bssSegment (zeroProc .bss) ∷ []) a;
@@ -161,8 +151,8 @@ module _ (p : Proc) (image : List UserSegment) (h : Shape p image) where
 
   living-parts : Parts p
   living-parts = record {
-    each = rw are (each-app Part image (stack ∷ (replicate zeros zeroSegment ++ last)) (image-parts utzero image (shape-image p image h))
-        (stack-part, each-app Part (replicate zeros zeroSegment) last (each-same Part zeroSegment zero-part zeros) (bss-part, tt)));
+    each = rw are (each-append Part image (stack ∷ (replicate zeros zeroSegment ++ last)) (image-parts utzero image (shape-image p image h))
+        (stack-part, each-append Part (replicate zeros zeroSegment) last (each-same Part zeroSegment zero-part zeros) (bss-part, tt)));
     apart = rw are (image-apart utzero image (stack ∷ (replicate zeros zeroSegment ++ last)) (shape-image p image h)
         (λ a i. perm-zeros zeros last a ∙ stack-bss-apart (imageEnd utzero image) (p .bss) bss .0 a i, apart-zeros zeros last (λ a i. refl, tt))
         (λ a l. after a ∙ stack-bss-low (imageEnd utzero image) (p .bss) bss a l));

@@ -15,12 +15,13 @@ use Rattle.spec.specs.declared.VirtRange.{VirtRange}
 use Rattle.spec.specs.declared.UserSegment.{UserSegment}
 use Rattle.spec.specs.declared.Proc.{Proc}
 use Rattle.spec.proofs.Bools.{split, clash, both, and-test, not-true, or-fact, or-test, not-false, not-below}
+use Rattle.laws.proofs.Lists.{Each, each-append}
 use Rattle.laws.proofs.Record.{WholeProc, same-is, all-are, dead-zero}
 use Rattle.laws.proofs.Shape.{segments-shape, shape-segments}
 use Rattle.laws.proofs.Facts.{Shaped}
 use Rattle.sound.specs.Records.{imageOk, imageTest, shaped, passes}
 use Rattle.sound.specs.Plan.{part, Small, SmallParts}
-use Rattle.sound.proofs.Parts.{Each, each-app, each-same, each-part, Part, parts, Parts, parts-of}
+use Rattle.sound.proofs.Parts.{each-same, each-part, Part, parts, Parts, parts-of}
 use Rattle.sound.proofs.Laying.{part-segment, part-bss}
 
 -- a segment that has pages has a permission, and none has a larger number
@@ -94,7 +95,7 @@ shape-pass p shape mapped =
 
 pub pass-perms : (p : Proc) → WholeProc p → passes p ≡ true → Each Perm (parts p)
 pass-perms p w e =
-    each-app Perm (p .segments) (bssSegment (p .bss) ∷ [])
+    each-append Perm (p .segments) (bssSegment (p .bss) ∷ [])
     (split (shaped utzero (p .bss) (p .segments))
     (λ q. shaped-means utzero (p .bss) (p .segments) q .1)
     (λ q. rw (dead-zero p w (not-true (lives p) (or-fact (shaped utzero (p .bss) (p .segments)) (not (lives p)) e q))) (each-same Perm zeroSegment zero-perm 16)))
