@@ -6,7 +6,8 @@ use mathlib.Core.Option.{Option, none, some}
 use mathlib.Core.List.{List, [], _∷_, _++_}
 use lib.ListN.{length, getD, take, drop, length-drop}
 use lib.Seq.{ext-getD, getD-take, getD-drop, length-take-le, take-add, take-length}
-use Rattle.spec.specs.Numbers.{pageDown, bytesFrom}
+use borrow.Rule.Slice.PartMut.{putMid, midOf, mid-len}
+use Rattle.spec.specs.Numbers.{pageDown}
 use Rattle.spec.specs.Book.{frameOf}
 use Rattle.spec.specs.Frames.{Store, cellIn, memOf, put, pokes}
 use Rattle.spec.specs.Access.{byteOf, bytesAt}
@@ -15,6 +16,7 @@ use Rattle.laws.proofs.Pokes.{pokes-append, pokes-page}
 use Rattle.laws.proofs.Contents.{length-bytes, get-bytes}
 use Rattle.spec.specs.declared.Found.the-variants.{At, Nothing}
 use Rattle.pagealloc.specs.Lent.{store, foundOf, Mapped}
+use Rattle.pagealloc.proofs.Overwrite.{mix, mix-part}
 use Rattle.pagealloc.proofs.Placing.{found-at}
 use Rattle.pagealloc.proofs.Copying.{not-missing}
 
@@ -79,3 +81,12 @@ read-chunk m n addr i len whole k e hk hn hw =
     getD-take len (drop at (m .frames)) j 0 (omega arith) ∙ getD-drop at (m .frames) j 0
     ∙ sym (getD-take len (drop i (bytesAt (memOf m n) addr whole)) j 0 (omega arith) ∙ getD-drop i (bytesAt (memOf m n) addr whole) j 0
     ∙ get-bytes (λ a. byteOf (memOf m n a)) addr whole (i + j) (omega arith) ∙ rw (p, e, q)))
+
+-- the next bytes of the buffer
+pub read-turn : (m : Store) (n addr i len k at : ℕ) (buf whole x : List ℕ) → length buf ≡ length whole → buf ≡ mix (bytesAt (memOf m n) addr (length whole)) whole i → i + len ≤ length whole
+    → frameOf (m .book) n (pageDown (addr + i)) ≡ some k → 4096 * k + 4096 ≤ length (m .frames) → (addr + i) % 4096 + len ≤ 4096 → at ≡ 4096 * k + (addr + i) % 4096
+    → x ≡ take (length (midOf i (i + len - i) buf)) (drop at (m .frames)) → putMid i (i + len - i) buf x ≡ mix (bytesAt (memOf m n) addr (length whole)) whole (i + len)
+read-turn m n addr i len k at buf whole x same so h found fits room ea ex =
+    let l : length (midOf i (i + len - i) buf) ≡ len = mid-len i (i + len) buf (omega arith) ∙ (omega arith) in
+    let e : x ≡ take len (drop i (bytesAt (memOf m n) addr (length whole))) = ex ∙ rw (l, ea) (read-chunk m n addr i len (length whole) k found fits room h) in
+    rw so (mix-part (bytesAt (memOf m n) addr (length whole)) whole x i len (length-read m n addr (length whole)) h e)

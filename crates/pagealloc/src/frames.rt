@@ -1,36 +1,12 @@
-// The bytes of frames. A frame is named by its address in the lent bytes, a `PhysAddr`. The loops over whole slices compile to
-// `memset` and `memcpy`.
+// The bytes of frames. A frame is named by its address in the lent bytes, a `PhysAddr`.
 
 ghost use mathlib.Core.Path.{_≡_};
 ghost use mathlib.Core.Logic.{_⊎_};
 ghost use Prim.Native.Nat.{_+_, _*_, _^_, _≤_, _<_, min, max};
-ghost use lib.ListN.{length, take, drop, replicate};
+ghost use lib.ListN.{length, take, drop};
 ghost use Rattle.spec.specs.Numbers.{pageBytes, zeroPage};
 ghost use Rattle.spec.specs.Frames.{put};
 ghost use Rattle.pagealloc.specs.Contents.{padded, fileAt};
-
-// Every byte becomes 0.
-pub fn zero(d: &mut [u8])
-    ensures { λ _. ⌜ now (d .exit) ≡ replicate (length (now (d .entry))) 0 ⌝ }
-{
-    let mut i = 0;
-    while i < d.len() {
-        d[i] = 0;
-        i += 1;
-    }
-}
-
-// `d` becomes `s`, as `copy_from_slice`.
-pub fn copy(d: &mut [u8], s: &[u8])
-    requires { ⌜ length (now d) ≡ length (now s) ⌝ }
-    ensures { λ _. ⌜ now (d .exit) ≡ now (s .entry) ⌝ }
-{
-    let mut i = 0;
-    while i < d.len() {
-        d[i] = s[i];
-        i += 1;
-    }
-}
 
 // The address of frame `k`.
 pub fn frame_addr(k: usize) -> mem::PhysAddr
@@ -47,7 +23,7 @@ pub fn zero_frame(frames: &mut [u8], at: mem::PhysAddr)
 {
     let a = at.0 as usize;
     let e = a + 4096;
-    zero(&mut frames[a..e]);
+    crate::bytes::zero(&mut frames[a..e]);
 }
 
 // The frame at `at` becomes `from` zeros, then `s`, then zeros.
@@ -59,9 +35,9 @@ pub fn fill_frame(frames: &mut [u8], at: mem::PhysAddr, from: usize, s: &[u8])
     let a = base + from;
     let b = a + s.len();
     let e = base + 4096;
-    zero(&mut frames[base..a]);
-    copy(&mut frames[a..b], s);
-    zero(&mut frames[b..e]);
+    crate::bytes::zero(&mut frames[base..a]);
+    crate::bytes::copy(&mut frames[a..b], s);
+    crate::bytes::zero(&mut frames[b..e]);
 }
 
 // The frame at `to` becomes what the frame at `from` holds.

@@ -8,8 +8,11 @@ pub mod book;
 // Pages released: book words that become 0.
 pub mod release;
 
+// Loops over whole slices.
+pub mod bytes;
+
 // The bytes of frames.
-pub mod frames;
+mod frames;
 
 // Pages placed in free frames.
 pub mod place;

@@ -7,11 +7,27 @@ ghost use mathlib.Core.Option.{some};
 ghost use mathlib.Core.List.{[], _∷_};
 ghost use Prim.Native.Nat.{ℕ, _+_, _*_, _%_, _^_, _≤_, _<_};
 ghost use lib.ListN.{length, getD};
+ghost use Rattle.spec.specs.Tests.{_is_};
 ghost use Rattle.spec.specs.Numbers.{pageBytes, zeroPage};
-ghost use Rattle.spec.specs.Book.{frameOf, segment};
+ghost use Rattle.spec.specs.Book.{highest, frameOf, segment};
 ghost use Rattle.spec.specs.Frames.{pagesOf, hold, place, frameBytes};
-ghost use Rattle.pagealloc.specs.Lent.{store, Passed, Mapped};
+ghost use Rattle.pagealloc.specs.Lent.{store, foundOf, Passed, Mapped};
 ghost use Rattle.pagealloc.specs.Contents.{fileAt};
+
+// The highest free frame below frame `c`, as `allocate_physpage`, which leaves the book as it is.
+fn free_below(book: &[u64], c: usize) -> spec::Found
+    requires { ⌜ c ≤ length (now book) ⌝ }
+    ensures { λ r. ⌜ r ≡ foundOf (highest (λ k. getD (now (book .entry)) k 0 is 0) c) ⌝ }
+{
+    let mut i = c;
+    while 0 < i {
+        if book[i - 1] == 0 {
+            return spec::Found::At(i - 1);
+        }
+        i -= 1;
+    }
+    spec::Found::Nothing
+}
 
 // Frame `k` becomes a data page of zeros.
 fn hold_zeroed(frames: &mut [u8], book: &mut [u64], k: usize, owner: u64, page: u64)
@@ -40,7 +56,7 @@ pub fn map_zeroed(
     let mut page = range.start;
     let mut c = top;
     while page < end {
-        let spec::Found::At(k) = crate::book::free_below(book, c) else {
+        let spec::Found::At(k) = free_below(book, c) else {
             return 0;
         };
         hold_zeroed(frames, book, k, owner, page);
@@ -91,7 +107,7 @@ pub fn load_segment(
     let mut page = range.start;
     let mut c = top;
     while page < end {
-        let spec::Found::At(k) = crate::book::free_below(book, c) else {
+        let spec::Found::At(k) = free_below(book, c) else {
             return 0;
         };
         hold_loaded(frames, book, k, owner, perm, page, vaddr, file);
@@ -149,7 +165,7 @@ pub fn copy_segment(
     let mut page = range.start;
     let mut c = top;
     while page < end {
-        let spec::Found::At(k) = crate::book::free_below(book, c) else {
+        let spec::Found::At(k) = free_below(book, c) else {
             return 0;
         };
         hold_copied(frames, book, k, parent, child, perm, page);

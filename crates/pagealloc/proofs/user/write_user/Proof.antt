@@ -25,7 +25,10 @@ framed : (c : tie.After-k Inv-loop μ-loop)
     → (c .k .given .0 .0 < length (now (c .before .before .before .before .before .before .before .before .before .args .book)))
     × (frameOf (now (c .before .before .before .before .before .before .before .before .before .args .book)) (c .before .before .before .before .before .before .before .before .before .args .owner)
     (pageDown (c .before .before .before .before .before .before .before .before .before .args .addr + c .before .before .before .before .before .loop .i)) ≡ some (c .k .given .0 .0))
-framed c = frame-at _ _ _ _ (c .k .given .0 .0) (c .before .before .before .page-down .ensures) (sym (c .k .given .1) ∙ c .before .before .frame-of .ensures)
+framed c =
+    let a = c .before .before .before .before .before .before .before .before .before .args in
+    frame-at (now (a .book)) (a .owner) (a .addr + c .before .before .before .before .before .loop .i) (c .before .before .before .page-down .result) (c .k .given .0 .0) (c .before .before .before .page-down .ensures)
+    (sym (c .k .given .1) ∙ c .before .before .frame-of .ensures)
 
 loop-holds : tie.Need-loop-holds Inv-loop μ-loop
 loop-holds c =

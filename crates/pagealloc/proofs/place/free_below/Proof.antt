@@ -1,4 +1,4 @@
--- `pagealloc::book::free_below` meets its contract. The loop's invariant: the highest free frame below `c` is the highest below `i`.
+-- `pagealloc::place::free_below` meets its contract. The loop's invariant: the highest free frame below `c` is the highest below `i`.
 use mathlib.Core.Path.{_≡_, refl, sym, ap, _∙_}
 use mathlib.Core.Bool.{Bool}
 use Prim.Native.Nat.{ℕ, _-_, _≤_}
@@ -10,8 +10,8 @@ use Rattle.spec.specs.Tests.{_is_}
 use Rattle.spec.specs.Book.{highest}
 use Rattle.pagealloc.specs.Lent.{foundOf}
 use Rattle.pagealloc.proofs.Searches.{highest-here, highest-less, highest-end}
-use Rattle.pagealloc.proofs.book.free_below.Statement.{statement}
-use Rattle.pagealloc.proofs.book.free_below.Tie as tie
+use Rattle.pagealloc.proofs.place.free_below.Statement.{statement}
+use Rattle.pagealloc.proofs.place.free_below.Tie as tie
 
 abbrev Inv-loop : tie.InvT-loop
 Inv-loop book c i₀ i = (i ≤ length book) × (highest (λ k. getD book k 0 is 0) c ≡ highest (λ k. getD book k 0 is 0) i)
@@ -22,8 +22,8 @@ abbrev μ-loop : tie.MeasureT-loop
 loop-holds : tie.Need-loop-holds Inv-loop μ-loop
 loop-holds c = (omega arith, refl)
 
-sub-i : tie.Need-sub-i Inv-loop μ-loop
-sub-i c = omega arith
+sub-if1 : tie.Need-sub-if1 Inv-loop μ-loop
+sub-if1 c = omega arith
 
 mul-if1 : tie.Need-mul-if1 Inv-loop μ-loop
 mul-if1 c = omega arith
@@ -31,11 +31,17 @@ mul-if1 c = omega arith
 shared-slice-read-if1 : tie.Need-shared-slice-read-if1 Inv-loop μ-loop
 shared-slice-read-if1 c = omega arith
 
+sub-t9 : tie.Need-sub-t9 Inv-loop μ-loop
+sub-t9 c = omega arith
+
 returns : tie.Need-returns Inv-loop μ-loop
 returns c =
     let l = c .before .before .before .loop in
     let t : ℕ → Bool = λ k. getD (now (c .before .before .before .before .args .book)) k 0 is 0 in
     sym (ap foundOf (l .inv .1 ∙ highest-here t (l .i) (omega arith) (eq-eqb _ _ (c .if1 .taken))))
+
+sub-i : tie.Need-sub-i Inv-loop μ-loop
+sub-i c = omega arith
 
 loop-less : tie.Need-loop-less Inv-loop μ-loop
 loop-less c = omega arith
@@ -58,10 +64,12 @@ free-below-spec =
     Inv-loop
     μ-loop
     loop-holds
-    sub-i
+    sub-if1
     mul-if1
     shared-slice-read-if1
+    sub-t9
     returns
+    sub-i
     loop-less
     loop-again
     returns-2)
