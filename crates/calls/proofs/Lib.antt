@@ -1,1 +1,3 @@
--- Laws of the calls, one file for each.
+-- Laws of the calls, one file for each idea.
+pub mod Moved
+pub mod Access

@@ -4,6 +4,7 @@
 
 // What a call leaves.
 mod left;
+
 pub use left::Left;
 
 // The calls.
@@ -13,6 +14,7 @@ mod call_copy_to_user;
 mod call_end;
 mod call_try_copy_str_from_user;
 mod call_user_range_ok;
+
 pub use call_brk::brk;
 pub use call_copy_from_user::copy_from_user;
 pub use call_copy_to_user::copy_to_user;

@@ -84,3 +84,11 @@ module _ (s : State) (n : ℕ) (q : Ask) (e a : ℕ) (w : Reply) (all : answer s
 
   pub goes-on : e ≡ 0 → (t : State) (r : Reply) → w ≡ r → t ≡ leave s (call n q) (outcome r) → Does s (call n q) t r
   goes-on z t r h l = does-answered s n q t r (all ∙ sym (past (a isnt 0) (refuse a q) w w (isnt-fails-through e a 0 first z) refl) ∙ h) l
+
+-- of a call that a living process makes for itself
+module _ (s : State) (n : ℕ) (q : Ask) (e : ℕ) (k : kind q ≡ plain) (first : e ≡ plainError s n (lengthsFit q)) where
+  pub plain-refused : (e ≡ 0 → ⊥) → Does s (call n q) s (refuse e q)
+  plain-refused = refused-first s n q e _ _ (answer-plain s n q k) first
+
+  pub plain-goes : e ≡ 0 → (t : State) (r : Reply) → weigh (view s n) (free (s .store .book)) q ≡ r → t ≡ leave s (call n q) (outcome r) → Does s (call n q) t r
+  plain-goes = goes-on s n q e _ _ (answer-plain s n q k) first

@@ -1,5 +1,6 @@
 -- The numbers that come first, and what they make of an answer.
 pub mod First
 pub mod Answers
--- What calls leave.
+-- What calls know and leave.
+pub mod Living
 pub mod States

@@ -1,0 +1,66 @@
+-- A break: what moves, and its answer.
+use Prim.Native.Nat.{ℕ, _*_, _-_, _/_, _≤_, _<_}
+use native.Mathlib.Omega.{arith}
+use mathlib.Core.Path.{_≡_, refl, sym, ap, ap₂, _∙_}
+use mathlib.Core.Bool.{Bool, true, false, not, _&&_}
+use mathlib.Core.Option.{some}
+use mathlib.Core.List.{List, [], _∷_, map}
+use borrow.Author.Tests.{eq-eqb, ne-eqb}
+use Rattle.spec.specs.Tests.{_is_, _isnt_, within, _⇒_else_}
+use Rattle.spec.specs.Numbers.{pageUp, zeroPage}
+use Rattle.spec.specs.Book.{pageOf, ownerOf, segment, procAt}
+use Rattle.spec.specs.Frames.{Store, pagesOf, place, release}
+use Rattle.spec.specs.Segment.{Break, ibrk}
+use Rattle.spec.specs.Machine.{weighBreak}
+use Rattle.spec.specs.World.{State, brk}
+use Rattle.spec.specs.declared.VirtRange.{VirtRange}
+use Rattle.spec.specs.declared.Answer.{Answer}
+use Rattle.spec.specs.declared.Answer.the-variants.{Value, Refused}
+use Rattle.spec.proofs.Bools.{split, within-means}
+use Rattle.spec.proofs.Chain.{isnt-holds, isnt-fails}
+use Rattle.laws.proofs.Frame.{within-not}
+
+-- ---- pages
+
+-- words that no test takes stay
+none-taken : (t : ℕ → Bool) → ((w : ℕ) → t w ≡ false) → (book : List ℕ) → map (λ w. t w ⇒ 0 else w) book ≡ book
+none-taken t h [] = refl
+none-taken t h (w ∷ ws) = rw (h w) (ap (_∷_ w) (none-taken t h ws))
+
+and-no : (a b : Bool) → b ≡ false → (a && b) ≡ false
+and-no true b h = h
+and-no false b h = refl
+
+-- a bss that grows frees nothing
+pub grows-free : (m : Store) (n old new : ℕ) → old ≤ new → release m (λ w. ownerOf w is n && within new old (pageOf w)) ≡ m
+unfolding release
+grows-free m n old new h =
+    let t : ℕ → Bool = λ w. ownerOf w is n && within new old (pageOf w) in
+    ap (λ (b : List ℕ). record { frames = m .frames; book = b })
+    (none-taken t (λ w. and-no (ownerOf w is n) (within new old (pageOf w)) (within-not new old (pageOf w) (λ x y. omega arith))) (m .book))
+
+-- a bss that shrinks places nothing
+pub shrinks-place : (m : Store) (n old new : ℕ) → new ≤ old → place m n (pagesOf zeroPage (segment old new 3 ∷ [])) ≡ m
+unfolding place
+shrinks-place m n old new h = let z : (new - old) / 4096 ≡ 0 = omega arith in rw z
+
+-- ---- the answer
+
+-- the rule over what the code found is the rule over what the process holds
+pub break-rule : (b : Break) (bss bss′ : VirtRange) (addr free free′ : ℕ) → b ≡ ibrk (some bss) addr free → bss ≡ bss′ → free ≡ free′ → b ≡ ibrk (some bss′) addr free′
+break-rule b bss bss′ addr free free′ rule same count = rule ∙ ap₂ (λ (x : VirtRange) (f : ℕ). ibrk (some x) addr f) same count
+
+module _ (b x : Break) (rule : b ≡ x) where
+  pub break-refused : (b .error ≡ 0 → ⊥) → weighBreak x ≡ Refused (b .error)
+  break-refused ne = ap weighBreak (sym rule) ∙ rw (isnt-holds (b .error) 0 ne)
+
+  pub break-accepted : b .error ≡ 0 → weighBreak x ≡ Value (b .value)
+  break-accepted z = ap weighBreak (sym rule) ∙ rw (isnt-fails (b .error) 0 z)
+
+-- ---- what it leaves
+
+pub breaks-nothing : (s : State) (n addr : ℕ) → addr ≡ 0 → s ≡ (addr is 0 ⇒ s else brk s n (procAt (s .procs) n) (pageUp addr))
+breaks-nothing s n addr z = rw (eq-eqb addr 0 z)
+
+pub breaks-moved : (s t : State) (n addr : ℕ) → (addr ≡ 0 → ⊥) → t ≡ brk s n (procAt (s .procs) n) (pageUp addr) → t ≡ (addr is 0 ⇒ s else brk s n (procAt (s .procs) n) (pageUp addr))
+breaks-moved s t n addr ne h = h ∙ rw (ne-eqb addr 0 ne)
