@@ -12,7 +12,7 @@ pub mod release;
 pub mod bytes;
 
 // The bytes of frames.
-mod frames;
+pub mod frames;
 
 // Pages placed in free frames.
 pub mod place;
