@@ -1,7 +1,5 @@
 -- `pagealloc::frames::load_frame` meets its contract: the file bytes that fall into the page, between zeros, or a page of zeros.
-use mathlib.Core.Path.{_≡_, ap, _∙_}
-use mathlib.Core.List.{List}
-use Prim.Native.Nat.{ℕ}
+use mathlib.Core.Path.{ap, _∙_}
 use denote.Ref.{now}
 use lib.ListN.{length}
 use Rattle.spec.specs.Frames.{put}
