@@ -13,11 +13,11 @@ use Rattle.spec.specs.Machine.{Machine, off, own}
 use Rattle.spec.specs.World.{State, taken, view, forget}
 use Rattle.spec.specs.declared.Proc.{Proc}
 use Rattle.laws.proofs.Record.{zero-whole, zero-dead}
-use Rattle.laws.proofs.Pieces.{zero-pieces, shape-aligned, shape-apart}
+use Rattle.laws.proofs.Pieces.{zero-pieces}
 use Rattle.laws.proofs.Count.{free-release-own}
 use Rattle.history.proofs.Passed.{Good}
 use Rattle.history.proofs.OneState.{known, living-shape, numbers}
-use Rattle.history.proofs.Stored.{Stored, stored-release, pieces-of}
+use Rattle.history.proofs.Stored.{Stored, stored-release, own-pieces}
 use Rattle.history.proofs.Change.{Change, change-here, change-good, stored-self, change-set}
 
 pub forget-change : (s : State) → Good s → (n : ℕ) → valid n ≡ true → Change s (forget s n) n off
@@ -34,7 +34,7 @@ pub forget-free : (s : State) → Good s → (n : ℕ) → valid n ≡ true → 
 forget-free s g n v t =
     let p : Proc = procAt (s .procs) n in
     let x = living-shape s g n v t in
-    free-release-own (s .store) n (piecesOf p) (stored-self s g n .once) (pieces-of (piecesOf p) (shape-aligned p (x .0) (x .1)) (shape-apart p (x .0) (x .1))) (λ page z. known s g .facts .exact n page v z)
+    free-release-own (s .store) n (piecesOf p) (stored-self s g n .once) (own-pieces p (x .0) (x .1)) (λ page z. known s g .facts .exact n page v z)
 
 -- and its number is free
 pub forget-dead : (s : State) → Good s → (n : ℕ) → valid n ≡ true → taken (forget s n) n ≡ false

@@ -10,18 +10,17 @@ use Rattle.spec.specs.Book.{valid, frameOf, permAt, piecesOf, procAt}
 use Rattle.spec.specs.Frames.{Cell, frameBytes, pagesOf, place}
 use Rattle.spec.specs.Access.{byteOf}
 use Rattle.spec.specs.Machine.{Machine}
-use Rattle.spec.specs.World.{State, view, copy}
+use Rattle.spec.specs.World.{State, taken, view, copy}
 use Rattle.spec.specs.History.{permIn}
 use Rattle.spec.specs.declared.Proc.{Proc}
-use Rattle.laws.proofs.Frame.{frame-perm}
-use Rattle.laws.proofs.Pieces.{shape-aligned, shape-apart}
+use Rattle.laws.proofs.Pieces.{shape-between}
 use Rattle.laws.proofs.Pages.{cellOr}
 use Rattle.laws.proofs.Contents.{frame-byte, length-frame}
-use Rattle.laws.proofs.Facts.{sound-perm, sound-between, found-between}
+use Rattle.laws.proofs.Facts.{sound-between}
 use Rattle.history.proofs.Passed.{Good}
 use Rattle.history.proofs.Accepted.{Forks}
 use Rattle.history.proofs.OneState.{known, living-shape, dead-view, pages}
-use Rattle.history.proofs.Stored.{Stored, Proper, pieces-of, stored-place}
+use Rattle.history.proofs.Stored.{Stored, Proper, own-pieces, stored-place}
 use Rattle.history.proofs.Change.{Change, stored-self, change-set}
 
 -- a cell is its permission and its byte
@@ -30,12 +29,12 @@ cell-again none = refl
 cell-again (some c) = refl
 
 -- the pages of a living process
-proper-own : (s : State) → Good s → (n : ℕ) → valid n ≡ true → Proper (piecesOf (procAt (s .procs) n))
-proper-own s g n v a q e =
+proper-own : (s : State) → Good s → (n : ℕ) → valid n ≡ true → taken s n ≡ true → Proper (piecesOf (procAt (s .procs) n))
+proper-own s g n v t a q e =
     let k = known s g in
+    let x = living-shape s g n v t in
     let b = sound-between (s .store .book) (s .procs) (k .whole) (k .facts) n a q v e in
-    let f = frame-perm (s .store .book) n (pageDown a) q (sound-perm (s .store .book) (s .procs) (k .whole) (k .facts) n a v ∙ e) in
-    let r = found-between (s .store .book) (s .procs) (k .facts) n a (f .0) (f .1) in
+    let r = shape-between (procAt (s .procs) n) (x .0) (x .1) a q e in
     (b .0, b .1, r .0, r .1)
 
 pub fork-change : (s : State) → Good s → (n child : ℕ) → Forks s n child → Change s (copy s n child (procAt (s .procs) n)) child (view s n)
@@ -47,7 +46,7 @@ fork-change s g n child h =
     change-set s g child (h .child-number) (place (s .store) child (pagesOf f (piecesOf p))) p (view s n .mem)
     (subst (Stored (s .store) (place (s .store) child (pagesOf f (piecesOf p))) child) (fun-ext same)
     (stored-place (s .store) (s .store) child (view s child .mem) (stored-self s g child) (h .child-number) f (piecesOf p)
-    (pieces-of (piecesOf p) (shape-aligned p (x .0) (x .1)) (shape-apart p (x .0) (x .1))) (proper-own s g n (h .number))
+    (own-pieces p (x .0) (x .1)) (proper-own s g n (h .number) (h .living))
     (λ a q z e. length-frame (s .store) n a q (k .fits) (k .facts .exact n a (h .number) z ∙ e)) (λ a q z e. empty a) (h .room)))
     (k .whole .each (n - 1)) (λ l. x) (λ a. pages s g n a (h .number))
   where

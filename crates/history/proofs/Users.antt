@@ -9,7 +9,7 @@ use mathlib.Core.List.{List, [], _∷_}
 use lib.ListN.{length}
 use borrow.Author.Tests.{eq-eqb, ne-eqb, ltb-false}
 use Rattle.spec.proofs.Bools.{clash, neither, not-true, not-above, not-false, within-test}
-use Rattle.spec.specs.Tests.{_isnt_, _above_, within, _⇒_else_, any, has, same, sum}
+use Rattle.spec.specs.Tests.{_is_, _isnt_, _above_, within, _⇒_else_, any, has, same, sum}
 use Rattle.spec.specs.Numbers.{argLimit, ustktop, pageUp}
 use Rattle.spec.specs.Book.{valid, free, sameSegment, permAt, pageCount}
 use Rattle.spec.specs.Elf.{Segment, segmentsOf, entry, inFile}
@@ -17,14 +17,15 @@ use Rattle.spec.specs.Exec.{imageError, startPieces, fileByte, loaded, argsOf, 
 use Rattle.spec.specs.Segment.{moved}
 use Rattle.spec.specs.Machine.{Ask, start, break, fork, end, Call, Kind, begins, forks, plain, kind, Outcome, accepted, refused, ended, outcome, plainly, Machine, off, begun, feed, own, unclaimed}
 use Rattle.spec.specs.World.{State, taken, view, answer, readable, after}
-use Rattle.spec.specs.History.{put, byteIn, held}
+use Rattle.spec.specs.History.{state, put, byteIn, held}
 use Rattle.spec.specs.declared.UserSegment.{UserSegment}
 use Rattle.spec.specs.declared.Answer.{Answer}
 use Rattle.spec.specs.declared.Answer.the-variants.{Regs, Done, Refused}
+use Rattle.laws.proofs.Lists.{Each}
 use Rattle.laws.proofs.Frame.{within-not}
 use Rattle.history.proofs.Passed.{Good, answered, accepted≢, weighs}
 use Rattle.history.proofs.Whole.{effect}
-use Rattle.history.proofs.OneState.{reads}
+use Rattle.history.proofs.OneState.{reads, numbers}
 use Rattle.history.proofs.Accepted.{past, not-refused, starts, breaks, forks-child, ends}
 use Rattle.history.proofs.Ended.{forget-free}
 use Rattle.history.proofs.EachCall.{each-call}
@@ -46,13 +47,10 @@ reads-after s g c o e q a v =
 
 -- ---- whose bytes a call changes
 
--- no call changes what another living process may read
-pub others-keep : (s : State) → Good s → (c : Call) (q a : ℕ) → valid q ≡ true → taken s q ≡ true → (q ≡ c .number → ⊥) → readable (after s c) q a ≡ readable s q a
+-- no call changes what another living process sees
+others-view : (s : State) → Good s → (c : Call) (q : ℕ) → valid q ≡ true → taken s q ≡ true → (q ≡ c .number → ⊥) → view (after s c) q ≡ view s q
 unfolding effect
-others-keep s g c q a v t ne =
-    reads-after s g c (outcome (answer s c)) refl q a v
-    ∙ ap (λ (m : Machine). held m a) (go (kind (c .ask)) refl (outcome (answer s c)) refl)
-    ∙ sym (reads s g q a v)
+others-view s g c q v t ne = each-call s g c .each q v ∙ go (kind (c .ask)) refl (outcome (answer s c)) refl
   where
     go : (k : Kind) → kind (c .ask) ≡ k → (o : Outcome) → outcome (answer s c) ≡ o → effect (view s) c k o q ≡ view s q
     go begins x accepted e = put-else (view s) (c .number) q _ ne
@@ -65,16 +63,49 @@ others-keep s g c q a v t ne =
     go (forks child segments) x ended e = put-else (view s) (c .number) q off ne
     go plain x o e = put-else (view s) (c .number) q _ ne
 
+-- who sees the same lives as before
+lives-same : (s t : State) → Good s → Good t → (q p : ℕ) → valid q ≡ true → valid p ≡ true → view t q ≡ view s p → taken t q ≡ taken s p
+lives-same s t g h q p v w e = numbers t h q v ∙ ap (λ (m : Machine). not (length (m .segments) is 0)) e ∙ sym (numbers s g p w)
+
+-- nor does any list of calls of others
+pub others-keep : (s : State) → Good s → (q : ℕ) → valid q ≡ true → taken s q ≡ true → (h : List Call) → Each (λ c. q ≡ c .number → ⊥) h
+    → Good (state s h) × (view (state s h) q ≡ view s q)
+others-keep s g q v t [] ne = (g, refl)
+others-keep s g q v t (c ∷ h) ne =
+    let r = others-keep s g q v t h (ne .1) in (
+      each-call (state s h) (r .0) c .good,
+      others-view (state s h) (r .0) c q v (lives-same s (state s h) g (r .0) q q v v (r .1) ∙ t) (ne .0) ∙ r .1,
+    )
+
+-- so a process's readable bytes change by its own calls alone
+pub others-read : (s : State) → Good s → (q : ℕ) → valid q ≡ true → taken s q ≡ true → (h : List Call) → Each (λ c. q ≡ c .number → ⊥) h → (a : ℕ) → readable (state s h) q a ≡ readable s q a
+others-read s g q v t h ne a =
+    let r = others-keep s g q v t h ne in
+    reads (state s h) (r .0) q a v ∙ ap (λ (m : Machine). held m a) (r .1) ∙ sym (reads s g q a v)
+
 -- ---- fork
 
--- a child's bytes are its parent's at the fork; from then on each writes its own, by others-keep
+-- a child's bytes are its parent's at the fork, and then its own: whatever others do, it keeps them until it calls itself
 pub child-reads : (s : State) → Good s → (n child : ℕ) (segments : List UserSegment) → outcome (answer s (call n (fork child segments))) ≡ accepted
-    → (a : ℕ) → readable (after s (call n (fork child segments))) child a ≡ readable s n a
+    → (h : List Call) → Each (λ c. child ≡ c .number → ⊥) h → (a : ℕ) → readable (state (after s (call n (fork child segments))) h) child a ≡ readable s n a
 unfolding effect
-child-reads s g n child segments e a =
-    let h = forks-child s g n child segments e in
-    reads-after s g (call n (fork child segments)) accepted e child a (h .child-number)
-    ∙ ap (λ (m : Machine). held m a) (put-here (view s) child (view s n)) ∙ sym (reads s g n a (h .number))
+child-reads s g n child segments e h ne a =
+    let f = forks-child s g n child segments e in
+    let r = each-call s g (call n (fork child segments)) in
+    let same : view (after s (call n (fork child segments))) child ≡ view s n =
+    r .each child (f .child-number) ∙ ap (λ (o : Outcome). effect (view s) (call n (fork child segments)) (forks child segments) o child) e ∙ put-here (view s) child (view s n) in
+    let t : taken (after s (call n (fork child segments))) child ≡ true = lives-same s (after s (call n (fork child segments))) g (r .good) child n (f .child-number) (f .number) same ∙ f .living in
+    others-read (after s (call n (fork child segments))) (r .good) child (f .child-number) t h ne a
+    ∙ reads (after s (call n (fork child segments))) (r .good) child a (f .child-number) ∙ ap (λ (m : Machine). held m a) same ∙ sym (reads s g n a (f .number))
+
+-- and the parent's stay as they were
+pub parent-reads : (s : State) → Good s → (n child : ℕ) (segments : List UserSegment) → outcome (answer s (call n (fork child segments))) ≡ accepted
+    → (a : ℕ) → readable (after s (call n (fork child segments))) n a ≡ readable s n a
+unfolding effect
+parent-reads s g n child segments e a =
+    let f = forks-child s g n child segments e in
+    reads-after s g (call n (fork child segments)) accepted e n a (f .number)
+    ∙ ap (λ (m : Machine). held m a) (put-else (view s) child n (view s n) (λ z. clash (taken s n) (f .living) (ap (taken s) z ∙ f .dead))) ∙ sym (reads s g n a (f .number))
 
 -- ---- break
 

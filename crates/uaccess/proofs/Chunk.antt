@@ -1,13 +1,12 @@
 -- A string copy, part by part: what the part of a buffer that one page fills makes of the whole copy.
-use Prim.Native.Nat.{ℕ, zero, suc, _+_, _-_, _≤_, _<_}
+use Prim.Native.Nat.{ℕ, zero, suc, _+_, _≤_, _<_}
 use native.Mathlib.Omega.{arith}
 use native.Mathlib.Nat.{add-zero}
-use mathlib.Core.Path.{_≡_, refl, sym, ap, _∙_}
-use mathlib.Core.Bool.{Bool, true, false, not}
+use mathlib.Core.Path.{_≡_, sym, ap, _∙_}
+use mathlib.Core.Bool.{true, false}
 use mathlib.Core.List.{List, [], _∷_, _++_}
 use lib.ListN.{length, getD, take, drop}
 use borrow.Author.Tests.{eq-eqb, ne-eqb}
-use Rattle.spec.specs.Tests.{_is_, _⇒_else_}
 use Rattle.spec.specs.Frames.{Mem}
 use Rattle.spec.specs.Access.{userRangeOk, byteOf, Str, longer, copyStr}
 
@@ -26,7 +25,8 @@ readable-rest mem a x s r = record {
 abbrev pub afterBytes : List ℕ → Str → Str
 afterBytes s t = record { whole = t .whole; size = length s + t .size; buffer = s ++ t .buffer }
 
-none : (t : Str) → t ≡ afterBytes [] t
+-- a copy after no bytes
+pub none : (t : Str) → t ≡ afterBytes [] t
 none t = let z : t .size ≡ 0 + t .size = omega arith in λ i. record { whole = t .whole; size = z i; buffer = t .buffer }
 
 one : (x : ℕ) (s : List ℕ) (t : Str) → longer x (afterBytes s t) ≡ afterBytes (x ∷ s) t

@@ -1,2 +1,6 @@
--- Ranges and strings, page by page.
+-- Frames found, ranges, reads and writes page by page, and strings part by part.
+pub mod Found
+pub mod Ranges
+pub mod Copies
 pub mod Chunk
+pub mod Strings

@@ -1,0 +1,2 @@
+-- What a string copy comes to.
+pub mod Strings
