@@ -152,7 +152,7 @@ pub fn read_user(
         let n = in_page(va, buf.len() - i);
         let e = i + n;
         let s = user_bytes(frames, book, tags, bases, table, number, va, n);
-        pagealloc::bytes::copy(&mut buf[i..e], s);
+        pagealloc::frames::copy(&mut buf[i..e], s);
         i = e;
     }
 }
@@ -178,7 +178,7 @@ fn write_part(
     let at = phys(k, va);
     let a = at.0 as usize;
     let e = a + bytes.len();
-    pagealloc::bytes::copy(&mut frames[a..e], bytes);
+    pagealloc::frames::copy(&mut frames[a..e], bytes);
 }
 
 // Copies `bytes` to the process's memory from `addr` on: `copy_to_user` of a range that has been checked for writing.

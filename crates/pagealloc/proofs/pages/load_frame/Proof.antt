@@ -1,14 +1,12 @@
--- `pagealloc::frames::load_frame` meets its contract: the file bytes that fall into the page, between zeros, or a page of zeros.
-use mathlib.Core.Path.{_≡_, ap, _∙_}
-use mathlib.Core.List.{List}
-use Prim.Native.Nat.{ℕ}
+-- `pagealloc::pages::load_frame` meets its contract: the file bytes that fall into the page, between zeros, or a page of zeros.
+use mathlib.Core.Path.{ap, _∙_}
 use denote.Ref.{now}
 use lib.ListN.{length}
 use Rattle.spec.specs.Frames.{put}
 use Rattle.pagealloc.proofs.FilePages.{overlap, file-page, file-zero}
 use borrow.Author.Needs.{needs}
-use Rattle.pagealloc.proofs.frames.load_frame.Statement.{statement}
-use Rattle.pagealloc.proofs.frames.load_frame.Tie as tie
+use Rattle.pagealloc.proofs.pages.load_frame.Statement.{statement}
+use Rattle.pagealloc.proofs.pages.load_frame.Tie as tie
 
 higher-requires : tie.Need-higher-requires
 higher-requires c κs = search needs

@@ -1,11 +1,11 @@
--- `pagealloc::bytes::copy` meets its contract. The loop's invariant: the first `i` bytes are those of `s`, and the others as they were.
+-- `pagealloc::frames::copy` meets its contract. The loop's invariant: the first `i` bytes are those of `s`, and the others as they were.
 use mathlib.Core.Path.{_≡_, refl, _∙_}
 use Prim.Native.Nat.{_-_, _≤_}
 use native.Mathlib.Omega.{arith}
 use lib.ListN.{length, length-set}
 use Rattle.pagealloc.proofs.Overwrite.{mix, mix-none, mix-turn, mix-all}
-use Rattle.pagealloc.proofs.bytes.copy.Statement.{statement}
-use Rattle.pagealloc.proofs.bytes.copy.Tie as tie
+use Rattle.pagealloc.proofs.frames.copy.Statement.{statement}
+use Rattle.pagealloc.proofs.frames.copy.Tie as tie
 
 abbrev Inv-loop : tie.InvT-loop
 Inv-loop d₀ s i₀ d i = (i ≤ length d) × (length d ≡ length d₀) × (d ≡ mix s d₀ i)

@@ -1,12 +1,12 @@
--- `pagealloc::bytes::zero` meets its contract. The loop's invariant: the first `i` bytes are 0, and the others as they were.
+-- `pagealloc::frames::zero` meets its contract. The loop's invariant: the first `i` bytes are 0, and the others as they were.
 use mathlib.Core.Path.{_≡_, refl, _∙_}
 use Prim.Native.Nat.{_-_, _≤_}
 use native.Mathlib.Omega.{arith}
 use denote.Ref.{now}
 use lib.ListN.{length, length-set, replicate}
 use Rattle.pagealloc.proofs.Overwrite.{mix, mix-none, fill-turn, fill-all}
-use Rattle.pagealloc.proofs.bytes.zero.Statement.{statement}
-use Rattle.pagealloc.proofs.bytes.zero.Tie as tie
+use Rattle.pagealloc.proofs.frames.zero.Statement.{statement}
+use Rattle.pagealloc.proofs.frames.zero.Tie as tie
 
 abbrev Inv-loop : tie.InvT-loop
 Inv-loop d₀ i₀ d i = (i ≤ length d) × (length d ≡ length d₀) × (d ≡ mix (replicate (length d₀) 0) d₀ i)

@@ -1,9 +1,9 @@
--- `pagealloc::frames::fill_frame` meets its contract: three parts, one behind the other.
+-- `pagealloc::pages::fill_frame` meets its contract: three parts, one behind the other.
 use denote.Ref.{now}
 use Rattle.pagealloc.proofs.Filled.{put-padded}
 use borrow.Author.Needs.{needs}
-use Rattle.pagealloc.proofs.frames.fill_frame.Statement.{statement}
-use Rattle.pagealloc.proofs.frames.fill_frame.Tie as tie
+use Rattle.pagealloc.proofs.pages.fill_frame.Statement.{statement}
+use Rattle.pagealloc.proofs.pages.fill_frame.Tie as tie
 
 add-a : tie.Need-add-a
 add-a c = search needs

@@ -1,4 +1,4 @@
--- `pagealloc::frames::copy_frame` meets its contract. The loop's invariant: `j` bytes are copied, and all others as they were.
+-- `pagealloc::pages::copy_frame` meets its contract. The loop's invariant: `j` bytes are copied, and all others as they were.
 use mathlib.Core.Path.{_≡_, refl, ap, _∙_}
 use Prim.Native.Nat.{ℕ, _-_, _≤_}
 use native.Mathlib.Omega.{arith}
@@ -6,8 +6,8 @@ use denote.Ref.{now}
 use lib.ListN.{length, length-set, take, drop}
 use Rattle.spec.specs.Frames.{put}
 use Rattle.pagealloc.proofs.Filled.{copy-none, copy-turn}
-use Rattle.pagealloc.proofs.frames.copy_frame.Statement.{statement}
-use Rattle.pagealloc.proofs.frames.copy_frame.Tie as tie
+use Rattle.pagealloc.proofs.pages.copy_frame.Statement.{statement}
+use Rattle.pagealloc.proofs.pages.copy_frame.Tie as tie
 
 abbrev Inv-loop : tie.InvT-loop
 Inv-loop frames₀ a b j₀ frames j = (j ≤ 4096) × (length frames ≡ length frames₀) × (frames ≡ put frames₀ b (take j (drop a frames₀)))

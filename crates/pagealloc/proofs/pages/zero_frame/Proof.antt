@@ -1,9 +1,9 @@
--- `pagealloc::frames::zero_frame` meets its contract.
+-- `pagealloc::pages::zero_frame` meets its contract.
 use denote.Ref.{now}
 use Rattle.pagealloc.proofs.Filled.{put-zero-page}
 use borrow.Author.Needs.{needs}
-use Rattle.pagealloc.proofs.frames.zero_frame.Statement.{statement}
-use Rattle.pagealloc.proofs.frames.zero_frame.Tie as tie
+use Rattle.pagealloc.proofs.pages.zero_frame.Statement.{statement}
+use Rattle.pagealloc.proofs.pages.zero_frame.Tie as tie
 
 add-e : tie.Need-add-e
 add-e c = search needs
