@@ -13,8 +13,11 @@ returns c = rw (← c .before .before .before .max .ensures, ← c .before .min 
 returns-2 : tie.Need-returns-2
 unfolding partOf
 returns-2 c =
-    rw (← c .before .before .before .before .before .max .ensures, ← c .before .before .before .min .ensures,
-    lt-ltb (c .before .before .before .before .before .max .result) (c .before .before .before .min .result) (c .before .before .if1 .left))
+    rw (
+      ← c .before .before .before .before .before .max .ensures,
+      ← c .before .before .before .min .ensures,
+      lt-ltb (c .before .before .before .before .before .max .result) (c .before .before .before .min .result) (c .before .before .if1 .left),
+    )
 
 pub file-part-spec : {M : Type 1} → statement M
 file-part-spec =
