@@ -26,6 +26,7 @@ pub fn put(out: &mut [u8], at: usize, s: &[u8]) -> usize
 pub fn put_decimal(out: &mut [u8], at: usize, n: u64) -> usize
     requires { ⌜ at + 20 ≤ length (now out) ⌝ }
     ensures { λ r. ⌜ Puts (now (out .entry)) at (numberText n) (now (out .exit)) r ⌝ }
+    ensures { λ r. ⌜ r ≤ at + 20 ⌝ }
 {
     let mut digits = [0u8; 20];
     let mut i = 20;
@@ -38,4 +39,43 @@ pub fn put_decimal(out: &mut [u8], at: usize, n: u64) -> usize
     i -= 1;
     digits[i] = 48 + m as u8;
     put(out, at, &digits[i..])
+}
+
+// Puts a range's start and end, and the end of the line.
+fn put_span(out: &mut [u8], at: usize, r: VirtRange) -> usize
+    requires { ⌜ at + 42 ≤ length (now out) ⌝ }
+    ensures { λ n. ⌜ Puts (now (out .entry)) at (spanText r) (now (out .exit)) n ⌝ }
+    ensures { λ n. ⌜ n ≤ at + 42 ⌝ }
+{
+    let a = put_decimal(out, at, r.start);
+    let b = put(out, a, b" ");
+    let c = put_decimal(out, b, r.end);
+    put(out, c, b"\n")
+}
+
+// Puts a segment's kind.
+fn put_kind(out: &mut [u8], at: usize, perm: u64) -> usize
+    requires { ⌜ at + 7 ≤ length (now out) ⌝ }
+    ensures { λ n. ⌜ Puts (now (out .entry)) at (kindText perm) (now (out .exit)) n ⌝ }
+    ensures { λ n. ⌜ n ≤ at + 7 ⌝ }
+{
+    if perm == spec::TEXT {
+        return put(out, at, b"text ");
+    }
+    if perm == spec::RODATA {
+        return put(out, at, b"rodata ");
+    }
+    put(out, at, b"data ")
+}
+
+// Puts a segment's line.
+fn put_line(out: &mut [u8], at: usize, u: UserSegment) -> usize
+    requires { ⌜ at + 57 ≤ length (now out) ⌝ }
+    ensures { λ n. ⌜ Puts (now (out .entry)) at (lineText u) (now (out .exit)) n ⌝ }
+    ensures { λ n. ⌜ n ≤ at + 57 ⌝ }
+{
+    let a = put(out, at, b"segment=");
+    let b = put_kind(out, a, u.perm);
+    let r = u.range;
+    put_span(out, b, r)
 }

@@ -51,7 +51,7 @@ returns c =
     let digits = set (l .digits) (l .i - 1) (48 + l .m) in
     let whole = digit-end (numberText (a .n)) (l .m) (l .i) (l .digits) (l .inv .0) (omega arith) (omega arith) (l .inv .4) in
     let long : length (drop (l .i - 1) digits) ≤ 20 - (l .i - 1) = simp (length-drop, length-set) (omega arith) in
-    subst (λ (s : List ℕ). Puts (now (a .out)) (a .at) s (c .before .before .put .last .0) (c .before .before .put .result)) (take-all _ _ long ∙ sym whole) p
+    (subst (λ (s : List ℕ). Puts (now (a .out)) (a .at) s (c .before .before .put .last .0) (c .before .before .put .result)) (take-all _ _ long ∙ sym whole) p, omega (arith, simp length-take at (p .place)))
 
 pub put-decimal-spec : {M : Type 1} → statement M
 put-decimal-spec =

@@ -1,0 +1,33 @@
+-- Text put behind text is one text.
+-- Assumes nothing.
+use mathlib.Core.Path.{_≡_, refl, sym, ap, ap₂, subst, _∙_}
+use mathlib.Core.List.{List, [], _∷_, _++_}
+use Prim.Native.Nat.{ℕ, _+_, _≤_}
+use native.Mathlib.Omega.{arith}
+use lib.ListN.{length, length-append}
+use Rattle.spec.specs.Tests.{ascii}
+use Rattle.spec.specs.declared.VirtRange.{VirtRange}
+use Rattle.spec.specs.Frames.{put}
+use Rattle.laws.proofs.Lists.{put-append, length-put}
+use Rattle.text.specs.Text.{Puts, numberText, spanText}
+
+-- the buffer keeps its length
+pub same-room : {d s e : List ℕ} {at r : ℕ} → Puts d at s e r → length e ≡ length d
+same-room {d} {s} {e} {at} {r} p = ap length (p .bytes) ∙ length-put d s at (omega (arith, p .place, p .room))
+
+pub behind : {d e f s t : List ℕ} {at r q : ℕ} → Puts d at s e r → Puts e r t f q → Puts d at (s ++ t) f q
+behind {d} {e} {f} {s} {t} {at} {r} {q} p n = record {
+  bytes = n .bytes ∙ ap₂ (λ (x : List ℕ) (k : ℕ). put x k t) (p .bytes) (p .place) ∙ sym (put-append d s t at (omega (arith, p .place, p .room)));
+  place = omega (arith, p .place, n .place, length-append s t);
+  room = omega (arith, n .room, same-room p);
+}
+
+-- the same text
+pub same-text : {d s t e : List ℕ} {at r : ℕ} → s ≡ t → Puts d at s e r → Puts d at t e r
+same-text {d} {s} {t} {e} {at} {r} q p = subst (λ (x : List ℕ). Puts d at x e r) q p
+
+-- ---- the texts that are kept shut, by their parts
+
+pub span-text : (r : VirtRange) → numberText (r .start) ++ ascii " " ++ numberText (r .end) ++ (10 ∷ []) ≡ spanText r
+unfolding numberText spanText
+span-text r = refl
