@@ -31,13 +31,11 @@ linesText us = segmentLines us
 abbrev pub lineText : UserSegment → List ℕ
 lineText g = ascii "segment=" ++ kindText (g .perm) ++ spanText (g .range)
 
--- a refusal's line
-abbrev pub refusedText : ℕ → List ℕ
-refusedText number = ascii "refused=" ++ numberText number ++ 10 ∷ []
+-- a name, a number and the end of the line
+abbrev pub fieldText : List ℕ → ℕ → List ℕ
+fieldText name n = name ++ numberText n ++ (10 ∷ [])
 
 -- a plan's lines: entry, segments, bss and pages
 abbrev pub planText : Plan → List ℕ
 planText p =
-    ascii "entry=" ++ numberText (p .entry) ++ (10 ∷ []) ++ linesText (take (p .count) (p .segments))
-    ++ ascii "bss=" ++ spanText (p .bss)
-    ++ ascii "pages=" ++ numberText (p .pages) ++ (10 ∷ [])
+    fieldText (ascii "entry=") (p .entry) ++ linesText (take (p .count) (p .segments)) ++ ascii "bss=" ++ spanText (p .bss) ++ fieldText (ascii "pages=") (p .pages)

@@ -4,7 +4,7 @@ ghost use Prim.Native.Nat.{_+_, _*_, _≤_};
 ghost use mathlib.Core.Path.{_≡_};
 ghost use lib.ListN.{length, take};
 ghost use Rattle.spec.specs.Listing.{kindText, listing};
-ghost use Rattle.text.specs.Text.{Puts, numberText, spanText, linesText, lineText, refusedText, planText};
+ghost use Rattle.text.specs.Text.{Puts, numberText, spanText, linesText, lineText, fieldText, planText};
 use exec::Plan;
 use spec::UserSegment;
 use spec::VirtRange;
@@ -78,4 +78,64 @@ fn put_line(out: &mut [u8], at: usize, u: UserSegment) -> usize
     let b = put_kind(out, a, u.perm);
     let r = u.range;
     put_span(out, b, r)
+}
+
+// Puts the lines of the first n of a record's segments.
+fn put_lines(out: &mut [u8], at: usize, segments: [UserSegment; 16], n: usize) -> usize
+    requires { ⌜ (n ≤ 16) × (at + 57 * n ≤ length (now out)) ⌝ }
+    ensures { λ r. ⌜ Puts (now (out .entry)) at (linesText (take n segments)) (now (out .exit)) r ⌝ }
+    ensures { λ r. ⌜ r ≤ at + 57 * n ⌝ }
+{
+    let mut end = at;
+    let mut i = 0;
+    while i < n {
+        let u = segments[i];
+        end = put_line(out, end, u);
+        i += 1;
+    }
+    end
+}
+
+// Puts a name, a number and the end of the line.
+fn put_field(out: &mut [u8], at: usize, name: &[u8], n: u64) -> usize
+    requires { ⌜ at + length (now name) + 21 ≤ length (now out) ⌝ }
+    ensures { λ r. ⌜ Puts (now (out .entry)) at (fieldText (now (name .entry)) n) (now (out .exit)) r ⌝ }
+    ensures { λ r. ⌜ r ≤ at + length (now (name .entry)) + 21 ⌝ }
+{
+    let a = put(out, at, name);
+    let b = put_decimal(out, a, n);
+    put(out, b, b"\n")
+}
+
+// Puts the lines of a plan that isn't refused.
+fn put_plan(out: &mut [u8], p: Plan) -> usize
+    requires { ⌜ (p .count ≤ 15) × (1024 ≤ length (now out)) ⌝ }
+    ensures { λ r. ⌜ Puts (now (out .entry)) 0 (planText p) (now (out .exit)) r ⌝ }
+{
+    let segments = p.segments;
+    let bss = p.bss;
+    let a = put_field(out, 0, b"entry=", p.entry);
+    let b = put_lines(out, a, segments, p.count);
+    let c = put(out, b, b"bss=");
+    let d = put_span(out, c, bss);
+    put_field(out, d, b"pages=", p.pages)
+}
+
+// Puts the whole listing of an image, as the listing program prints it: a refusal's number, or its entry point, segments, bss and pages.
+// Images of over 32,768 bytes aren't listed.
+pub fn list_into(image: &[u8], out: &mut [u8]) -> usize
+    requires { ⌜ 1024 ≤ length (now out) ⌝ }
+    ensures { λ r. ⌜ Puts (now (out .entry)) 0 (listing (now (image .entry))) (now (out .exit)) r ⌝ }
+{
+    if image.len() > 32768 {
+        return put_field(out, 0, b"refused=", spec::SIZES);
+    }
+    let p = exec::plan_of(image);
+    if p.elf != 0 {
+        return put_field(out, 0, b"refused=", p.elf);
+    }
+    if p.number != 0 {
+        return put_field(out, 0, b"refused=", p.number);
+    }
+    put_plan(out, p)
 }
