@@ -6,7 +6,7 @@ use Prim.Native.Nat.{ℕ, _+_, _≤_, _<_}
 use native.Mathlib.Omega.{arith}
 use native.Mathlib.Numerals.{add-one}
 use lib.ListN.{length, getD, take, length-append}
-use lib.Seq.{take-suc}
+use lib.Seq.{take-suc, length-take-le}
 use Rattle.spec.specs.Tests.{ascii}
 use Rattle.spec.specs.declared.VirtRange.{VirtRange}
 use Rattle.spec.specs.declared.UserSegment.{UserSegment}
@@ -24,6 +24,10 @@ behind {d} {e} {f} {s} {t} {at} {r} {q} p n = record {
   place = omega (arith, p .place, n .place, length-append s t);
   room = omega (arith, n .room, same-room p);
 }
+
+-- the place behind it counts bytes of the buffer
+pub counts : {d s e : List ℕ} {at r : ℕ} → Puts d at s e r → Puts d at s e r × ((r ≤ length e) × (r ≡ length (take r e)))
+counts {d} {s} {e} {at} {r} p = let h : r ≤ length e = omega (arith, p .room, same-room p) in (p, (h, sym (length-take-le r e h)))
 
 -- the same text
 pub same-text : {d s t e : List ℕ} {at r : ℕ} → s ≡ t → Puts d at s e r → Puts d at t e r

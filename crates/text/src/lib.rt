@@ -126,6 +126,7 @@ fn put_plan(out: &mut [u8], p: Plan) -> usize
 pub fn list_into(image: &[u8], out: &mut [u8]) -> usize
     requires { ⌜ 1024 ≤ length (now out) ⌝ }
     ensures { λ r. ⌜ Puts (now (out .entry)) 0 (listing (now (image .entry))) (now (out .exit)) r ⌝ }
+    ensures { λ r. ⌜ (r ≤ length (now (out .exit))) × (r ≡ length (take r (now (out .exit)))) ⌝ }
 {
     if image.len() > 32768 {
         return put_field(out, 0, b"refused=", spec::SIZES);
