@@ -1,56 +1,53 @@
 // Lists the images in the file `cases`, each after its name. An image stands there as the length of its name in 1 byte, its own length in
 // 3 bytes, little-endian, its name, and its bytes.
+ghost use Prim.Native.Nat.{_≤_, _<_};
+ghost use lib.ListN.{length};
 use libc::STDOUT_FILENO;
 
-const MOST: usize = 32769;
-
-fn least(a: usize, b: usize) -> usize {
-    if a < b { a } else { b }
+fn wide(b: u8) -> usize
+    ensures { λ r. ⌜ r < 256 ⌝ }
+{
+    b as usize
 }
 
-// Reads up to a page of `left` bytes and drops it.
-fn skip_some(fd: i32, left: usize) -> usize {
-    let mut page = [0u8; 4096];
-    let n = least(left, 4096);
-    io::read_full(fd, &mut page[..n])
-}
-
-// Reads `left` bytes and drops them, or what there is.
-fn skip(fd: i32, left: usize) {
-    let mut turns = left;
-    let mut more = left;
-    while turns > 0 {
-        turns -= 1;
-        let n = skip_some(fd, more);
-        if n == 0 {
-            return;
-        }
-        if n > more {
-            return;
-        }
-        more -= n;
-    }
-}
-
-// Lists one image, and answers whether there was one.
-fn list_one(fd: i32) -> bool {
-    let mut head = [0u8; 4];
-    if io::read_full(fd, &mut head) < 4 {
-        return false;
-    }
-    let mut name = [0u8; 256];
-    let letters = head[0] as usize;
-    let size = head[1] as usize + head[2] as usize * 256 + head[3] as usize * 65536;
-    let n = io::read_full(fd, &mut name[..letters]);
-    io::write_all(STDOUT_FILENO, &name[..n]);
+// Lists an image after its name.
+fn list(name: &[u8], image: &[u8]) {
+    io::write_all(STDOUT_FILENO, name);
     io::write_all(STDOUT_FILENO, b"\n");
-    let mut image = [0u8; 32769];
-    let kept = least(size, MOST);
-    let m = io::read_full(fd, &mut image[..kept]);
-    skip(fd, size - kept);
     let mut out = [0u8; 1024];
-    let k = text::list_into(&image[..m], &mut out);
-    io::write_all(STDOUT_FILENO, &out[..k])
+    let k = text::list_into(image, &mut out);
+    io::write_all(STDOUT_FILENO, &out[..k]);
+}
+
+// Lists the image whose entry starts at a place, and answers the place behind it; the end, where the entry is cut off.
+fn list_at(cases: &[u8], at: usize) -> usize
+    requires { ⌜ at < length (now cases) ⌝ }
+    ensures { λ r. ⌜ (at < r) × (r ≤ length (now (cases .entry))) ⌝ }
+{
+    let end = cases.len();
+    if end - at < 4 {
+        return end;
+    }
+    let letters = wide(cases[at]);
+    let size = wide(cases[at + 1]) + wide(cases[at + 2]) * 256 + wide(cases[at + 3]) * 65536;
+    let name = at + 4;
+    if letters > end - name {
+        return end;
+    }
+    let image = name + letters;
+    if size > end - image {
+        return end;
+    }
+    let next = image + size;
+    list(&cases[name..image], &cases[image..next]);
+    next
+}
+
+fn list_all(cases: &[u8]) {
+    let mut at = 0;
+    while at < cases.len() {
+        at = list_at(cases, at);
+    }
 }
 
 fn main() {
@@ -60,9 +57,8 @@ fn main() {
         os::fail(path);
         return;
     }
-    let mut turns = u64::MAX;
-    while turns > 0 && list_one(fd) {
-        turns -= 1;
-    }
+    let mut cases = [0u8; 1048576];
+    let n = io::read_full(fd, &mut cases);
     libc::close(fd);
+    list_all(&cases[..n]);
 }
