@@ -24,6 +24,7 @@ HERE = os.path.dirname(os.path.abspath(__file__))
 ROOT = os.path.dirname(os.path.dirname(HERE))
 sys.path.insert(0, HERE)
 from histories import EXAMPLE, History, any_image, random_image, set_field  # noqa: E402
+from model import bytes_of  # noqa: E402
 
 CALLS_A_HISTORY = 40
 HISTORIES_A_RUN = 50
@@ -179,8 +180,9 @@ def images_to_list(seed, count):
     """Every one-byte change and every prefix of the example, images.txt, random images."""
     yield from (EXAMPLE[:n] for n in range(len(EXAMPLE) + 1))
     yield from (set_field(EXAMPLE, at, 1, v) for at in range(len(EXAMPLE)) for v in range(256) if v != EXAMPLE[at])
+    yield from (EXAMPLE + bytes(n - len(EXAMPLE)) for n in (32768, 32769))
     with open(os.path.join(HERE, 'images.txt')) as f:
-        yield from (bytes.fromhex(line.split()[0]) for line in f if line.strip() and not line.startswith('#'))
+        yield from (bytes_of(line.strip().encode()) for line in f if not line.startswith('#'))
     r = random.Random('images/%s' % seed)
     for _ in range(count):
         yield r.choice([any_image, random_image])(r, r.random() < 0.1)

@@ -7,7 +7,7 @@ apt; no answer of the model goes into a history.
 import struct
 
 from model import (ARG_LIMIT, DATA, LIMIT, MAX, PAGE, RODATA, STACK, TEXT, USTKTOP, UTZERO,
-                   Script, down, shown, stack_size, up)
+                   Script, down, elem, shown, stack_size, up)
 
 FLAGS = {TEXT: 5, RODATA: 4, DATA: 6}
 
@@ -17,12 +17,13 @@ FLAGS = {TEXT: 5, RODATA: 4, DATA: 6}
 def header(entry, count, table=64):
     """A valid file header, 64 bytes."""
     return b'\x7fELF\x02\x01\x01' + bytes(9) + struct.pack(
-        '<HHIQQQIHHHHHH', 2, 183, 1, entry, table, 0, 0, 64, 56, count, 0, 0, 0)
+        '<HHIQQQIHHHHHH', 2, 183, 1, entry % 2**64, table, 0, 0, 64, 56, count, 0, 0, 0)
 
 
 def program(flags, offset, vaddr, filesz, memsz, kind=1):
     """A program header, 56 bytes."""
-    return struct.pack('<IIQQQQQQ', kind, flags, offset, vaddr, vaddr, filesz, memsz, PAGE)
+    words = (v % 2**64 for v in (offset, vaddr, vaddr, filesz, memsz, PAGE))
+    return struct.pack('<II6Q', kind, flags, *words)
 
 
 # Document 01's 184-byte image.
@@ -44,6 +45,7 @@ def get_field(image, at, size):
 def random_image(r, big=False):
     """An ELF image of 1 to 16 headers, mostly one that loads."""
     count = r.choice([1, 1, 2, 2, 2, 3, 3, 4, 5, 6, 8, 12, 15, 16])
+    dense = count > 8 and r.random() < 0.5            # every header a segment of a page
     body = bytes(r.randrange(256) for _ in range(r.randint(4, 48)))
     if big:
         body += r.randbytes(r.randrange(9000))
@@ -54,10 +56,10 @@ def random_image(r, big=False):
     table_bytes, texts = b'', []
     for i in range(count):
         odd = r.random()
-        if count > 1 and odd < 0.08:
+        if count > 1 and not dense and odd < 0.08:
             table_bytes += program(r.getrandbits(32), *(r.getrandbits(64) for _ in range(4)), kind=r.choice([0, 2, 6, 7]))
             continue
-        if count > 1 and odd < 0.16:
+        if count > 1 and not dense and odd < 0.16:
             table_bytes += program(r.getrandbits(32), *(r.getrandbits(64) for _ in range(3)), 0)
             continue
         perm = DATA if i == loads and i > 0 else r.choice([TEXT, TEXT, RODATA]) if texts else TEXT
@@ -68,7 +70,7 @@ def random_image(r, big=False):
         vaddr = page * PAGE + offset % PAGE
         fill = up(vaddr + filesz) - vaddr - filesz    # up to the end of its page
         more = r.choice([0, 0, 1, fill, fill, fill + 1, r.randrange(3 * PAGE)])
-        memsz = max(filesz + more, 1)
+        memsz = max(filesz + (0 if dense else more), 1)
         if i == count - 1 and r.random() < 0.04:      # at the very top
             vaddr = LIMIT - PAGE + offset % PAGE
             memsz = LIMIT - vaddr + r.choice([0, 0, 1])
@@ -141,7 +143,9 @@ class History:
         self.r, self.small = r, small
         self.model = Script()
         self.lines = []
-        n = r.choice([r.randint(1, 10), r.randint(11, 40), r.randint(11, 40), r.randint(11, 40), r.randint(41, 120)])
+        n = r.choice([r.randint(7, 40), r.randint(14, 40), r.randint(20, 60), r.randint(41, 120)])
+        if r.random() < 0.06:
+            n = r.randint(1, 8)
         if small:
             n = r.choice([r.randint(6, 12), r.randint(13, 24)])
         elif r.random() < 0.02:
@@ -307,8 +311,9 @@ class History:
 
     def push(self):
         r, n = self.r, self.number()
-        top = r.choice([USTKTOP, self.address(n) // 16 * 16, self.address(n) // 16 * 16, self.address(n),
-                        16 * r.randint(0, 8), USTKTOP - 16 * r.randint(0, 1200), STACK[0] + 16 * r.randint(0, 12)])
+        inside = USTKTOP - 16 * r.randint(0, 700)
+        top = r.choice([USTKTOP, inside, inside, inside, inside, self.address(n) // 16 * 16, self.address(n) // 16 * 16,
+                        self.address(n), 16 * r.randint(0, 8), STACK[0] + 16 * r.randint(0, 12)])
         self.call('push', n, r.choice([0, 65536, r.getrandbits(64)]), top, *map(shown, self.args()))
 
     def brk(self):
@@ -350,16 +355,23 @@ class History:
     def copy_from(self):
         n = self.number()
         a = self.address(n)
-        self.call('from', n, a, self.length(a, 65536))
+        length = self.length(a, 65536)
+        record = self.w.records[n] if 1 <= n <= 16 else None
+        if record and self.r.random() < 0.7:
+            start, end, _ = self.r.choice([p for p in record.parts() if p[0] < p[1]])
+            length = min(length, end - start)
+            a = self.r.choice([start, end - length, self.r.randint(start, end - length)])
+        self.call('from', n, a, length)
 
     def copy_to(self):
         r, n = self.r, self.number()
         record = self.w.records[n] if 1 <= n <= 16 else None
         a, b = self.address(n), self.data()
-        if record and r.random() < 0.6:
+        if record and r.random() < 0.85:
             start, end, _ = r.choice([p for p in record.parts() if p[2] == DATA and p[0] < p[1]])
-            a = r.choice([start, end - len(b), end - len(b) + 1, r.randrange(start, end), r.randrange(start, end)])
-        self.call('to', n, max(a, 0), shown(b))
+            b = b[:end - start]
+            a = r.choice([start, end - len(b), r.randint(start, end - len(b)), r.randint(start, end - len(b))])
+        self.call('to', n, a, shown(b))
 
     def string(self):
         r, n = self.r, self.number()
@@ -423,7 +435,7 @@ class History:
         self.call('rule', *bss, free, min(max(a, 0), MAX))
 
     def name_call(self):
-        self.call('name', shown(self.name()))
+        self.call('name', shown(elem(self.name())))
 
     STEPS = [(start, 10), (replace, 8), (push, 7), (brk, 13), (fork, 8), (end, 2), (range, 12), (copy_from, 9),
              (copy_to, 13), (string, 12), (tear, 2), (swap, 1), (lend, 1), (rule, 4), (name_call, 2)]
