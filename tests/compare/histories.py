@@ -42,12 +42,14 @@ def get_field(image, at, size):
     return int.from_bytes(image[at:at + size], 'little')
 
 
-def random_image(r, big=False):
-    """An ELF image of 1 to 16 headers, mostly one that loads."""
+def random_image(r, size='plain'):
+    """An ELF image of 1 to 16 headers, mostly one that loads; `small` ones have up to 3, `big` ones more bytes."""
     count = r.choice([1, 1, 2, 2, 2, 3, 3, 4, 5, 6, 8, 12, 15, 16])
+    if size == 'small':
+        count = r.choice([1, 1, 1, 2, 2, 3])
     dense = count > 8 and r.random() < 0.5            # every header a segment of a page
-    body = bytes(r.randrange(256) for _ in range(r.randint(4, 48)))
-    if big:
+    body = bytes(r.randrange(256) for _ in range(r.randint(4, 12 if size == 'small' else 48)))
+    if size == 'big':
         body += r.randbytes(r.randrange(9000))
     table = 64 if r.random() < 0.8 else 64 + len(body)
     total = 64 + 56 * count + len(body)
@@ -120,13 +122,13 @@ def near(r, image, old):
                      r.getrandbits(3), r.getrandbits(64)])
 
 
-def any_image(r, big=False):
+def any_image(r, size='plain'):
     way = r.random()
     if way < 0.3:
         return EXAMPLE
     if way < 0.65:
-        return random_image(r, big)
-    return damaged(r, r.choice([EXAMPLE, random_image(r, big)]))
+        return random_image(r, size)
+    return damaged(r, r.choice([EXAMPLE, random_image(r, size)]))
 
 
 # Histories
@@ -147,7 +149,7 @@ class History:
         if r.random() < 0.06:
             n = r.randint(1, 8)
         if small:
-            n = r.choice([r.randint(6, 12), r.randint(13, 24)])
+            n = r.choice([r.randint(8, 14), r.randint(15, 24)])
         elif r.random() < 0.02:
             n = r.choice([0, 1024, 1025])
         self.emit('frames %d %d' % (n, r.choice([0, 1, 255, r.randrange(256)])))
@@ -257,8 +259,13 @@ class History:
             return out + [b'y' * max(left + r.randint(-20, 4), 0)]
         return [b''] * r.choice([452, 453, 454, 455])
 
+    def size(self):
+        if self.small:
+            return 'small' if self.r.random() < 0.97 else 'plain'
+        return 'big' if self.r.random() < 0.15 else 'plain'
+
     def image(self):
-        return shown(any_image(self.r, not self.small and self.r.random() < 0.15))
+        return shown(any_image(self.r, self.size()))
 
     # Calls
 
@@ -269,7 +276,7 @@ class History:
         r.choices([f for f, _ in self.STEPS], [k for _, k in self.STEPS])[0](self)
 
     def start(self, good=False):
-        image = shown(EXAMPLE if self.r.random() < 0.5 else random_image(self.r)) if good else self.image()
+        image = shown(EXAMPLE if self.r.random() < 0.5 else random_image(self.r, self.size())) if good else self.image()
         self.call('start', self.new_number(), shown(self.name()), image, *map(shown, self.args()))
 
     def replace(self):

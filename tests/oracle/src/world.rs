@@ -122,6 +122,8 @@ pub struct World {
     words: u64,
     pub book: Vec<u64>,
     procs: [Option<Box<Proc<Host>>>; PROCS + 1],
+    /// Whether frame bytes stay as the Rust leaves them after a failure.
+    as_left: bool,
 }
 
 impl World {
@@ -129,7 +131,14 @@ impl World {
         m().mem[..frames * PAGE_SIZE_4K].fill(fill);
         m().spaces.clear();
         let words = frames as u64;
-        World { frames, bytes: PAGE * words, words, book: vec![0; frames], procs: [const { None }; PROCS + 1] }
+        World {
+            frames,
+            bytes: PAGE * words,
+            words,
+            book: vec![0; frames],
+            procs: [const { None }; PROCS + 1],
+            as_left: std::env::var_os("ORACLE_AS_LEFT").is_some(),
+        }
     }
 
     /// Lend only so much; None if there isn't as much.
@@ -239,7 +248,7 @@ impl World {
     /// Run a call of process `n` between `load` and `store`. The harness's own:
     /// an ended process's frames and record go, and frame bytes are as before a
     /// call that was refused or ended the process, where the Rust has by then
-    /// written to frames that are free again.
+    /// written to frames that are free again (ORACLE_AS_LEFT=1 shows them so).
     fn run<T>(&mut self, n: usize, f: impl FnOnce(&mut Self) -> Answer<T>) -> Answer<T> {
         let all = self.words as usize * PAGE_SIZE_4K;
         let before = m().mem[..all].to_vec();
@@ -248,7 +257,7 @@ impl World {
         if let Err(Stop::Ended(_)) = r {
             self.remove(n);
         }
-        if r.is_err() {
+        if r.is_err() && !self.as_left {
             m().mem[..all].copy_from_slice(&before);
         }
         self.store()?;
