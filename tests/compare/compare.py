@@ -40,7 +40,8 @@ def run(command, data):
                            close_fds=False)
     except subprocess.TimeoutExpired:
         return b'', 'took over %d s' % TIME_LIMIT
-    return p.stdout, '' if p.returncode == 0 else 'status %d %s' % (p.returncode, p.stderr.decode(errors='replace').strip())
+    failed = '' if p.returncode == 0 else 'status %d %s' % (p.returncode, p.stderr.decode(errors='replace').strip())
+    return p.stdout, failed
 
 
 def answers(command, lines):
@@ -128,7 +129,8 @@ class Count:
                 self.sums += 1
 
     def show(self, what, seconds):
-        print('%s: no difference in %d calls and %d sums, %.0f s' % (what, sum(self.calls.values()), self.sums, seconds))
+        made = sum(self.calls.values())
+        print('%s: no difference in %d calls and %d sums, %.0f s' % (what, made, self.sums, seconds))
         print('  calls: ' + ', '.join('%s %d' % (n, self.calls[n]) for n in COUNTED if self.calls[n]))
         order = sorted(self.kinds, key=lambda k: (k.split()[0], int(k.split()[1]) if ' ' in k else 0))
         print('  answers: ' + ', '.join('%s: %d' % (k, self.kinds[k]) for k in order))

@@ -59,10 +59,12 @@ def random_image(r, size='plain'):
     for i in range(count):
         odd = r.random()
         if count > 1 and not dense and odd < 0.08:
-            table_bytes += program(r.getrandbits(32), *(r.getrandbits(64) for _ in range(4)), kind=r.choice([0, 2, 6, 7]))
+            fields = [r.getrandbits(64) for _ in range(4)]
+            table_bytes += program(r.getrandbits(32), *fields, kind=r.choice([0, 2, 6, 7]))
             continue
         if count > 1 and not dense and odd < 0.16:
-            table_bytes += program(r.getrandbits(32), *(r.getrandbits(64) for _ in range(3)), 0)
+            fields = [r.getrandbits(64) for _ in range(3)]
+            table_bytes += program(r.getrandbits(32), *fields, 0)
             continue
         perm = DATA if i == loads and i > 0 else r.choice([TEXT, TEXT, RODATA]) if texts else TEXT
         offset = r.choice([0, r.randint(0, total), total - total % 4, total])
@@ -94,6 +96,11 @@ def up4(a):
     return (a + 3) // 4 * 4
 
 
+# Places and sizes of fields of the file header and of a program header.
+HEADER_FIELDS = [(4, 1), (5, 1), (6, 1), (16, 2), (18, 2), (20, 4), (24, 8), (32, 8), (54, 2), (56, 2)]
+PROGRAM_FIELDS = [(0, 4), (4, 4), (8, 8), (16, 8), (32, 8), (32, 8), (40, 8), (40, 8), (48, 8)]
+
+
 def damaged(r, image):
     """The image with something wrong in it, or nothing."""
     for _ in range(r.choice([1, 1, 1, 2])):
@@ -105,10 +112,10 @@ def damaged(r, image):
         elif way < 0.35:
             image = set_field(image, r.randrange(n), 1, r.getrandbits(8))
         elif way < 0.5 and n >= 64:
-            at, size = r.choice([(4, 1), (5, 1), (6, 1), (16, 2), (18, 2), (20, 4), (24, 8), (32, 8), (54, 2), (56, 2)])
+            at, size = r.choice(HEADER_FIELDS)
             image = set_field(image, at, size, near(r, image, get_field(image, at, size)))
         elif count:
-            at, size = r.choice([(0, 4), (4, 4), (8, 8), (16, 8), (32, 8), (32, 8), (40, 8), (40, 8), (48, 8)])
+            at, size = r.choice(PROGRAM_FIELDS)
             at += get_field(image, 32, 8) + 56 * r.randrange(count)
             if at + size <= n:
                 image = set_field(image, at, size, near(r, image, get_field(image, at, size)))
@@ -230,8 +237,10 @@ class History:
 
     def data(self):
         r = self.r
-        n = r.choice([0, 1, 1, 3, 8, 16, r.randint(0, 40)] + ([] if self.small else [PAGE, r.randint(0, 2 * PAGE + 2)]))
-        b = r.randbytes(n)
+        lengths = [0, 1, 1, 3, 8, 16, r.randint(0, 40)]
+        if not self.small:
+            lengths += [PAGE, r.randint(0, 2 * PAGE + 2)]
+        b = r.randbytes(r.choice(lengths))
         return b if r.random() < 0.5 else b.replace(b'\0', b'\1')
 
     def name(self):
@@ -249,7 +258,8 @@ class History:
         r = self.r
         way = r.random()
         if way < 0.85 or self.small and way < 0.97:
-            out = [r.randbytes(r.choice([0, 1, 3, 7, 8, r.randint(0, 30)])).replace(b'\0', b'z') for _ in range(r.choice([0, 1, 2, 2, 3, 5]))]
+            lengths = [r.choice([0, 1, 3, 7, 8, r.randint(0, 30)]) for _ in range(r.choice([0, 1, 2, 2, 3, 5]))]
+            out = [r.randbytes(n).replace(b'\0', b'z') for n in lengths]
             if out and r.random() < 0.06:
                 out[r.randrange(len(out))] += b'\0'
             return out
@@ -276,7 +286,9 @@ class History:
         r.choices([f for f, _ in self.STEPS], [k for _, k in self.STEPS])[0](self)
 
     def start(self, good=False):
-        image = shown(EXAMPLE if self.r.random() < 0.5 else random_image(self.r, self.size())) if good else self.image()
+        image = self.image()
+        if good:
+            image = shown(EXAMPLE if self.r.random() < 0.5 else random_image(self.r, self.size()))
         self.call('start', self.new_number(), shown(self.name()), image, *map(shown, self.args()))
 
     def replace(self):
@@ -319,8 +331,8 @@ class History:
     def push(self):
         r, n = self.r, self.number()
         inside = USTKTOP - 16 * r.randint(0, 700)
-        top = r.choice([USTKTOP, inside, inside, inside, inside, self.address(n) // 16 * 16, self.address(n) // 16 * 16,
-                        self.address(n), 16 * r.randint(0, 8), STACK[0] + 16 * r.randint(0, 12)])
+        top = r.choice([USTKTOP, inside, inside, inside, inside, self.address(n) // 16 * 16,
+            self.address(n) // 16 * 16, self.address(n), 16 * r.randint(0, 8), STACK[0] + 16 * r.randint(0, 12)])
         self.call('push', n, r.choice([0, 65536, r.getrandbits(64)]), top, *map(shown, self.args()))
 
     def brk(self):
@@ -330,9 +342,9 @@ class History:
         if record and r.random() < 0.8:
             start, end = record.bss
             free = self.w.free()
-            a = r.choice([0, start, start - 1, start + 1, up(start), end, end - 1, end + 1, end - PAGE, end - PAGE + 1,
-                          end + PAGE, end + PAGE * free, end + PAGE * free + 1, end + PAGE * free - 1, end + 2 * PAGE,
-                          end + r.randint(0, 4 * PAGE), start + r.randint(0, 3 * PAGE)])
+            a = r.choice([0, start, start - 1, start + 1, up(start), end, end - 1, end + 1, end - PAGE,
+                end - PAGE + 1, end + PAGE, end + PAGE * free, end + PAGE * free + 1, end + PAGE * free - 1,
+                end + 2 * PAGE, end + r.randint(0, 4 * PAGE), start + r.randint(0, 3 * PAGE)])
         self.call('break', n, max(a, 0))
 
     def fork(self):
@@ -396,9 +408,9 @@ class History:
             i = r.choice(used)
         old = w.book[i]
         word = old or 65536 + 16 + 3
-        new = r.choice([0, word ^ 1, word ^ 3, word + 4, word + 16, word - 16, word + PAGE, down(word) + 3, down(word) + 16 * 17 + 3,
-                        word % PAGE, word % PAGE + UTZERO - PAGE, word % PAGE + USTKTOP, word % PAGE + USTKTOP - PAGE,
-                        r.getrandbits(64), MAX, r.choice(w.book)])
+        new = r.choice([0, word ^ 1, word ^ 3, word + 4, word + 16, word - 16, word + PAGE, down(word) + 3,
+            down(word) + 16 * 17 + 3, word % PAGE, word % PAGE + UTZERO - PAGE, word % PAGE + USTKTOP,
+            word % PAGE + USTKTOP - PAGE, r.getrandbits(64), MAX, r.choice(w.book)])
         self.emit('word %d %d' % (i, new % 2**64))
         for _ in range(r.randint(1, 2)):
             self.step_once()
@@ -419,8 +431,8 @@ class History:
         """Lend an odd size, try some calls, and lend all again."""
         r, w = self.r, self.w
         n = w.n
-        size, words = r.choice([(PAGE * n - 1, n), (PAGE * n, n - 1), (PAGE * (n - 1), n), (PAGE * (n - 1), n - 1), (0, 0),
-                                (PAGE * (n // 2), n // 2), (PAGE, 1), (PAGE * (n // 2) + 1, n // 2), (0, n)])
+        size, words = r.choice([(PAGE * n - 1, n), (PAGE * n, n - 1), (PAGE * (n - 1), n), (PAGE * (n - 1), n - 1),
+            (0, 0), (PAGE * (n // 2), n // 2), (PAGE, 1), (PAGE * (n // 2) + 1, n // 2), (0, n)])
         if 0 <= words <= n and 0 <= size <= PAGE * n:
             self.emit('lend %d %d' % (size, words))
             for _ in range(r.randint(1, 3)):
@@ -434,7 +446,8 @@ class History:
     def rule(self):
         r = self.r
         start = r.choice([r.randrange(UTZERO, 2**20), r.choice(CONSTANTS), r.getrandbits(64)])
-        end = r.choice([up(start) % 2**64, min(up(start) + PAGE * r.randint(0, 5), MAX), r.choice(CONSTANTS), r.getrandbits(64)])
+        end = r.choice([up(start) % 2**64, min(up(start) + PAGE * r.randint(0, 5), MAX), r.choice(CONSTANTS),
+            r.getrandbits(64)])
         free = r.choice([0, 1, 2, 5, r.getrandbits(10), 2**52 - 1, 2**52, 2**52 + 1, MAX])
         a = r.choice([0, start, start - 1, start + 1, end, end + 1, end - 1, end + PAGE * min(free, 2**36),
                       end + PAGE * min(free, 2**36) + 1, r.choice(CONSTANTS), r.getrandbits(64)])

@@ -2,9 +2,8 @@
 //! they lie, so that they are compiled unchanged and none of them stands here.
 use std::{env, fs, path::PathBuf};
 
-const FILES: [&str; 12] = [
-    "chan", "dat", "dev", "elf", "error", "exec", "fake", "mem", "pagealloc", "segment", "str", "uaccess",
-];
+const FILES: [&str; 12] =
+    ["chan", "dat", "dev", "elf", "error", "exec", "fake", "mem", "pagealloc", "segment", "str", "uaccess"];
 
 fn main() {
     println!("cargo:rerun-if-env-changed=ORACLE_SRC");

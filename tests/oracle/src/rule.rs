@@ -68,7 +68,9 @@ pub fn rule(bss: Option<VirtRange>, free: u64, addr: u64) -> Answer<(u64, VirtRa
     // The harness's own: the end after a walk that was left early, and after a
     // growth from an end inside a page, which map_zeroed asserts against. The
     // weighing comes before both and is the Rust's.
-    let grown = |b: Option<VirtRange>| Ok((0, VirtRange::new(b.unwrap().start, (addr as usize).next_multiple_of(PAGE_SIZE_4K))));
+    let grown = |b: Option<VirtRange>| {
+        Ok((0, VirtRange::new(b.unwrap().start, (addr as usize).next_multiple_of(PAGE_SIZE_4K))))
+    };
     match r {
         Err(p) if p.is::<Enough>() => grown(bss),
         Err(p) => std::panic::resume_unwind(p),

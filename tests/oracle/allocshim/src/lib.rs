@@ -4,9 +4,9 @@
 //! exec.rs's private functions, and the file stays unchanged.
 #![no_std]
 extern crate alloc as real;
-pub use real::*;
 #[doc(hidden)]
 pub use real::vec as realvec;
+pub use real::*;
 
 #[macro_export]
 macro_rules! vec {
