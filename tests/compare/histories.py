@@ -54,7 +54,7 @@ def random_image(r, size='plain'):
     table = 64 if r.random() < 0.8 else 64 + len(body)
     total = 64 + 56 * count + len(body)
     page = UTZERO // PAGE + r.choice([0, 0, 0, 1, 5])
-    loads = r.random() < 0.7 and count - 1 or -1      # which header is the data's, if any
+    data = count - 1 if r.random() < 0.7 else 0       # which header is the data, if any
     table_bytes, texts = b'', []
     for i in range(count):
         odd = r.random()
@@ -66,7 +66,7 @@ def random_image(r, size='plain'):
             fields = [r.getrandbits(64) for _ in range(3)]
             table_bytes += program(r.getrandbits(32), *fields, 0)
             continue
-        perm = DATA if i == loads and i > 0 else r.choice([TEXT, TEXT, RODATA]) if texts else TEXT
+        perm = DATA if i == data and i > 0 else r.choice([TEXT, TEXT, RODATA]) if texts else TEXT
         offset = r.choice([0, r.randint(0, total), total - total % 4, total])
         filesz = r.choice([0, total - offset, total - offset, r.randint(0, total - offset)])
         if not texts and perm == TEXT:
