@@ -2,3 +2,4 @@ pub mod Fitted
 pub mod Kept
 pub mod Pages
 pub mod Planned
+pub mod FileBytes

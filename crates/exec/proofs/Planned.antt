@@ -7,7 +7,7 @@ use Prim.Native.Nat.{ℕ, suc, _+_, _-_, _/_, _<_, _≤_}
 use native.Mathlib.Omega.{arith}
 use lib.ListN.{length, take, set, replicate}
 use lib.Seq.{take-all, take-append-seam, set-append-seam}
-use borrow.Author.Tests.{eq-eqb, ne-eqb, lt-ltb, le-ltb}
+use borrow.Author.Tests.{eqb-true, ne-eqb, lt-ltb, le-ltb}
 use Rattle.spec.specs.Tests.{_is_, _isnt_, _above_, _⇒_else_}
 use Rattle.spec.specs.Numbers.{limit, pageUp, ustktop, ustksize}
 use Rattle.spec.specs.Book.{zeroSegment, stack, bssSegment, pageCount}
@@ -16,7 +16,8 @@ use Rattle.spec.specs.Exec.{layoutOk, bssOf, imageSegments, imageBss, imageErro
 use Rattle.spec.specs.declared.VirtRange.{VirtRange}
 use Rattle.spec.specs.declared.UserSegment.{UserSegment}
 use Rattle.laws.proofs.Apart.{count-append}
-use Rattle.laws.proofs.Accepted.{AllLoad, elf-loads, recorded-all}
+use Rattle.laws.proofs.Accepted.{accepted-means, AllLoad, elf-loads, recorded-all}
+use Rattle.spec.proofs.Bools.{split}
 use Rattle.exec.specs.Plan.{recorded, refusedPlan, planOf}
 use Rattle.exec.specs.declared.Plan.{Plan}
 
@@ -83,3 +84,29 @@ pub same-plan : (e e′ : ℕ) (s s′ : List UserSegment) (c c′ : ℕ) (b b�
     → _≡_ {A = Plan} (record { number = 0; elf = 0; entry = e; segments = s; count = c; bss = b; pages = p })
     (record { number = 0; elf = 0; entry = e′; segments = s′; count = c′; bss = b′; pages = p′ })
 same-plan e e′ s s′ c c′ b b′ p p′ ee es ec eb ep = rw (ee, es, ec, eb, ep)
+
+-- ---- what a caller reads off a plan
+
+module _ (image : List ℕ) where
+  -- its numbers are the image's
+  pub plan-number : planOf image .number ≡ imageError image
+  unfolding planOf
+  plan-number = split (imageError image is 0) (λ q. rw (ap not q) (sym (eqb-true (imageError image) 0 q))) (λ q. rw (ap not q))
+
+  pub plan-elf-number : planOf image .elf ≡ elfError image
+  unfolding planOf
+  plan-elf-number =
+      split (imageError image is 0) (λ q. rw (ap not q) (sym (accepted-means image (eqb-true (imageError image) 0 q) .elf))) (λ q. rw (ap not q))
+
+  -- and an accepted image's plan is all that it gives
+  pub plan-accepted : imageError image ≡ 0
+      → planOf image ≡ record {
+        number = 0;
+        elf = 0;
+        entry = entry image;
+        segments = imageSegments image ++ stack ∷ replicate (15 - length (imageSegments image)) zeroSegment;
+        count = length (imageSegments image);
+        bss = imageBss image;
+        pages = pageCount (startPieces image);
+      }
+  plan-accepted e = let a = accepted-means image e in plan-yes image (a .elf) (a .layout) (a .few)

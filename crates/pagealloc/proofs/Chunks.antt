@@ -1,15 +1,15 @@
 -- Bytes of a process read and written page by page.
-use Prim.Native.Nat.{ℕ, _+_, _-_, _*_, _/_, _%_, _≤_, _<_}
+use Prim.Native.Nat.{ℕ, _+_, _-_, _*_, _%_, _≤_, _<_}
 use native.Mathlib.Omega.{arith}
 use mathlib.Core.Path.{_≡_, refl, sym, ap, _∙_}
-use mathlib.Core.Option.{Option, none, some}
-use mathlib.Core.List.{List, [], _∷_, _++_}
-use lib.ListN.{length, getD, take, drop, length-drop}
+use mathlib.Core.Option.{some}
+use mathlib.Core.List.{List}
+use lib.ListN.{length, take, drop, length-drop}
 use lib.Seq.{ext-getD, getD-take, getD-drop, length-take-le, take-add, take-length}
 use borrow.Rule.Slice.PartMut.{putMid, midOf, mid-len}
 use Rattle.spec.specs.Numbers.{pageDown}
 use Rattle.spec.specs.Book.{frameOf}
-use Rattle.spec.specs.Frames.{Store, cellIn, memOf, put, pokes}
+use Rattle.spec.specs.Frames.{Store, memOf, put, pokes}
 use Rattle.spec.specs.Access.{byteOf, bytesAt}
 use Rattle.laws.proofs.Frame.{Fits, frame-found}
 use Rattle.laws.proofs.Pokes.{pokes-append, pokes-page}

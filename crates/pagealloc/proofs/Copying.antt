@@ -1,7 +1,7 @@
 -- Pages of one process copied for another: the frames stay apart, and what the first process sees stays.
-use Prim.Native.Nat.{ℕ, _+_, _-_, _*_, _/_, _%_, _≤_, _<_}
+use Prim.Native.Nat.{ℕ, _+_, _*_, _%_, _≤_, _<_}
 use native.Mathlib.Omega.{arith}
-use mathlib.Core.Path.{_≡_, refl, sym, ap, _∙_}
+use mathlib.Core.Path.{_≡_, sym, ap, _∙_}
 use mathlib.Core.Logic.{_⊎_, inl, inr}
 use mathlib.Core.Option.{Option, none, some}
 use mathlib.Core.List.{List, [], _∷_}
@@ -10,7 +10,7 @@ use lib.ListN.{length, getD, take, drop}
 use borrow.Author.Tests.{eqb-true, eqb-false}
 use Rattle.spec.specs.Book.{freeFrame, frameOf, permIn}
 use Rattle.spec.specs.Frames.{Store, memOf, put, Page, hold, place, frameBytes}
-use Rattle.spec.specs.declared.Found.the-variants.{At, Nothing}
+use Rattle.spec.specs.declared.Found.the-variants.{Nothing}
 use Rattle.spec.proofs.Bools.{split}
 use Rattle.laws.proofs.Lists.{by-order}
 use Rattle.laws.proofs.Frame.{Fits, frame-found, frame-perm, perm-same}

@@ -3,25 +3,23 @@ use Prim.Native.Nat.{ℕ, zero, suc, _+_, _-_, _*_, _/_, _%_, _≤_, _<_}
 use native.Mathlib.Omega.{arith}
 use native.Mathlib.Nat.{not-suc-le-zero}
 use mathlib.Core.Path.{_≡_, refl, sym, ap, _∙_}
-use mathlib.Core.Bool.{Bool, true, false}
+use mathlib.Core.Bool.{Bool, false}
 use mathlib.Core.Option.{Option, none, some}
-use mathlib.Core.List.{List, [], _∷_, _++_, append-nil}
+use mathlib.Core.List.{List, [], _∷_, append-nil}
 use lib.Dec.{eqb}
 use lib.ListN.{length, getD, set, length-set}
 use lib.Seq.{getD-set-same, getD-set-other}
 use borrow.Author.Tests.{eqb-true, eqb-false, ne-eqb}
-use Rattle.spec.specs.Tests.{_is_, _⇒_else_}
+use Rattle.spec.specs.Tests.{_is_}
 use Rattle.spec.specs.Numbers.{zeroPage}
 use Rattle.spec.specs.Book.{wordOf, highest, freeFrame, segment}
 use Rattle.spec.specs.Frames.{Store, put, Page, pagesFrom, pagesOf, hold, place}
-use Rattle.spec.specs.declared.UserSegment.{UserSegment}
-use Rattle.spec.specs.declared.Found.{Found}
 use Rattle.spec.specs.declared.Found.the-variants.{At, Nothing}
 use Rattle.spec.proofs.Bools.{split}
 use Rattle.spec.proofs.Search.{hit, miss}
 use Rattle.spec.proofs.Words.{used-word}
 use Rattle.laws.proofs.Lists.{by-order}
-use Rattle.laws.proofs.Cursor.{from-more, place-below, cursor-end}
+use Rattle.laws.proofs.Cursor.{place-below, cursor-end}
 use Rattle.pagealloc.specs.Lent.{store, foundOf, Passed}
 
 -- ---- one page
@@ -45,6 +43,10 @@ found-at (some j) k e = cc
 pub found-none : (o : Option ℕ) → Nothing ≡ foundOf o → o ≡ none
 found-none none e = refl
 found-none (some j) e = absurd (let z : _≡_ {A = ℕ} 0 1 = cc in omega arith)
+
+-- all frames are still to be looked at
+pub passed-all : (book : List ℕ) → Passed (length book) book
+passed-all book = (omega arith, λ k l u. absurd (omega arith))
 
 -- where nothing from c on passes, the highest is below c
 highest-from : (t : ℕ → Bool) (b c : ℕ) → c ≤ b → ((k : ℕ) → c ≤ k → k < b → t k ≡ false) → highest t b ≡ highest t c

@@ -8,11 +8,9 @@ pub mod book;
 // Pages released: book words that become 0.
 pub mod release;
 
-// Loops over whole slices.
-pub mod bytes;
-
-// The bytes of frames.
-mod frames;
+// The bytes of frames, and frames filled.
+pub mod frames;
+mod pages;
 
 // Pages placed in free frames.
 pub mod place;

@@ -34,7 +34,7 @@ fn hold_zeroed(frames: &mut [u8], book: &mut [u64], k: usize, owner: u64, page: 
     requires { ⌜ (length (now frames) ≡ 4096 * length (now book)) × (k < length (now book)) × (owner < 256) × (page < 2 ^ 63) ⌝ }
     ensures { λ _. ⌜ store (now (frames .exit)) (now (book .exit)) ≡ hold (store (now (frames .entry)) (now (book .entry))) owner (record { page = page; perm = 3; bytes = zeroPage page }) (some k) ⌝ }
 {
-    crate::frames::zero_frame(frames, crate::frames::frame_addr(k));
+    crate::pages::zero_frame(frames, crate::frames::frame_addr(k));
     book[k] = crate::book::pack(page, owner, spec::DATA);
 }
 
@@ -81,7 +81,7 @@ fn hold_loaded(
     requires { ⌜ vaddr + length (now file) < 2 ^ 64 ⌝ }
     ensures { λ _. ⌜ store (now (frames .exit)) (now (book .exit)) ≡ hold (store (now (frames .entry)) (now (book .entry))) owner (record { page = page; perm = perm; bytes = pageBytes (fileAt vaddr (now (file .entry))) page }) (some k) ⌝ }
 {
-    crate::frames::load_frame(frames, crate::frames::frame_addr(k), page, vaddr, file);
+    crate::pages::load_frame(frames, crate::frames::frame_addr(k), page, vaddr, file);
     book[k] = crate::book::pack(page, owner, perm);
 }
 
@@ -135,7 +135,7 @@ fn hold_copied(
     let spec::Found::At(from) = crate::book::frame_of(book, parent, page) else {
         return;
     };
-    crate::frames::copy_frame(
+    crate::pages::copy_frame(
         frames,
         crate::frames::frame_addr(from),
         crate::frames::frame_addr(k),

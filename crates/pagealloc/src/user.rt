@@ -16,7 +16,7 @@ fn write_phys(frames: &mut [u8], at: mem::PhysAddr, s: &[u8])
 {
     let a = at.0 as usize;
     let e = a + s.len();
-    crate::bytes::copy(&mut frames[a..e], s);
+    crate::frames::copy(&mut frames[a..e], s);
 }
 
 // `d` becomes the bytes from `at` on.
@@ -26,7 +26,7 @@ fn read_phys(frames: &[u8], at: mem::PhysAddr, d: &mut [u8])
 {
     let a = at.0 as usize;
     let e = a + d.len();
-    crate::bytes::copy(d, &frames[a..e]);
+    crate::frames::copy(d, &frames[a..e]);
 }
 
 // The address of byte `offset` of frame `k`.

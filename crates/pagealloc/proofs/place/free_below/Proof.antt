@@ -1,10 +1,10 @@
 -- `pagealloc::place::free_below` meets its contract. The loop's invariant: the highest free frame below `c` is the highest below `i`.
 use mathlib.Core.Path.{_≡_, refl, sym, ap, _∙_}
 use mathlib.Core.Bool.{Bool}
-use Prim.Native.Nat.{ℕ, _-_, _≤_}
+use Prim.Native.Nat.{ℕ, _≤_}
 use native.Mathlib.Omega.{arith}
 use denote.Ref.{now}
-use lib.ListN.{length, getD}
+use lib.ListN.{getD}
 use borrow.Author.Tests.{eq-eqb, ne-eqb}
 use Rattle.spec.specs.Tests.{_is_}
 use Rattle.spec.specs.Book.{highest}
@@ -14,7 +14,7 @@ use Rattle.pagealloc.proofs.place.free_below.Statement.{statement}
 use Rattle.pagealloc.proofs.place.free_below.Tie as tie
 
 abbrev Inv-loop : tie.InvT-loop
-Inv-loop book c i₀ i = (i ≤ length book) × (highest (λ k. getD book k 0 is 0) c ≡ highest (λ k. getD book k 0 is 0) i)
+Inv-loop book c i₀ i = (i ≤ c) × (highest (λ k. getD book k 0 is 0) c ≡ highest (λ k. getD book k 0 is 0) i)
 
 abbrev μ-loop : tie.MeasureT-loop
 μ-loop book c i₀ i = i

@@ -1,5 +1,5 @@
 -- `pagealloc::place::hold_zeroed` meets its contract.
-use mathlib.Core.Path.{_≡_, ap, _∙_}
+use mathlib.Core.Path.{ap, _∙_}
 use denote.Ref.{now}
 use Rattle.spec.specs.Numbers.{zeroPage}
 use Rattle.spec.specs.Frames.{put}

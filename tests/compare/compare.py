@@ -1,0 +1,243 @@
+#!/usr/bin/env python3
+"""Runs the same scripts through two commands and reports the first difference.
+
+    compare.py random SEED COUNT A B [--small]   COUNT random calls, in histories of 40
+    compare.py directed A B [FILE ..]            the scripts of directed/, or the files named
+    compare.py images SEED COUNT A B             the listing: every one-byte change and every prefix of the
+                                                 184-byte image, images.txt, and COUNT random images
+    compare.py write SEED COUNT [--small]        the random script on standard output
+
+A and B are commands, each in one word, that read a script on standard input and
+write an answer for each line: `target/oracle/release/oracle`, `target/bin/replay`,
+`tests/compare/model.py`. For images they read one image; a command that ends in
+` lists` reads an image a line instead. They run in the repository's root.
+"""
+import os
+import random
+import shlex
+import subprocess
+import sys
+import time
+from collections import Counter
+
+HERE = os.path.dirname(os.path.abspath(__file__))
+ROOT = os.path.dirname(os.path.dirname(HERE))
+sys.path.insert(0, HERE)
+from histories import EXAMPLE, History, any_image, random_image, set_field  # noqa: E402
+from model import bytes_of  # noqa: E402
+
+CALLS_A_HISTORY = 40
+HISTORIES_A_RUN = 50
+TIME_LIMIT = 120
+TEN = ['start', 'replace', 'push', 'break', 'fork', 'end', 'range', 'from', 'to', 'string']
+COUNTED = TEN + ['rule', 'name']
+
+
+def run(command, data):
+    """What a command writes for this input, and how it failed, if it did."""
+    try:
+        p = subprocess.run(shlex.split(command), input=data, capture_output=True, cwd=ROOT, timeout=TIME_LIMIT,
+                           close_fds=False)
+    except subprocess.TimeoutExpired:
+        return b'', 'took over %d s' % TIME_LIMIT
+    failed = '' if p.returncode == 0 else 'status %d %s' % (p.returncode, p.stderr.decode(errors='replace').strip())
+    return p.stdout, failed
+
+
+def answers(command, lines):
+    """The answers of a command to script lines; one more if it failed."""
+    out, failed = run(command, b'\n'.join(lines) + b'\n')
+    got = []
+    for line in out.split(b'\n')[:-1]:
+        if line.startswith(b' ') and got:    # a further line of a table
+            got[-1] += b'\n' + line
+        else:
+            got.append(line)
+    return got + ([failed.encode()] if failed else [])
+
+
+def asked(lines):
+    """The lines that have an answer."""
+    return [line for line in lines if line and not line.startswith(b'#')]
+
+
+def difference(lines, a, b):
+    """The answers of both and the place of the first difference, or None."""
+    x, y = answers(a, lines), answers(b, lines)
+    n = len(asked(lines))
+    for i in range(max(n, len(x), len(y))):
+        if i >= len(x) or i >= len(y) or x[i] != y[i]:
+            return x, y, i
+    return x, y, None
+
+
+def cut(b, n=200):
+    text = b.decode('latin-1')
+    return text if len(text) <= n else '%s .. (%d bytes)' % (text[:n], len(text))
+
+
+def smallest(lines, a, b):
+    """Fewer of the lines that still differ: each line is left out in turn, from the end."""
+    i = len(lines) - 1
+    while i >= 0:
+        fewer = lines[:i] + lines[i + 1:]
+        if asked(fewer) and difference(fewer, a, b)[2] is not None:
+            lines = fewer
+        i -= 1
+    return lines
+
+
+def report(lines, a, b, where):
+    """Print the first difference with the lines around it, and a smaller script that shows it."""
+    x, y, at = difference(lines, a, b)
+    if at is None:
+        print('%s: differed once, and does not again' % where)
+        return
+    calls = asked(lines)
+    print('%s: first difference at call %d' % (where, at + 1))
+    for i in range(max(0, at - 4), min(len(calls), at + 3)):
+        print('%s %s' % ('>' if i == at else ' ', cut(calls[i])))
+        for name, got in (('A', x), ('B', y)):
+            print('    %s %s' % (name, cut(got[i]) if i < len(got) else '(no answer)'))
+    if at >= len(calls):
+        print('    A %s\n    B %s' % tuple(cut(g[at]) if at < len(g) else '(nothing more)' for g in (x, y)))
+    small = smallest(calls[:at + 1], a, b)
+    file = os.path.join(ROOT, 'target', 'compare-difference.txt')
+    os.makedirs(os.path.dirname(file), exist_ok=True)
+    with open(file, 'wb') as f:
+        f.write(b'\n'.join(small) + b'\n')
+    print('a script of %d lines that differs: %s' % (len(small), file))
+
+
+class Count:
+    """What was called and answered."""
+
+    def __init__(self):
+        self.calls, self.kinds, self.sums = Counter(), Counter(), 0
+
+    def add(self, lines, got):
+        for line, answer in zip(asked(lines), got):
+            name = line.split(b' ')[0].decode('latin-1')
+            if name in COUNTED:
+                self.calls[name] += 1
+                words = answer.split(b' ')
+                kind = words[0].decode('latin-1')
+                if kind in ('refused', 'ended'):
+                    kind += ' ' + words[1].decode('latin-1')
+                self.kinds[kind] += 1
+            elif name == 'sum':
+                self.sums += 1
+
+    def show(self, what, seconds):
+        made = sum(self.calls.values())
+        print('%s: no difference in %d calls and %d sums, %.0f s' % (what, made, self.sums, seconds))
+        print('  calls: ' + ', '.join('%s %d' % (n, self.calls[n]) for n in COUNTED if self.calls[n]))
+        order = sorted(self.kinds, key=lambda k: (k.split()[0], int(k.split()[1]) if ' ' in k else 0))
+        print('  answers: ' + ', '.join('%s: %d' % (k, self.kinds[k]) for k in order))
+
+
+def history(seed, k, small):
+    return History(random.Random('%s/%d' % (seed, k)), CALLS_A_HISTORY, small).lines
+
+
+def compare_random(seed, count, a, b, small, explain=True):
+    begin, total = time.time(), Count()
+    k = 0
+    while sum(total.calls.values()) < count:
+        many = [history(seed, k + i, small) for i in range(HISTORIES_A_RUN)]
+        lines = [line for h in many for line in h]
+        x, _, at = difference(lines, a, b)
+        if at is not None and not explain:
+            return False
+        if at is not None:
+            # The history that differs, by itself.
+            for i, h in enumerate(many):
+                at -= len(asked(h))
+                if at < 0 or i == len(many) - 1:
+                    report(h, a, b, 'seed %s, history %d' % (seed, k + i))
+                    return False
+        total.add(lines, x)
+        k += HISTORIES_A_RUN
+    total.show('seed %s, %d histories' % (seed, k), time.time() - begin)
+    return True
+
+
+def compare_directed(a, b, files, explain=True):
+    begin, total = time.time(), Count()
+    folder = os.path.join(HERE, 'directed')
+    files = files or [os.path.join(folder, f) for f in sorted(os.listdir(folder)) if f.endswith('.txt')]
+    fine = True
+    for file in files:
+        with open(file, 'rb') as f:
+            lines = f.read().split(b'\n')
+        x, _, at = difference(lines, a, b)
+        if at is not None and not explain:
+            return False
+        if at is not None:
+            report(lines, a, b, os.path.relpath(file, ROOT))
+            fine = False
+        total.add(lines, x)
+    if fine:
+        total.show('%d directed scripts' % len(files), time.time() - begin)
+    return fine
+
+
+def images_to_list(seed, count):
+    """Every one-byte change and every prefix of the example, images.txt, random images."""
+    yield from (EXAMPLE[:n] for n in range(len(EXAMPLE) + 1))
+    yield from (set_field(EXAMPLE, at, 1, v) for at in range(len(EXAMPLE)) for v in range(256) if v != EXAMPLE[at])
+    yield from (EXAMPLE + bytes(n - len(EXAMPLE)) for n in (32768, 32769))
+    with open(os.path.join(HERE, 'images.txt')) as f:
+        yield from (bytes_of(line.strip().encode()) for line in f if not line.startswith('#'))
+    r = random.Random('images/%s' % seed)
+    for _ in range(count):
+        yield r.choice([any_image, random_image])(r, 'big' if r.random() < 0.1 else 'plain')
+
+
+def listings(command, images):
+    if command.endswith(' lists'):
+        out, failed = run(command, b''.join((i.hex() or '-').encode() + b'\n' for i in images))
+        got = out.split(b'\n')[:-1]
+        return got + [failed.encode()] * (len(images) - len(got))
+    both = (run(command, i) for i in images)
+    return [(out.rstrip(b'\n').replace(b'\n', b';') + failed.encode()) for out, failed in both]
+
+
+def compare_images(seed, count, a, b):
+    begin, kinds, n = time.time(), Counter(), 0
+    images = list(images_to_list(seed, count))
+    for at in range(0, len(images), 5000):
+        part = images[at:at + 5000]
+        for image, x, y in zip(part, listings(a, part), listings(b, part)):
+            n += 1
+            if x != y:
+                print('image %d differs:\n  %s\n  A %s\n  B %s' % (n, image.hex() or '-', x.decode(), y.decode()))
+                return False
+            kinds[x.decode().split(';')[0] if x.startswith(b'refused') else 'listed'] += 1
+    print('seed %s: no difference in the listings of %d images, %.0f s' % (seed, n, time.time() - begin))
+    print('  ' + ', '.join('%s: %d' % (k, kinds[k]) for k in sorted(kinds, key=lambda k: (len(k), k))))
+    return True
+
+
+def main(argv):
+    small = '--small' in argv
+    argv = [a for a in argv if a != '--small']
+    if len(argv) == 5 and argv[0] == 'random':
+        return compare_random(argv[1], int(argv[2]), argv[3], argv[4], small)
+    if len(argv) >= 3 and argv[0] == 'directed':
+        return compare_directed(argv[1], argv[2], argv[3:])
+    if len(argv) == 5 and argv[0] == 'images':
+        return compare_images(argv[1], int(argv[2]), argv[3], argv[4])
+    if len(argv) == 3 and argv[0] == 'write':
+        made, k = 0, 0
+        while made < int(argv[2]):
+            lines = history(argv[1], k, small)
+            sys.stdout.buffer.write(b'\n'.join(lines) + b'\n')
+            made += sum(line.split(b' ')[0].decode() in COUNTED for line in lines)
+            k += 1
+        return True
+    sys.exit(__doc__)
+
+
+if __name__ == '__main__':
+    sys.exit(0 if main(sys.argv[1:]) else 1)

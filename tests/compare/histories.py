@@ -1,0 +1,461 @@
+"""Images and random histories of calls, from a seed.
+
+A history is a list of script lines. The model runs along while it is made, only
+to know which processes live and where their segments lie, so that addresses are
+apt; no answer of the model goes into a history.
+"""
+import struct
+
+from model import (ARG_LIMIT, DATA, LIMIT, MAX, PAGE, RODATA, STACK, TEXT, USTKTOP, UTZERO,
+                   Script, down, elem, shown, stack_size, up)
+
+FLAGS = {TEXT: 5, RODATA: 4, DATA: 6}
+
+
+# Images
+
+def header(entry, count, table=64):
+    """A valid file header, 64 bytes."""
+    return b'\x7fELF\x02\x01\x01' + bytes(9) + struct.pack(
+        '<HHIQQQIHHHHHH', 2, 183, 1, entry % 2**64, table, 0, 0, 64, 56, count, 0, 0, 0)
+
+
+def program(flags, offset, vaddr, filesz, memsz, kind=1):
+    """A program header, 56 bytes."""
+    words = (v % 2**64 for v in (offset, vaddr, vaddr, filesz, memsz, PAGE))
+    return struct.pack('<II6Q', kind, flags, *words)
+
+
+# Document 01's 184-byte image.
+EXAMPLE = (header(65712, 2) + program(5, 0, 65536, 180, 180) + program(6, 180, 69812, 4, 8000)
+           + b'\x1f\x20\x03\xd5' + b'data')
+assert len(EXAMPLE) == 184
+
+
+def set_field(image, at, size, value):
+    b = bytearray(image)
+    b[at:at + size] = (value % 2**(8 * size)).to_bytes(size, 'little')
+    return bytes(b[:max(len(image), at + size)])
+
+
+def get_field(image, at, size):
+    return int.from_bytes(image[at:at + size], 'little')
+
+
+def random_image(r, size='plain'):
+    """An ELF image of 1 to 16 headers, mostly one that loads; `small` ones have up to 3, `big` ones more bytes."""
+    count = r.choice([1, 1, 2, 2, 2, 3, 3, 4, 5, 6, 8, 12, 15, 16])
+    if size == 'small':
+        count = r.choice([1, 1, 1, 2, 2, 3])
+    dense = count > 8 and r.random() < 0.5            # every header a segment of a page
+    body = bytes(r.randrange(256) for _ in range(r.randint(4, 12 if size == 'small' else 48)))
+    if size == 'big':
+        body += r.randbytes(r.randrange(9000))
+    table = 64 if r.random() < 0.8 else 64 + len(body)
+    total = 64 + 56 * count + len(body)
+    page = UTZERO // PAGE + r.choice([0, 0, 0, 1, 5])
+    data = count - 1 if r.random() < 0.7 else 0       # which header is the data, if any
+    table_bytes, texts = b'', []
+    for i in range(count):
+        odd = r.random()
+        if count > 1 and not dense and odd < 0.08:
+            fields = [r.getrandbits(64) for _ in range(4)]
+            table_bytes += program(r.getrandbits(32), *fields, kind=r.choice([0, 2, 6, 7]))
+            continue
+        if count > 1 and not dense and odd < 0.16:
+            fields = [r.getrandbits(64) for _ in range(3)]
+            table_bytes += program(r.getrandbits(32), *fields, 0)
+            continue
+        perm = DATA if i == data and i > 0 else r.choice([TEXT, TEXT, RODATA]) if texts else TEXT
+        offset = r.choice([0, r.randint(0, total), total - total % 4, total])
+        filesz = r.choice([0, total - offset, total - offset, r.randint(0, total - offset)])
+        if not texts and perm == TEXT:
+            offset, filesz = 0, r.randint(min(8, total), total)
+        vaddr = page * PAGE + offset % PAGE
+        fill = up(vaddr + filesz) - vaddr - filesz    # up to the end of its page
+        more = r.choice([0, 0, 1, fill, fill, fill + 1, r.randrange(3 * PAGE)])
+        memsz = max(filesz + (0 if dense else more), 1)
+        if i == count - 1 and r.random() < 0.04:      # at the very top
+            vaddr = LIMIT - PAGE + offset % PAGE
+            memsz = LIMIT - vaddr + r.choice([0, 0, 1])
+            filesz = min(filesz, memsz)
+        if r.random() < 0.02:
+            memsz += r.choice([PAGE * 1024, 2**40, 2**63])
+        flags = FLAGS[perm] + 8 * r.choice([0, 0, 0, 1, r.getrandbits(29)])
+        table_bytes += program(flags, offset, vaddr, filesz, memsz)
+        if perm == TEXT:
+            texts.append((vaddr, filesz))
+        page = up(vaddr + memsz) // PAGE + r.choice([0, 0, 0, 1])
+    places = [a for v, n in texts for a in (up4(v), (v + n - 1) // 4 * 4) if v <= a < v + n]
+    entry = r.choice(places) if places else UTZERO
+    head = header(entry, count, table)
+    return head + table_bytes + body if table == 64 else head + body + table_bytes
+
+
+def up4(a):
+    return (a + 3) // 4 * 4
+
+
+# Places and sizes of fields of the file header and of a program header.
+HEADER_FIELDS = [(4, 1), (5, 1), (6, 1), (16, 2), (18, 2), (20, 4), (24, 8), (32, 8), (54, 2), (56, 2)]
+PROGRAM_FIELDS = [(0, 4), (4, 4), (8, 8), (16, 8), (32, 8), (32, 8), (40, 8), (40, 8), (48, 8)]
+
+
+def damaged(r, image):
+    """The image with something wrong in it, or nothing."""
+    for _ in range(r.choice([1, 1, 1, 2])):
+        n = len(image)
+        count = min(get_field(image, 56, 2), 16) if n >= 64 else 0
+        way = r.random()
+        if n == 0 or way < 0.1:
+            image = image[:r.choice([0, 63, 64, r.randint(0, n), n - 1])]
+        elif way < 0.35:
+            image = set_field(image, r.randrange(n), 1, r.getrandbits(8))
+        elif way < 0.5 and n >= 64:
+            at, size = r.choice(HEADER_FIELDS)
+            image = set_field(image, at, size, near(r, image, get_field(image, at, size)))
+        elif count:
+            at, size = r.choice(PROGRAM_FIELDS)
+            at += get_field(image, 32, 8) + 56 * r.randrange(count)
+            if at + size <= n:
+                image = set_field(image, at, size, near(r, image, get_field(image, at, size)))
+    return image
+
+
+def near(r, image, old):
+    """A value for a field: near the old one or at a boundary."""
+    return r.choice([old + 1, old - 1, old + 4, old + PAGE, old - PAGE, old ^ 1 << r.randrange(64), 0, 1, len(image),
+                     len(image) + 1, UTZERO, UTZERO - 1, LIMIT, LIMIT + 1, 2**64 - PAGE, 2**64 - PAGE + 1, MAX,
+                     r.getrandbits(3), r.getrandbits(64)])
+
+
+def any_image(r, size='plain'):
+    way = r.random()
+    if way < 0.3:
+        return EXAMPLE
+    if way < 0.65:
+        return random_image(r, size)
+    return damaged(r, r.choice([EXAMPLE, random_image(r, size)]))
+
+
+# Histories
+
+CONSTANTS = [0, 1, 8, 16, PAGE - 1, PAGE, UTZERO - 1, UTZERO, LIMIT - PAGE, LIMIT - 1, LIMIT, LIMIT + 1, STACK[0] - 1,
+             STACK[0], USTKTOP - 8, USTKTOP - 1, USTKTOP, USTKTOP + 1, 2**63, MAX - PAGE, MAX - PAGE + 1,
+             MAX - PAGE + 2, MAX - 7, MAX]
+
+
+class History:
+    """`small` keeps images, answers and frames short, for recorded samples."""
+
+    def __init__(self, r, calls, small=False):
+        self.r, self.small = r, small
+        self.model = Script()
+        self.lines = []
+        n = r.choice([r.randint(7, 40), r.randint(14, 40), r.randint(20, 60), r.randint(41, 120)])
+        if r.random() < 0.06:
+            n = r.randint(1, 8)
+        if small:
+            n = r.choice([r.randint(8, 14), r.randint(15, 24)])
+        elif r.random() < 0.02:
+            n = r.choice([0, 1024, 1025])
+        self.emit('frames %d %d' % (n, r.choice([0, 1, 255, r.randrange(256)])))
+        self.sums = 1 if n <= 40 else 0.2
+        if small:
+            self.sums = 0.25
+        self.made = 0
+        while self.made < calls:
+            self.step()
+        self.emit('sum')
+
+    @property
+    def w(self):
+        return self.model.w
+
+    def emit(self, line):
+        """Add a line and run the model on it."""
+        if isinstance(line, str):
+            line = line.encode()
+        assert len(line) <= 65536
+        self.lines.append(line)
+        return self.model.answer(line)
+
+    def call(self, *words):
+        self.made += 1
+        answer = self.emit(' '.join(str(w) for w in words))
+        if self.r.random() < self.sums:
+            self.emit('sum')
+        return answer
+
+    # What calls are made of
+
+    def alive(self):
+        return [n for n in range(1, 17) if self.w.records[n]]
+
+    def number(self):
+        r, alive = self.r, self.alive()
+        if alive and r.random() < 0.97:
+            return r.choice(alive)
+        return r.choice([1, 2, r.randint(1, 16), 0, 17, MAX, r.randint(1, 16)])
+
+    def new_number(self):
+        r = self.r
+        if r.random() < 0.95:
+            return r.choice([1, 2, 3, r.randint(1, 16), 16])
+        return r.choice([0, 17, 2**32 + 1, MAX])
+
+    def address(self, n):
+        """An address that means something to process n, most of the time."""
+        r = self.r
+        record = self.w.records[n] if 1 <= n <= 16 else None
+        way = r.random()
+        if record and way < 0.45:
+            edges = [e for s in record.segments for e in s[:2]] + [record.bss[0], up(record.bss[0]), record.bss[1]]
+            a = r.choice(edges) + r.choice([0, 0, 0, 1, -1, 7, -7, 8, -8, 16, -16, -17, -24, -32, 100, -100])
+        elif record and way < 0.85:
+            start, end, _ = r.choice([p for p in record.parts() if p[0] < p[1]])
+            page = r.randrange(start, end, PAGE)
+            a = page + r.choice([0, 1, 8, r.randrange(PAGE), r.randrange(PAGE), PAGE - 1, PAGE - 8])
+        elif way < 0.96:
+            a = r.choice(CONSTANTS)
+        else:
+            a = r.getrandbits(r.choice([16, 17, 47, 48, 64]))
+        return max(0, min(a, MAX))
+
+    def length(self, a, most=MAX):
+        """A length for a range at a: mostly one that ends where something does."""
+        r = self.r
+        rest = PAGE - a % PAGE
+        choices = [0, 1, 8, rest, rest - 1, rest + 1, rest + PAGE, r.randint(0, 40), r.randint(0, 40), 40]
+        if not self.small or r.random() < 0.1:
+            choices += [PAGE, PAGE + 1, r.randint(0, 5 * PAGE)]
+        if most == MAX:
+            choices += [USTKTOP - a, USTKTOP - a + 1, USTKTOP, MAX - a, MAX - a + 1, MAX]
+        elif self.small:
+            choices = [c for c in choices if c <= 64] or [1]
+        return r.choice([c for c in choices if 0 <= c <= most])
+
+    def data(self):
+        r = self.r
+        lengths = [0, 1, 1, 3, 8, 16, r.randint(0, 40)]
+        if not self.small:
+            lengths += [PAGE, r.randint(0, 2 * PAGE + 2)]
+        b = r.randbytes(r.choice(lengths))
+        return b if r.random() < 0.5 else b.replace(b'\0', b'\1')
+
+    def name(self):
+        r = self.r
+        ends = ['lex', 'mot', '', '.', 'x' * 26, 'x' * 27, 'x' * 28, 'x' * 29, 'é' * 14, 'x' * 23 + 'é' + 'x' * 8,
+                'x' * 22 + '語' + 'y' * 9, '\U0001f600' * 8]
+        b = (r.choice(['', '/', '/bin/', 'a/b/', '/bin//']) + r.choice(ends)).encode()
+        if r.random() < 0.1:
+            b += r.randbytes(r.randint(1, 30))
+        if r.random() < 0.05:
+            b = bytes(r.choice([0x80, 0xbf, 0xc3, 0x2f, 0x61]) for _ in range(r.randint(25, 32)))
+        return b
+
+    def args(self):
+        r = self.r
+        way = r.random()
+        if way < 0.85 or self.small and way < 0.97:
+            lengths = [r.choice([0, 1, 3, 7, 8, r.randint(0, 30)]) for _ in range(r.choice([0, 1, 2, 2, 3, 5]))]
+            out = [r.randbytes(n).replace(b'\0', b'z') for n in lengths]
+            if out and r.random() < 0.06:
+                out[r.randrange(len(out))] += b'\0'
+            return out
+        if way < 0.95:    # around the limit
+            out = [b'q' * r.choice([0, 1, 7, r.randint(0, 600)]) for _ in range(r.randint(0, 6))]
+            left = ARG_LIMIT - stack_size(sum(len(a) + 1 for a in out), len(out))
+            return out + [b'y' * max(left + r.randint(-20, 4), 0)]
+        return [b''] * r.choice([452, 453, 454, 455])
+
+    def size(self):
+        if self.small:
+            return 'small' if self.r.random() < 0.97 else 'plain'
+        return 'big' if self.r.random() < 0.15 else 'plain'
+
+    def image(self):
+        return shown(any_image(self.r, self.size()))
+
+    # Calls
+
+    def step(self):
+        r = self.r
+        if not self.alive() and r.random() < 0.85:
+            return self.start(good=r.random() < 0.8)
+        r.choices([f for f, _ in self.STEPS], [k for _, k in self.STEPS])[0](self)
+
+    def start(self, good=False):
+        image = self.image()
+        if good:
+            image = shown(EXAMPLE if self.r.random() < 0.5 else random_image(self.r, self.size()))
+        self.call('start', self.new_number(), shown(self.name()), image, *map(shown, self.args()))
+
+    def replace(self):
+        r, n = self.r, self.number()
+        record = self.w.records[n] if 1 <= n <= 16 else None
+        argv = self.address(n)
+        if record and r.random() < 0.75:
+            argv = self.write_argv(n)
+            if not self.w.records[n]:
+                return
+        self.call('replace', n, shown(self.name()), self.image(), argv)
+
+    def write_argv(self, n):
+        """Strings and pointers written to process n's memory; where the pointers begin."""
+        r = self.r
+        record = self.w.records[n]
+        start, end, _ = r.choice([p for p in record.parts() if p[2] == DATA and p[0] < p[1]])
+        args = self.args()
+        at = r.choice([start, start + 3, end - 200, end - 40, r.randrange(start, end)])
+        pointers = []
+        block = b''
+        for a in args:
+            pointers.append(at + len(block))
+            block += a + b'\0'
+        odd = r.random()
+        if odd < 0.05 and pointers:
+            pointers[r.randrange(len(pointers))] = self.address(n)
+        block = block[:-1] if odd > 0.97 else block
+        array = b''.join(struct.pack('<Q', p % 2**64) for p in pointers + [0])
+        if odd > 0.94:
+            array = array[:-8]
+        where = at + len(block) + r.choice([0, 0, 0, 1, 5])
+        if r.random() < 0.1:
+            where = end - len(array)
+        for a, b in ((at, block), (where, array)):
+            if self.w.records[n] and (start <= a and a + len(b) <= end or r.random() < 0.05):
+                self.call('to', n, a, shown(b))
+        return where
+
+    def push(self):
+        r, n = self.r, self.number()
+        inside = USTKTOP - 16 * r.randint(0, 700)
+        top = r.choice([USTKTOP, inside, inside, inside, inside, self.address(n) // 16 * 16,
+            self.address(n) // 16 * 16, self.address(n), 16 * r.randint(0, 8), STACK[0] + 16 * r.randint(0, 12)])
+        self.call('push', n, r.choice([0, 65536, r.getrandbits(64)]), top, *map(shown, self.args()))
+
+    def brk(self):
+        r, n = self.r, self.number()
+        record = self.w.records[n] if 1 <= n <= 16 else None
+        a = self.address(n)
+        if record and r.random() < 0.8:
+            start, end = record.bss
+            free = self.w.free()
+            a = r.choice([0, start, start - 1, start + 1, up(start), end, end - 1, end + 1, end - PAGE,
+                end - PAGE + 1, end + PAGE, end + PAGE * free, end + PAGE * free + 1, end + PAGE * free - 1,
+                end + 2 * PAGE, end + r.randint(0, 4 * PAGE), start + r.randint(0, 3 * PAGE)])
+        self.call('break', n, max(a, 0))
+
+    def fork(self):
+        r, n = self.r, self.number()
+        words = [n, self.new_number()]
+        record = self.w.records[n] if 1 <= n <= 16 else None
+        if r.random() < 0.25:
+            lent = [list(s) for s in record.segments] if record else [list(STACK)]
+            odd = r.random()
+            if odd < 0.3:
+                lent[r.randrange(len(lent))][r.randrange(3)] = r.choice([0, 1, 2, 3, 4, UTZERO, PAGE, MAX])
+            elif odd < 0.4:
+                lent.append([0, 0, 0])
+            elif odd < 0.5 and len(lent) > 1:
+                del lent[r.randrange(len(lent))]
+            words += [x for s in lent for x in s]
+        self.call('fork', *words)
+
+    def end(self):
+        self.call('end', self.number())
+
+    def range(self):
+        n = self.number()
+        a = self.address(n)
+        self.call('range', n, a, self.length(a), self.r.choice('rw'))
+
+    def copy_from(self):
+        n = self.number()
+        a = self.address(n)
+        length = self.length(a, 65536)
+        record = self.w.records[n] if 1 <= n <= 16 else None
+        if record and self.r.random() < 0.7:
+            start, end, _ = self.r.choice([p for p in record.parts() if p[0] < p[1]])
+            length = min(length, end - start)
+            a = self.r.choice([start, end - length, self.r.randint(start, end - length)])
+        self.call('from', n, a, length)
+
+    def copy_to(self):
+        r, n = self.r, self.number()
+        record = self.w.records[n] if 1 <= n <= 16 else None
+        a, b = self.address(n), self.data()
+        if record and r.random() < 0.85:
+            start, end, _ = r.choice([p for p in record.parts() if p[2] == DATA and p[0] < p[1]])
+            b = b[:end - start]
+            a = r.choice([start, end - len(b), r.randint(start, end - len(b)), r.randint(start, end - len(b))])
+        self.call('to', n, a, shown(b))
+
+    def string(self):
+        r, n = self.r, self.number()
+        a = self.address(n)
+        self.call('string', n, a, self.length(a, 65536))
+
+    def tear(self):
+        """Write a book word, try some calls, and write the old one again."""
+        r, w = self.r, self.w
+        if w.n == 0:
+            return
+        i = r.randrange(w.n)
+        used = [k for k in range(w.n) if w.book[k]]
+        if used and r.random() < 0.8:
+            i = r.choice(used)
+        old = w.book[i]
+        word = old or 65536 + 16 + 3
+        new = r.choice([0, word ^ 1, word ^ 3, word + 4, word + 16, word - 16, word + PAGE, down(word) + 3,
+            down(word) + 16 * 17 + 3, word % PAGE, word % PAGE + UTZERO - PAGE, word % PAGE + USTKTOP,
+            word % PAGE + USTKTOP - PAGE, r.getrandbits(64), MAX, r.choice(w.book)])
+        self.emit('word %d %d' % (i, new % 2**64))
+        for _ in range(r.randint(1, 2)):
+            self.step_once()
+        # If the book was sound all the same, the calls may have changed it.
+        if w.book[i] == new % 2**64:
+            self.emit('word %d %d' % (i, old))
+
+    def swap(self):
+        """Exchange two book words: the book stays sound, pages change their frames."""
+        r, w = self.r, self.w
+        if w.n:
+            i, j = r.randrange(w.n), r.randrange(w.n)
+            a, b = w.book[i], w.book[j]
+            self.emit('word %d %d' % (i, b))
+            self.emit('word %d %d' % (j, a))
+
+    def lend(self):
+        """Lend an odd size, try some calls, and lend all again."""
+        r, w = self.r, self.w
+        n = w.n
+        size, words = r.choice([(PAGE * n - 1, n), (PAGE * n, n - 1), (PAGE * (n - 1), n), (PAGE * (n - 1), n - 1),
+            (0, 0), (PAGE * (n // 2), n // 2), (PAGE, 1), (PAGE * (n // 2) + 1, n // 2), (0, n)])
+        if 0 <= words <= n and 0 <= size <= PAGE * n:
+            self.emit('lend %d %d' % (size, words))
+            for _ in range(r.randint(1, 3)):
+                self.step_once()
+            self.emit('lend %d %d' % (PAGE * n, n))
+
+    def step_once(self):
+        self.r.choice([self.start, self.replace, self.push, self.brk, self.fork, self.end, self.range, self.copy_from,
+                       self.copy_to, self.string])()
+
+    def rule(self):
+        r = self.r
+        start = r.choice([r.randrange(UTZERO, 2**20), r.choice(CONSTANTS), r.getrandbits(64)])
+        end = r.choice([up(start) % 2**64, min(up(start) + PAGE * r.randint(0, 5), MAX), r.choice(CONSTANTS),
+            r.getrandbits(64)])
+        free = r.choice([0, 1, 2, 5, r.getrandbits(10), 2**52 - 1, 2**52, 2**52 + 1, MAX])
+        a = r.choice([0, start, start - 1, start + 1, end, end + 1, end - 1, end + PAGE * min(free, 2**36),
+                      end + PAGE * min(free, 2**36) + 1, r.choice(CONSTANTS), r.getrandbits(64)])
+        bss = ('none', 'none') if r.random() < 0.05 else (start, end)
+        self.call('rule', *bss, free, min(max(a, 0), MAX))
+
+    def name_call(self):
+        self.call('name', shown(elem(self.name())))
+
+    STEPS = [(start, 10), (replace, 8), (push, 7), (brk, 13), (fork, 8), (end, 2), (range, 12), (copy_from, 9),
+             (copy_to, 13), (string, 12), (tear, 2), (swap, 1), (lend, 1), (rule, 4), (name_call, 2)]

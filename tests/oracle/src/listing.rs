@@ -1,0 +1,70 @@
+//! Document 01's listing program, from what elf.rs and exec.rs say of an image.
+use crate::dat::Perm;
+use crate::elf::{self, ElfError};
+use crate::inside::{Exec, Inside};
+use crate::machine::{Host, USTKSIZE};
+use crate::mem::PAGE_SIZE_4K;
+use crate::world::{SEGMENTS, number};
+use std::fmt::Write;
+
+/// The number of an image's refusal.
+fn elf_number(e: ElfError) -> u32 {
+    use ElfError::*;
+    match e {
+        Truncated => 11,
+        BadMagic => 12,
+        NotElf64 => 13,
+        NotLittleEndian => 14,
+        BadVersion => 15,
+        NotExecutable => 16,
+        NotAarch64 => 17,
+        BadPhentsize => 18,
+        MisalignedEntry => 19,
+        PhdrsOutOfRange => 20,
+        FileszOverMemsz => 21,
+        SegmentOutOfRange => 22,
+        Misaligned => 23,
+        Overflow => 24,
+        BadFlags => 25,
+        Unordered => 26,
+        EntryNotInText => 27,
+    }
+}
+
+pub fn kind(p: Perm) -> &'static str {
+    match p {
+        Perm::Text => "text",
+        Perm::Rodata => "rodata",
+        Perm::Data => "data",
+    }
+}
+
+pub fn listing(image: &[u8]) -> String {
+    match lines(image) {
+        Ok(s) => s,
+        Err(n) => format!("refused={n}\n"),
+    }
+}
+
+fn lines(image: &[u8]) -> Result<String, u32> {
+    // The harness's own: the longest image the program reads.
+    if image.len() > 32_768 {
+        return Err(1);
+    }
+    let e = elf::parse(image).map_err(elf_number)?;
+    let bss = <Exec as Inside<Host>>::layout(&e).map_err(number)?;
+    let segments = <Exec as Inside<Host>>::segments(&e, bss);
+    // The harness's own: a record's room.
+    if segments.len() > SEGMENTS - 1 {
+        return Err(31);
+    }
+    let mut s = format!("entry={}\n", e.entry());
+    let mut pages = USTKSIZE / PAGE_SIZE_4K;
+    for g in &segments {
+        writeln!(s, "segment={} {} {}", kind(g.perm), g.range.start, g.range.end).unwrap();
+        pages += g.range.size() / PAGE_SIZE_4K;
+    }
+    pages += (bss.end - bss.start.next_multiple_of(PAGE_SIZE_4K)) / PAGE_SIZE_4K;
+    writeln!(s, "bss={} {}\npages={pages}", bss.start, bss.end).unwrap();
+    Ok(s)
+}
