@@ -1,2 +1,1 @@
--- What the numbers that come first make of an answer.
-pub mod Answers
+-- Laws of the calls, one file for each.

@@ -139,7 +139,7 @@ pub record Placed (g : Segment) : Type 0 where
   pub start : utzero ≤ g .vaddr
   pub end : g .vaddr + g .memsz ≤ limit
 
-layout-first : (g : Segment) (gs : List Segment) → layoutOk (g ∷ gs) ≡ true → Placed g × ((g .perm isnt 3 || length gs is 0) ≡ true) × (layoutOk gs ≡ true)
+pub layout-first : (g : Segment) (gs : List Segment) → layoutOk (g ∷ gs) ≡ true → Placed g × ((g .perm isnt 3 || length gs is 0) ≡ true) × (layoutOk gs ≡ true)
 layout-first g gs e =
     let p = both (not (g .vaddr below utzero) && not (g .vaddr + g .memsz above limit) && (g .perm isnt 3 || length gs is 0)) (layoutOk gs) e in
     let q = both (not (g .vaddr below utzero) && not (g .vaddr + g .memsz above limit)) (g .perm isnt 3 || length gs is 0) (p .0) in

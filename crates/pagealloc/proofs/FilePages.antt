@@ -1,13 +1,11 @@
 -- The page of a segment at an address: the file bytes that fall into it, between zeros.
-use Prim.Native.Nat.{ℕ, zero, suc, _+_, _-_, _*_, _≤_, _<_, min, max}
+use Prim.Native.Nat.{ℕ, _+_, _-_, _≤_, _<_, min, max}
 use native.Mathlib.Omega.{arith}
-use mathlib.Core.Path.{_≡_, refl, sym, ap, _∙_}
-use mathlib.Core.Bool.{Bool, true, false}
-use mathlib.Core.List.{List, [], _∷_, _++_}
+use mathlib.Core.Path.{_≡_, sym, ap, _∙_}
+use mathlib.Core.List.{List, _++_}
 use lib.ListN.{length, take, drop, getD, replicate, length-append, length-replicate, getD-replicate, length-drop, List·getD-append}
 use lib.Seq.{length-take-le, getD-take, getD-drop, getD-append-add, ext-getD}
-use Rattle.spec.specs.Tests.{within, _⇒_else_}
-use Rattle.spec.specs.Numbers.{bytesFrom, pageBytes, zeroPage}
+use Rattle.spec.specs.Numbers.{pageBytes, zeroPage}
 use Rattle.spec.proofs.Bools.{within-test}
 use Rattle.laws.proofs.Lists.{by-order}
 use Rattle.laws.proofs.Frame.{within-not}

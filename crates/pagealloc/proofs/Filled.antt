@@ -1,12 +1,12 @@
 -- Frames filled: what lent parts leave, and pages of file bytes.
-use Prim.Native.Nat.{ℕ, suc, _+_, _-_, _*_, _≤_, _<_, min, max}
+use Prim.Native.Nat.{ℕ, suc, _+_, _-_, _≤_, _<_}
 use native.Mathlib.Omega.{arith}
 use native.Mathlib.Numerals.{add-one}
 use mathlib.Core.Path.{_≡_, refl, sym, ap, _∙_}
 use mathlib.Core.Logic.{_⊎_, ⊎-elim}
-use mathlib.Core.List.{List, [], _∷_, _++_}
+use mathlib.Core.List.{List, _++_}
 use lib.ListN.{length, take, drop, getD, set, replicate, length-append, length-replicate, length-drop}
-use lib.Seq.{paste, paste-zero, paste-suc, length-take-le, getD-drop}
+use lib.Seq.{paste, paste-suc, length-take-le, getD-drop}
 use borrow.Rule.Slice.PartMut.{putMid, midOf, mid-len}
 use Rattle.spec.specs.Numbers.{zeroPage}
 use Rattle.spec.specs.Frames.{put}

@@ -4,3 +4,6 @@ pub mod Overwrite
 pub mod Released
 pub mod Filled
 pub mod FilePages
+pub mod Placing
+pub mod Copying
+pub mod Chunks

@@ -1,18 +1,16 @@
 -- The turns of loops over the book: free frames counted, and the highest frame that passes a test.
-use Prim.Native.Nat.{ℕ, zero, suc, _+_, _*_, _-_, _/_, _%_, _≤_, _<_}
+use Prim.Native.Nat.{ℕ, suc, _+_, _-_, _/_, _%_, _≤_, _<_}
 use native.Mathlib.Omega.{arith}
 use native.Mathlib.Numerals.{add-one}
-use mathlib.Core.Path.{_≡_, refl, sym, ap, _∙_}
+use mathlib.Core.Path.{_≡_, ap, _∙_}
 use mathlib.Core.Bool.{Bool, true, false}
-use mathlib.Core.Option.{Option, none, some}
-use mathlib.Core.List.{List, [], _∷_}
-use lib.Dec.{eqb}
+use mathlib.Core.Option.{none, some}
+use mathlib.Core.List.{List}
 use lib.ListN.{length, getD, drop, drop-of-length-le}
 use lib.Seq.{drop-cons}
-use borrow.Author.Tests.{eqb-true, eq-eqb, ne-eqb}
-use Rattle.spec.specs.Tests.{_is_, _⇒_else_}
-use Rattle.spec.specs.Book.{pageOf, ownerOf, highest, owns, frameOf, free}
-use Rattle.spec.proofs.Bools.{split, clash}
+use borrow.Author.Tests.{eq-eqb, ne-eqb}
+use Rattle.spec.specs.Book.{highest, owns, free}
+use Rattle.spec.proofs.Bools.{split}
 use Rattle.laws.proofs.Frame.{owns-means, owns-test}
 
 -- ---- free frames

@@ -1,10 +1,8 @@
 // Book words: packing them and taking them apart; and the searches of the book.
 
 ghost use mathlib.Core.Path.{_≡_};
-ghost use Prim.Native.Nat.{_+_, _*_, _%_, _^_, _≤_, _<_};
-ghost use lib.ListN.{length, getD};
-ghost use Rattle.spec.specs.Tests.{_is_};
-ghost use Rattle.spec.specs.Book.{wordOf, pageOf, ownerOf, permOf, highest, frameOf, free};
+ghost use Prim.Native.Nat.{_%_, _^_, _≤_, _<_};
+ghost use Rattle.spec.specs.Book.{wordOf, pageOf, ownerOf, permOf, frameOf, free};
 ghost use Rattle.pagealloc.specs.Lent.{foundOf};
 
 // The word of an owner's page.
@@ -50,21 +48,6 @@ pub fn free_count(book: &[u64]) -> usize
         }
     }
     n
-}
-
-// The highest free frame below frame `c`, as `allocate_physpage`, which leaves the book as it is.
-pub fn free_below(book: &[u64], c: usize) -> spec::Found
-    requires { ⌜ c ≤ length (now book) ⌝ }
-    ensures { λ r. ⌜ r ≡ foundOf (highest (λ k. getD (now (book .entry)) k 0 is 0) c) ⌝ }
-{
-    let mut i = c;
-    while 0 < i {
-        i -= 1;
-        if book[i] == 0 {
-            return spec::Found::At(i);
-        }
-    }
-    spec::Found::Nothing
 }
 
 // The frame of an owner's page. Owner and page together are the word without its permission.

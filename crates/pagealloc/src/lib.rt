@@ -8,5 +8,12 @@ pub mod book;
 // Pages released: book words that become 0.
 pub mod release;
 
-// The bytes of frames.
+// The bytes of frames, and frames filled.
 pub mod frames;
+mod pages;
+
+// Pages placed in free frames.
+pub mod place;
+
+// A process's bytes, read and written over.
+pub mod user;

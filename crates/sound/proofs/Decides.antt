@@ -17,19 +17,19 @@ use Rattle.spec.specs.declared.Procs.{Procs}
 use Rattle.spec.proofs.Bools.{split, all-at, all-test, below-at, below-test, within-test}
 use Rattle.spec.proofs.Words.{unpack, repack}
 use Rattle.laws.proofs.Record.{Whole, WholeProc}
+use Rattle.laws.proofs.Lists.{by-order}
+use Rattle.laws.proofs.Frame.{Owns, frame-found, frame-none, frame-perm, Once, once-means, once-words, frame-is}
 use Rattle.laws.proofs.Owned.{valid-means, valid-test, in-range}
-use Rattle.sound.proofs.Frames.{Once, frame-is, frame-means}
 use Rattle.laws.proofs.Exact.{some-none}
 use Rattle.laws.proofs.Facts.{sound-facts, facts-sound, sound-between}
 use Rattle.sound.specs.Records.{passes}
 use Rattle.sound.specs.Plan.{rank, nth, Plan, LaidAll}
 use Rattle.sound.specs.Table.{frameWith, entry, Planned, Tabled, marked}
 use Rattle.sound.proofs.Counting.{count, free-used, Lists, counted}
-use Rattle.sound.proofs.Laying.{part-segment}
 use Rattle.sound.proofs.Pass.{with-found, with-missing, entry-none, rank-below, rank-word}
-use Rattle.sound.proofs.Parts.{Each, each-made, parts-of, part-gives}
+use Rattle.sound.proofs.Parts.{each-made, parts-of, place-gives}
 use Rattle.sound.proofs.Passing.{Mapped, shape-pass, pass-shape}
-use Rattle.sound.proofs.Planning.{base-total, rank-hits, rank-good, rank-gives, gives-rank, nth-apart, plan}
+use Rattle.sound.proofs.Planning.{Made, base-total, rank-hits, rank-good, rank-gives, gives-rank, nth-apart, plan}
 
 -- ---- used frames are as many as ranks
 
@@ -84,13 +84,12 @@ records-of b ps w s = all-test passes zeroProc (ps .all) (λ k h. let e : k + 1 
         mapped j h some-page =
             let g = getD (p .segments) j zeroSegment in
             let hj : j < 16 = omega (arith, w .each (n - 1) .segments) in
-            let e = part-segment p j hj in
             sound-between b ps w s n (g .range .start) (g .perm) v
-            (rw (sym e) at (part-gives p (w .each (n - 1)) (parts-of p (w .each (n - 1)) (s .shape n v)) j (g .range .start) (omega arith) (rw (sym e) (within-test (g .range .start) (g .range .end) (g .range .start) (omega arith) some-page))))
+            (place-gives p (w .each (n - 1)) (parts-of p (w .each (n - 1)) (s .shape n v)) j (g .range .start) hj (within-test (g .range .start) (g .range .end) (g .range .start) (omega arith) some-page))
 
 -- ---- against a plan that is laid
 
-module _ (ps : Procs) (whole : Whole ps) (ok : (n : ℕ) → valid n ≡ true → passes (procAt ps n) ≡ true) (tags bases : List ℕ) (total : ℕ) (laid : LaidAll ps tags bases total) (b : List ℕ) where
+module _ {ps : Procs} {tags bases : List ℕ} {total : ℕ} (m : Made ps tags bases total) (b : List ℕ) where
   abbrev Full : Type 0
   Full = (t : ℕ) → t < getD bases 272 0 → frameWith b (length b) (nth tags bases t) ≡ none → ⊥
 
@@ -102,30 +101,30 @@ module _ (ps : Procs) (whole : Whole ps) (ok : (n : ℕ) → valid n ≡ true �
     ranked : (i : ℕ) → (getD b i 0 ≡ 0 → ⊥) → Ranked (getD b i 0)
     ranked i nz =
         let f = planned .fits i (in-range b i nz) nz in
-        let p = plan ps whole ok tags bases total laid most in
+        let p = plan m most in
         (rank tags bases (getD b i 0) (f .0), rank-below tags bases p (getD b i 0) (f .0) (f .1) (f .2), rank-word tags bases p (getD b i 0) (f .0) (f .1) (f .2))
 
     good : (i : ℕ) → (getD b i 0 ≡ 0 → ⊥) → Word (getD b i 0)
-    good i nz = let r = ranked i nz in subst Word (r .2) (rank-good ps whole ok tags bases total laid (r .0) (r .1))
+    good i nz = let r = ranked i nz in subst Word (r .2) (rank-good m (r .0) (r .1))
 
     gives : (i : ℕ) → (getD b i 0 ≡ 0 → ⊥) → permAt (piecesOf (procAt ps (ownerOf (getD b i 0)))) (pageOf (getD b i 0)) ≡ some (permOf (getD b i 0))
-    gives i nz = let r = ranked i nz in subst (λ (w : ℕ). permAt (piecesOf (procAt ps (ownerOf w))) (pageOf w) ≡ some (permOf w)) (r .2) (rank-gives ps whole ok tags bases total laid (r .0) (r .1))
+    gives i nz = let r = ranked i nz in subst (λ (w : ℕ). permAt (piecesOf (procAt ps (ownerOf w))) (pageOf w) ≡ some (permOf w)) (r .2) (rank-gives m (r .0) (r .1))
 
     same-word : (i j : ℕ) → (getD b i 0 ≡ 0 → ⊥) → (getD b j 0 ≡ 0 → ⊥) → getD b i 0 ≡ getD b j 0 → i ≡ j
     same-word i j u v e =
-        split (ltb i j)
-        (λ q. absurd (planned .once i j (ltb-true i j q) (in-range b j v) u e))
-        (λ q. split (ltb j i)
-        (λ r. absurd (planned .once j i (ltb-true j i r) (in-range b i u) v (sym e)))
-        (λ r. let x = ltb-false i j q in let y = ltb-false j i r in omega arith))
+        by-order i j
+        (λ l. absurd (planned .once i j l (in-range b j v) u e))
+        (λ g. by-order j i (λ l. absurd (planned .once j i l (in-range b i u) v (sym e))) (λ h. omega arith))
 
     -- an owner's page has one permission, so one word
+    owned : (n page i : ℕ) → Owns n page (getD b i 0) → permAt (piecesOf (procAt ps n)) page ≡ some (permOf (getD b i 0))
+    owned n page i o = rw (o .owner, o .page) at (gives i (o .used))
+
     once : Once b
-    once i j u o p =
-        let v : (getD b j 0 ≡ 0 → ⊥) = λ z. omega (arith, o, ap ownerOf z, good i u .owner .0) in
-        let q : some (permOf (getD b i 0)) ≡ some (permOf (getD b j 0)) = sym (gives i u) ∙ ap (λ (n : ℕ). permAt (piecesOf (procAt ps n)) (pageOf (getD b i 0))) o ∙ ap (permAt (piecesOf (procAt ps (ownerOf (getD b j 0))))) p ∙ gives j v in
+    once n page i j o p =
+        let q : some (permOf (getD b i 0)) ≡ some (permOf (getD b j 0)) = sym (owned n page i o) ∙ owned n page j p in
         let r : permOf (getD b i 0) ≡ permOf (getD b j 0) = cc in
-        same-word i j u v (omega (arith, o, p, r))
+        same-word i j (o .used) (p .used) (omega (arith, o .owner, o .page, p .owner, p .page, r))
 
     exact : (n page : ℕ) → valid n ≡ true → page % 4096 ≡ 0 → bookPerm b n page ≡ permAt (piecesOf (procAt ps n)) page
     exact n page v al = go (frameOf b n page) refl (permAt (piecesOf (procAt ps n)) page) refl
@@ -133,18 +132,15 @@ module _ (ps : Procs) (whole : Whole ps) (ok : (n : ℕ) → valid n ≡ true �
         go : (f : Option ℕ) → frameOf b n page ≡ f → (o : Option ℕ) → permAt (piecesOf (procAt ps n)) page ≡ o → bookPerm b n page ≡ permAt (piecesOf (procAt ps n)) page
         go none e none h = ap (permIn b) e ∙ sym h
         go none e (some q) h =
-            let t = gives-rank ps whole ok tags bases total laid n page q v al h in
+            let t = gives-rank m n page q v al h in
             let o = option-some (frameWith b (length b) (nth tags bases (t .0))) (full (t .0) (t .1)) in
-            let i = with-found b (nth tags bases (t .0)) (length b) (o .0) (o .1) in
-            let w : getD b (o .0) 0 ≡ wordOf page n q = i .1 ∙ t .2 in
+            let w : getD b (o .0) 0 ≡ wordOf page n q = with-found b (nth tags bases (t .0)) (length b) (o .0) (o .1) .1 ∙ t .2 in
             let u = unpack page n q al (omega (arith, valid-means n v .1)) (omega (arith, t .3)) in
-            some-none (frameOf b n page) (o .0) (frame-is b once (o .0) n page (λ z. omega (arith, w, valid-means n v .0)) (ap ownerOf w ∙ u .1) (ap pageOf w ∙ u .0)) e
-        go (some k) e o h =
-            let m = frame-means b n page k e in
-            ap (permIn b) e ∙ sym (gives k (m .1)) ∙ ap (λ (x : ℕ). permAt (piecesOf (procAt ps x)) (pageOf (getD b k 0))) (m .2) ∙ ap (permAt (piecesOf (procAt ps n))) (m .3)
+            absurd (frame-none b n page e (o .0) (record { used = λ z. omega (arith, w, valid-means n v .0); owner = ap ownerOf w ∙ u .1; page = ap pageOf w ∙ u .0 }))
+        go (some k) e o h = ap (permIn b) e ∙ sym (owned n page k (frame-found b n page k e .1))
 
     pub tells : Sound b ps
-    tells = record { words = good; once = once; shape = λ n v. pass-shape (procAt ps n) (whole .each (n - 1)) (ok n v); exact = exact }
+    tells = record { words = good; once = once-words b (λ k nz. good k nz .owner .0) once; shape = λ n v. pass-shape (procAt ps n) (m .whole .each (n - 1)) (m .ok n v); exact = exact }
 
   -- and a sound book passes
   module _ (s : Sound b ps) where
@@ -153,15 +149,15 @@ module _ (ps : Procs) (whole : Whole ps) (ok : (n : ℕ) → valid n ≡ true �
         let w : ℕ = getD b i 0 in
         let g = s .words i nz in
         let v = valid-test (ownerOf w) (g .owner .0) (g .owner .1) in
-        let e : permAt (piecesOf (procAt ps (ownerOf w))) (pageOf w) ≡ some (permOf w) = sym (s .exact (ownerOf w) (pageOf w) v (omega arith)) ∙ ap (permIn b) (frame-is b (s .once) i (ownerOf w) (pageOf w) nz refl refl) in
-        let r = gives-rank ps whole ok tags bases total laid (ownerOf w) (pageOf w) (permOf w) v (omega arith) e in
+        let e : permAt (piecesOf (procAt ps (ownerOf w))) (pageOf w) ≡ some (permOf w) = sym (s .exact (ownerOf w) (pageOf w) v (omega arith)) ∙ ap (permIn b) (frame-is b (ownerOf w) (pageOf w) i (once-means b (s .once)) (record { used = nz; owner = refl; page = refl })) in
+        let r = gives-rank m (ownerOf w) (pageOf w) (permOf w) v (omega arith) e in
         (r .0, r .1, r .2 ∙ sym (repack w))
 
     pub planned-of : Planned b tags bases (length b)
     planned-of = record {
       fits = λ i h u.
           let r = word-rank i u in
-          let k = rank-hits ps whole ok tags bases total laid (r .0) (r .1) in
+          let k = rank-hits m (r .0) (r .1) in
           (k .0, k .1, rw (r .2) at (k .2));
       once = λ i j l h u e. let x = s .once i j u (ap ownerOf e) (ap pageOf e) in omega arith;
     }
@@ -169,23 +165,19 @@ module _ (ps : Procs) (whole : Whole ps) (ok : (n : ℕ) → valid n ≡ true �
     pub full-of : Full
     full-of t h z =
         let w : ℕ = nth tags bases t in
-        let g = rank-good ps whole ok tags bases total laid t h in
+        let g = rank-good m t h in
         let v = valid-test (ownerOf w) (g .owner .0) (g .owner .1) in
-        let e : bookPerm b (ownerOf w) (pageOf w) ≡ some (permOf w) = s .exact (ownerOf w) (pageOf w) v (omega arith) ∙ rank-gives ps whole ok tags bases total laid t h in
-        go (frameOf b (ownerOf w) (pageOf w)) refl e
-      where
-        go : (f : Option ℕ) → frameOf b (ownerOf (nth tags bases t)) (pageOf (nth tags bases t)) ≡ f → bookPerm b (ownerOf (nth tags bases t)) (pageOf (nth tags bases t)) ≡ some (permOf (nth tags bases t)) → ⊥
-        go none f e = some-none (permIn b none) (permOf (nth tags bases t)) (sym (ap (permIn b) f) ∙ e) refl
-        go (some k) f e =
-            let m = frame-means b (ownerOf (nth tags bases t)) (pageOf (nth tags bases t)) k f in
-            let q : some (permOf (getD b k 0)) ≡ some (permOf (nth tags bases t)) = sym (ap (permIn b) f) ∙ e in
-            let r : permOf (getD b k 0) ≡ permOf (nth tags bases t) = cc in
-            with-missing b (nth tags bases t) (length b) k (m .0) (omega (arith, m .2, m .3, r)) z
+        let e : bookPerm b (ownerOf w) (pageOf w) ≡ some (permOf w) = s .exact (ownerOf w) (pageOf w) v (omega arith) ∙ rank-gives m t h in
+        let k = frame-perm b (ownerOf w) (pageOf w) (permOf w) e in
+        let f = frame-found b (ownerOf w) (pageOf w) (k .0) (k .1) in
+        let q : some (permOf (getD b (k .0) 0)) ≡ some (permOf w) = sym (ap (permIn b) (k .1)) ∙ e in
+        let r : permOf (getD b (k .0) 0) ≡ permOf w = cc in
+        with-missing b w (length b) (k .0) (f .0) (omega (arith, f .1 .owner, f .1 .page, r)) z
 
     matched-of : Matched b (nth tags bases) (getD bases 272 0)
     matched-of = record {
-      apart = nth-apart ps whole ok tags bases total laid;
-      some = λ t h z. omega (arith, ap ownerOf z, rank-good ps whole ok tags bases total laid t h .owner .0);
+      apart = nth-apart m;
+      some = λ t h z. omega (arith, ap ownerOf z, rank-good m t h .owner .0);
       full = full-of;
       fits = word-rank;
       once = λ i j u e. s .once i j u (ap ownerOf e) (ap pageOf e);
@@ -193,7 +185,7 @@ module _ (ps : Procs) (whole : Whole ps) (ok : (n : ℕ) → valid n ≡ true �
 
     -- there are no more pages than frames
     pub total-of : total ≤ length b
-    total-of = omega (arith, free-matched b (nth tags bases) (getD bases 272 0) matched-of, base-total ps whole ok tags bases total laid)
+    total-of = omega (arith, free-matched b (nth tags bases) (getD bases 272 0) matched-of, base-total m)
 
 -- ---- the last test, of all ranks
 
@@ -204,18 +196,21 @@ module _ (b tags bases table : List ℕ) (tab : Tabled b tags bases table (lengt
   full-test : ((t : ℕ) → t < getD bases 272 0 → frameWith b (length b) (nth tags bases t) ≡ none → ⊥) → allBelow (getD bases 272 0) (marked table) ≡ true
   full-test f = below-test (getD bases 272 0) (marked table) (λ t h. ap not (ne-eqb (getD table t 0) 0 (λ z. f t h (entry-none (frameWith b (length b) (nth tags bases t)) (sym (tab t h) ∙ z)))))
 
-pub ok-each : (ps : Procs) → Whole ps → all passes (ps .all) ≡ true → (n : ℕ) → valid n ≡ true → passes (procAt ps n) ≡ true
-ok-each ps w e n v = all-at passes zeroProc (ps .all) e (n - 1) (omega (arith, w .records, valid-means n v .0, valid-means n v .1))
+pub made : (ps : Procs) → Whole ps → all passes (ps .all) ≡ true → (tags bases : List ℕ) (total : ℕ) → LaidAll ps tags bases total → Made ps tags bases total
+made ps w e tags bases total laid = record {
+  whole = w;
+  ok = λ n v. all-at passes zeroProc (ps .all) e (n - 1) (omega (arith, w .records, valid-means n v .0, valid-means n v .1));
+  laid = laid;
+}
 
 -- what it answers decides
-pub decided : (ps : Procs) → Whole ps → all passes (ps .all) ≡ true → (tags bases : List ℕ) (total : ℕ) → LaidAll ps tags bases total → total ≤ 1024
+pub decided : (ps : Procs) (tags bases : List ℕ) (total : ℕ) → Made ps tags bases total → total ≤ 1024
     → (b table : List ℕ) → Planned b tags bases (length b) → Tabled b tags bases table (length b) → (r : Bool) → r ≡ allBelow total (marked table)
     → (r ≡ true → Sound b ps) × (Sound b ps → r ≡ true)
-decided ps w e tags bases total laid most b table planned tab r q =
-    let ok = ok-each ps w e in
-    let d : total ≡ getD bases 272 0 = sym (base-total ps w ok tags bases total laid) in (
-      λ x. tells ps w ok tags bases total laid b most planned (full-fact b tags bases table tab (ap (λ (n : ℕ). allBelow n (marked table)) (sym d) ∙ sym q ∙ x)),
-      λ s. q ∙ ap (λ (n : ℕ). allBelow n (marked table)) d ∙ full-test b tags bases table tab (full-of ps w ok tags bases total laid b s),
+decided ps tags bases total m most b table planned tab r q =
+    let d : total ≡ getD bases 272 0 = sym (base-total m) in (
+      λ x. tells m b most planned (full-fact b tags bases table tab (ap (λ (n : ℕ). allBelow n (marked table)) (sym d) ∙ sym q ∙ x)),
+      λ s. q ∙ ap (λ (n : ℕ). allBelow n (marked table)) d ∙ full-test b tags bases table tab (full-of m b s),
     )
 
 same-answer : (a b : Bool) → (a ≡ true → b ≡ true) → (b ≡ true → a ≡ true) → a ≡ b

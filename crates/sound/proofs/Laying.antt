@@ -14,12 +14,12 @@ use Rattle.spec.specs.declared.UserSegment.{UserSegment}
 use Rattle.spec.specs.declared.Proc.{Proc}
 use Rattle.spec.specs.declared.Procs.{Procs}
 use Rattle.spec.proofs.Bools.{split}
-use Rattle.sound.specs.Plan.{part, tag, size, sumTo, partAt, tagAt, baseAt, Small, Laid, LaidTo, LaidAll}
+use Rattle.sound.specs.Plan.{seat, part, maxPages, tag, size, sumTo, partAt, tagAt, baseAt, Small, Laid, LaidTo, LaidAll}
 use Rattle.sound.proofs.Ranks.{sum-none, sum-more}
 
 -- ---- the parts of a record
 
-pub part-segment : (p : Proc) (j : ℕ) → j < 16 → getD (p .segments) j zeroSegment ≡ part p j
+pub part-segment : (p : Proc) (j : ℕ) → j < 16 → seat (getD (p .segments) j zeroSegment) ≡ part p j
 unfolding part
 part-segment p j h = rw (lt-ltb j 16 h) refl
 
@@ -35,7 +35,7 @@ pagesTo p j = sumTo (λ i. size (part p i)) j
 set-before : (l : List ℕ) (m x k : ℕ) → k < m → getD (set l m x) k 0 ≡ getD l k 0
 set-before l m x k h = getD-set-other l m k x 0 (λ e. omega arith)
 
-pub laid-none : (p : Proc) (n total : ℕ) (tags bases : List ℕ) → total ≤ 17 * n * 34359738368 → length tags ≡ 272 → length bases ≡ 273
+pub laid-none : (p : Proc) (n total : ℕ) (tags bases : List ℕ) → total ≤ 17 * n * maxPages → length tags ≡ 272 → length bases ≡ 273
     → Laid p n total tags bases tags bases total 0
 laid-none p n total tags bases h a b = record {
   tag-is = λ i l. absurd (omega arith);

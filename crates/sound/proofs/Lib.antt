@@ -1,5 +1,4 @@
 -- Laws of the check, from a walk over a list to the book being sound.
-pub mod Frames
 pub mod Walk
 pub mod Whole
 pub mod Ranks
@@ -7,6 +6,7 @@ pub mod Pass
 pub mod Laying
 pub mod Parts
 pub mod Passing
+pub mod Seats
 pub mod Planning
 pub mod Counting
 pub mod Decides

@@ -7,21 +7,18 @@ use mathlib.Core.Option.{Option, none, some}
 use mathlib.Core.List.{List}
 use lib.ListN.{length, getD, replicate}
 use borrow.Author.Tests.{ne-eqb}
-use Rattle.spec.specs.Tests.{all}
 use Rattle.spec.specs.Book.{ownerOf, pageOf, frameOf, free}
 use Rattle.spec.specs.Sound.{Sound}
 use Rattle.spec.specs.declared.Found.{Found}
 use Rattle.spec.specs.declared.Found.the-variants.{At, Nothing}
 use Rattle.spec.specs.declared.Procs.{Procs}
-use Rattle.laws.proofs.Record.{Whole}
+use Rattle.laws.proofs.Frame.{frame-found, once-means, frame-is}
 use Rattle.laws.proofs.Owned.{in-range}
-use Rattle.sound.proofs.Frames.{frame-is, frame-means}
-use Rattle.sound.specs.Records.{passes}
-use Rattle.sound.specs.Plan.{owner, hits, nth, rank, Plan, LaidAll}
+use Rattle.sound.specs.Plan.{owner, hits, nth, rank, Plan}
 use Rattle.sound.specs.Table.{frameWith, entry, answerOf, foundOf, Planned, Tabled, Ready}
-use Rattle.sound.proofs.Pass.{with-found, entry-some, hit-fact, rank-below, rank-word, hit-owner}
-use Rattle.sound.proofs.Planning.{plan}
-use Rattle.sound.proofs.Decides.{option-some, Matched, free-matched, ok-each, full-of}
+use Rattle.sound.proofs.Pass.{with-found, hit-fact, rank-below, rank-word, hit-owner}
+use Rattle.sound.proofs.Planning.{Made, plan}
+use Rattle.sound.proofs.Decides.{option-some, Matched, free-matched, full-of}
 
 -- an empty table
 pub blank-zeros : (n t : ℕ) → getD {A = ℕ} (replicate n 0) t 0 ≡ 0
@@ -30,15 +27,9 @@ blank-zeros (suc n) zero = refl
 blank-zeros (suc n) (suc t) = blank-zeros n t
 
 -- what the pass leaves of a sound book
-pub ready : (ps : Procs) → Whole ps → all passes (ps .all) ≡ true → (tags bases : List ℕ) (total : ℕ) → LaidAll ps tags bases total → total ≤ 1024
+pub ready : (ps : Procs) (tags bases : List ℕ) (total : ℕ) → Made ps tags bases total → total ≤ 1024
     → (b table : List ℕ) → Planned b tags bases (length b) → Tabled b tags bases table (length b) → Sound b ps → Ready b tags bases table
-ready ps w e tags bases total laid most b table planned tab s = record {
-  plan = plan ps w (ok-each ps w e) tags bases total laid most;
-  planned = planned;
-  once = s .once;
-  tabled = tab;
-  full = full-of ps w (ok-each ps w e) tags bases total laid b s;
-}
+ready ps tags bases total m most b table planned tab s = record { plan = plan m most; planned = planned; once = s .once; tabled = tab; full = full-of m b s }
 
 -- a frame's entry answers the frame
 pub answer-entry : (o : Option ℕ) → answerOf (entry o) ≡ foundOf o
@@ -59,17 +50,17 @@ module _ (b tags bases table : List ℕ) (r : Ready b tags bases table) where
       let is : getD b (o .0) 0 ≡ w = i .1 ∙ rank-word tags bases (r .plan) w k hk e in
       let own = hit-owner tags bases (r .plan) w k hk e in
       r .tabled (rank tags bases w k) below
-      ∙ ap entry (o .1 ∙ sym (frame-is b (r .once) (o .0) (ownerOf w) (pageOf w) (λ z. omega (arith, is, z, own)) (ap ownerOf is) (ap pageOf is)))
+      ∙ ap entry (o .1 ∙ sym (frame-is b (ownerOf w) (pageOf w) (o .0) (once-means b (r .once)) (record { used = λ z. omega (arith, is, z, own); owner = ap ownerOf is; page = ap pageOf is })))
 
   -- a page that has a frame is of one of its owner's parts
   pub frame-hits : (n page i : ℕ) → frameOf b n page ≡ some i → (k : ℕ) × (k < 272) × (owner k ≡ n) × (page % 4096 ≡ 0) × (hits tags bases (page + 16 * n + getD tags k 0 % 16) k ≡ true)
   frame-hits n page i e =
-      let m = frame-means b n page i e in
-      let k = r .planned .fits i (m .0) (m .1) in
+      let m = frame-found b n page i e in
+      let k = r .planned .fits i (m .0) (m .1 .used) in
       let own = hit-owner tags bases (r .plan) (getD b i 0) (k .0) (k .1) (k .2) in
       let f = hit-fact tags bases (getD b i 0) (k .0) (k .2) in
-      let w : getD b i 0 ≡ page + 16 * n + getD tags (k .0) 0 % 16 = omega (arith, m .2, m .3, f .from, f .whole) in
-      (k .0, k .1, omega (arith, own, m .2), omega (arith, m .3), rw w at (k .2))
+      let w : getD b i 0 ≡ page + 16 * n + getD tags (k .0) 0 % 16 = omega (arith, m .1 .owner, m .1 .page, f .from, f .whole) in
+      (k .0, k .1, omega (arith, own, m .1 .owner), omega (arith, m .1 .page), rw w at (k .2))
 
   -- frames are free that are no rank's
   pub free-frames : free b + getD bases 272 0 ≡ length b

@@ -7,29 +7,26 @@ use mathlib.Core.Path.{_≡_, refl, sym, ap, _∙_}
 use mathlib.Core.Bool.{Bool, true, false}
 use mathlib.Core.Option.{Option, none, some}
 use mathlib.Core.List.{List, [], _∷_, _++_, append-assoc}
-use lib.Dec.{ltb}
 use lib.ListN.{length, getD, replicate, length-append, List·getD-append}
 use lib.Seq.{getD-at}
-use borrow.Author.Tests.{ltb-true, ltb-false}
-use Rattle.spec.specs.Numbers.{utzero, uaddrtop}
-use Rattle.spec.specs.Book.{zeroSegment, zeroProc, lives, stack, bssSegment, inSegment, permAt, piecesOf}
+use borrow.Author.Tests.{ne-eqb}
+use Rattle.spec.specs.Tests.{_is_}
+use Rattle.spec.specs.Numbers.{utzero, uaddrtop, ustktop}
+use Rattle.spec.specs.Book.{segment, zeroSegment, zeroProc, lives, stack, bssSegment, inSegment, permAt, piecesOf}
 use Rattle.spec.specs.Sound.{ImageSegment, Shape}
 use Rattle.spec.specs.declared.UserSegment.{UserSegment}
 use Rattle.spec.specs.declared.Proc.{Proc}
-use Rattle.spec.proofs.Bools.{split, clash}
+use Rattle.spec.proofs.Bools.{split, clash, within-means}
+use Rattle.laws.proofs.Lists.{by-order, Each, each-append}
 use Rattle.laws.proofs.Record.{WholeProc, dead-zero}
 use Rattle.laws.proofs.Shape.{Image, imageEnd, Bss, shape-image, shape-bss}
-use Rattle.laws.proofs.Pieces.{Apart, outside-high, perm-here, perm-there, perm-tail, image-apart, stack-bss-apart, stack-bss-low, shape-pieces}
+use Rattle.laws.proofs.Pieces.{Apart, outside-low, outside-high, perm-here, perm-there, perm-tail, image-apart, stack-bss-apart, stack-bss-low, shape-pieces}
 use Rattle.laws.proofs.Exact.{some-none}
 use Rattle.laws.proofs.Facts.{Shaped}
-use Rattle.sound.specs.Plan.{part}
+use Rattle.sound.specs.Plan.{seat, part}
 use Rattle.sound.proofs.Laying.{part-segment, part-bss}
 
 -- ---- what holds of each segment of a list
-
-abbrev pub Each : (UserSegment → Type 0) → List UserSegment → Type 0
-Each P [] = Unit {0}
-Each P (g ∷ gs) = P g × Each P gs
 
 pub each-at : (P : UserSegment → Type 0) (gs : List UserSegment) → Each P gs → (j : ℕ) → j < length gs → P (getD gs j zeroSegment)
 each-at P [] e j h = absurd (not-suc-le-zero h)
@@ -39,10 +36,6 @@ each-at P (g ∷ gs) e (suc j) h = each-at P gs (e .1) j (le-of-suc-le-suc h)
 pub each-made : (P : UserSegment → Type 0) (gs : List UserSegment) → ((j : ℕ) → j < length gs → P (getD gs j zeroSegment)) → Each P gs
 each-made P [] f = tt
 each-made P (g ∷ gs) f = (f 0 (omega arith), each-made P gs (λ j h. f (suc j) (omega arith)))
-
-pub each-app : (P : UserSegment → Type 0) (gs hs : List UserSegment) → Each P gs → Each P hs → Each P (gs ++ hs)
-each-app P [] hs e f = f
-each-app P (g ∷ gs) hs e f = (e .0, each-app P gs hs (e .1) f)
 
 pub each-same : (P : UserSegment → Type 0) (g : UserSegment) → P g → (k : ℕ) → Each P (replicate k g)
 each-same P g e zero = tt
@@ -94,6 +87,11 @@ pub record Part (g : UserSegment) : Type 0 where
   pub end-page : g .range .end % 4096 ≡ 0
   pub low : g .range .start < g .range .end → utzero ≤ g .range .start
 
+-- a segment that has pages has a permission, and none has a larger number
+pub record Perm (g : UserSegment) : Type 0 where
+  pub high : g .perm ≤ 3
+  pub low : g .range .start < g .range .end → 1 ≤ g .perm
+
 zero-part : Part zeroSegment
 zero-part = record { ordered = omega arith; high = omega arith; start-page = refl; end-page = refl; low = λ h. absurd (omega arith) }
 
@@ -111,16 +109,22 @@ parts p = p .segments ++ bssSegment (p .bss) ∷ []
 pub parts-long : (p : Proc) → length (p .segments) ≡ 16 → length (parts p) ≡ 17
 parts-long p w = length-append (p .segments) (bssSegment (p .bss) ∷ []) ∙ ap (λ (k : ℕ). k + 1) w
 
-pub part-is : (p : Proc) → length (p .segments) ≡ 16 → (j : ℕ) → j < 17 → part p j ≡ getD (parts p) j zeroSegment
+pub part-is : (p : Proc) → length (p .segments) ≡ 16 → (j : ℕ) → j < 17 → part p j ≡ seat (getD (parts p) j zeroSegment)
 part-is p w j h =
-    split (ltb j 16)
-    (λ q. let l = ltb-true j 16 q in sym (part-segment p j l) ∙ sym (List·getD-append (p .segments) (bssSegment (p .bss) ∷ []) zeroSegment j (omega arith)))
-    (λ q. let l = ltb-false j 16 q in
-    let e : j ≡ 16 = omega arith in
-    rw e (sym (part-bss p) ∙ sym (getD-at (p .segments) (bssSegment (p .bss)) [] zeroSegment 16 w)))
+    by-order j 16
+    (λ l. sym (part-segment p j l) ∙ ap seat (sym (List·getD-append (p .segments) (bssSegment (p .bss) ∷ []) zeroSegment j (omega arith))))
+    (λ l. let e : j ≡ 16 = omega arith in
+    rw e (sym (part-bss p) ∙ ap seat (sym (getD-at (p .segments) (bssSegment (p .bss)) [] zeroSegment 16 w))))
 
-pub each-part : (P : UserSegment → Type 0) (p : Proc) → length (p .segments) ≡ 16 → Each P (parts p) → (j : ℕ) → j < 17 → P (part p j)
-each-part P p w e j h = rw (part-is p w j h) (each-at P (parts p) e j (rw (parts-long p w) h))
+-- an empty part at the top
+abbrev pub top : UserSegment
+top = segment ustktop ustktop 0
+
+seat-each : (P : UserSegment → Type 0) → P top → (g : UserSegment) → P g → P (seat g)
+seat-each P t g e = split (g .perm is 0) (λ q. rw q t) (λ q. rw q e)
+
+pub each-part : (P : UserSegment → Type 0) → P top → (p : Proc) → length (p .segments) ≡ 16 → Each P (parts p) → (j : ℕ) → j < 17 → P (part p j)
+each-part P t p w e j h = rw (part-is p w j h) (seat-each P t (getD (parts p) j zeroSegment) (each-at P (parts p) e j (rw (parts-long p w) h)))
 
 pub record Parts (p : Proc) : Type 0 where
   pub each : Each Part (parts p)
@@ -130,7 +134,7 @@ pub record Parts (p : Proc) : Type 0 where
 -- of a dead process's record
 dead-parts : Parts zeroProc
 dead-parts = record {
-  each = each-app Part (replicate 16 zeroSegment) (bssSegment (zeroProc .bss) ∷ []) (each-same Part zeroSegment zero-part 16)
+  each = each-append Part (replicate 16 zeroSegment) (bssSegment (zeroProc .bss) ∷ []) (each-same Part zeroSegment zero-part 16)
       (record { ordered = omega arith; high = omega arith; start-page = refl; end-page = refl; low = λ h. absurd (omega arith) }, tt);
   apart = apart-zeros 16 (bssSegment (zeroProc .bss) ∷ []) (λ a i. refl, tt);
   same = λ a. perm-zeros 16 (bssSegment (zeroProc .bss) ∷ []) a;
@@ -161,8 +165,8 @@ module _ (p : Proc) (image : List UserSegment) (h : Shape p image) where
 
   living-parts : Parts p
   living-parts = record {
-    each = rw are (each-app Part image (stack ∷ (replicate zeros zeroSegment ++ last)) (image-parts utzero image (shape-image p image h))
-        (stack-part, each-app Part (replicate zeros zeroSegment) last (each-same Part zeroSegment zero-part zeros) (bss-part, tt)));
+    each = rw are (each-append Part image (stack ∷ (replicate zeros zeroSegment ++ last)) (image-parts utzero image (shape-image p image h))
+        (stack-part, each-append Part (replicate zeros zeroSegment) last (each-same Part zeroSegment zero-part zeros) (bss-part, tt)));
     apart = rw are (image-apart utzero image (stack ∷ (replicate zeros zeroSegment ++ last)) (shape-image p image h)
         (λ a i. perm-zeros zeros last a ∙ stack-bss-apart (imageEnd utzero image) (p .bss) bss .0 a i, apart-zeros zeros last (λ a i. refl, tt))
         (λ a l. after a ∙ stack-bss-low (imageEnd utzero image) (p .bss) bss a l));
@@ -176,22 +180,49 @@ parts-of p w shape =
     (λ l. let s = shape l in living-parts p (s .0) (s .1))
     (λ l. rw (dead-zero p w l) dead-parts)
 
--- ---- an address in a part
+-- ---- an address in a place, and in a part
 
-module _ (p : Proc) (w : WholeProc p) (f : Parts p) where
+pub place-gives : (p : Proc) → WholeProc p → Parts p → (j a : ℕ) → j < 16 → inSegment a (getD (p .segments) j zeroSegment) ≡ true → permAt (piecesOf p) a ≡ some (getD (p .segments) j zeroSegment .perm)
+place-gives p w f j a h i =
+    let e : getD (parts p) j zeroSegment ≡ getD (p .segments) j zeroSegment = List·getD-append (p .segments) (bssSegment (p .bss) ∷ []) zeroSegment j (omega (arith, w .segments)) in
+    sym (f .same a) ∙ at-perm (parts p) (f .apart) j a (omega (arith, parts-long p (w .segments))) (rw e i) ∙ ap (λ (g : UserSegment). some (g .perm)) e
+
+-- a part that holds an address is the place itself
+holds-seat : (g : UserSegment) (a : ℕ) → inSegment a (seat g) ≡ true → seat g ≡ g
+holds-seat g a i =
+    split (g .perm is 0)
+    (λ q. clash (inSegment a top) (rw q at i) (top-holds a))
+    (λ q. rw q refl)
+  where
+    top-holds : (a : ℕ) → inSegment a top ≡ false
+    top-holds a = by-order a ustktop (outside-low top a) (outside-high top a)
+
+seat-holds : (g : UserSegment) (a : ℕ) → Perm g → inSegment a g ≡ true → seat g ≡ g
+seat-holds g a p i =
+    let h = within-means (g .range .start) (g .range .end) a i in
+    let l = p .low (omega (arith, h .0, h .1)) in
+    rw (ne-eqb (g .perm) 0 (λ z. omega arith)) refl
+
+module _ (p : Proc) (w : WholeProc p) (f : Parts p) (perms : Each Perm (parts p)) where
+  long : (j : ℕ) → j < 17 → j < length (parts p)
+  long j h = rw (parts-long p (w .segments)) h
+
+  -- the place, where its part holds an address
+  holds : (j a : ℕ) → j < 17 → inSegment a (part p j) ≡ true → part p j ≡ getD (parts p) j zeroSegment
+  holds j a h i = let e = part-is p (w .segments) j h in e ∙ holds-seat (getD (parts p) j zeroSegment) a (rw e at i)
+
   pub part-gives : (j a : ℕ) → j < 17 → inSegment a (part p j) ≡ true → permAt (piecesOf p) a ≡ some (part p j .perm)
   part-gives j a h i =
-      let e = part-is p (w .segments) j h in
-      sym (f .same a) ∙ at-perm (parts p) (f .apart) j a (rw (parts-long p (w .segments)) h) (rw e at i) ∙ ap (λ (g : UserSegment). some (g .perm)) (sym e)
+      let e = holds j a h i in
+      sym (f .same a) ∙ at-perm (parts p) (f .apart) j a (long j h) (rw e at i) ∙ ap (λ (g : UserSegment). some (g .perm)) (sym e)
 
   pub gives-part : (a q : ℕ) → permAt (piecesOf p) a ≡ some q → (j : ℕ) × (j < 17) × (inSegment a (part p j) ≡ true) × (part p j .perm ≡ q)
   gives-part a q e =
       let r = perm-at (parts p) a q (f .same a ∙ e) in
       let h : r .0 < 17 = rw (parts-long p (w .segments)) at (r .1) in
-      let s = part-is p (w .segments) (r .0) h in
+      let s = part-is p (w .segments) (r .0) h ∙ seat-holds (getD (parts p) (r .0) zeroSegment) a (each-at Perm (parts p) perms (r .0) (r .1)) (r .2) in
       (r .0, h, rw s (r .2), rw s (r .3))
 
   pub part-one : (j k a : ℕ) → j < 17 → k < 17 → inSegment a (part p j) ≡ true → inSegment a (part p k) ≡ true → j ≡ k
   part-one j k a h l x y =
-      at-one (parts p) (f .apart) j k a (rw (parts-long p (w .segments)) h) (rw (parts-long p (w .segments)) l)
-      (rw (part-is p (w .segments) j h) at x) (rw (part-is p (w .segments) k l) at y)
+      at-one (parts p) (f .apart) j k a (long j h) (long k l) (rw (holds j a h x) at x) (rw (holds k a l y) at y)

@@ -15,22 +15,24 @@ use Rattle.spec.specs.declared.VirtRange.{VirtRange}
 use Rattle.spec.specs.declared.UserSegment.{UserSegment}
 use Rattle.spec.specs.declared.Proc.{Proc}
 use Rattle.spec.proofs.Bools.{split, clash, both, and-test, not-true, or-fact, or-test, not-false, not-below}
+use Rattle.laws.proofs.Lists.{Each, each-append}
 use Rattle.laws.proofs.Record.{WholeProc, same-is, all-are, dead-zero}
 use Rattle.laws.proofs.Shape.{segments-shape, shape-segments}
 use Rattle.laws.proofs.Facts.{Shaped}
 use Rattle.sound.specs.Records.{imageOk, imageTest, shaped, passes}
 use Rattle.sound.specs.Plan.{part, Small, SmallParts}
-use Rattle.sound.proofs.Parts.{Each, each-app, each-same, each-part, Part, parts, Parts, parts-of}
+use Rattle.sound.proofs.Parts.{each-same, each-part, top, Part, Perm, parts, Parts, parts-of}
 use Rattle.sound.proofs.Laying.{part-segment, part-bss}
-
--- a segment that has pages has a permission, and none has a larger number
-pub record Perm (g : UserSegment) : Type 0 where
-  pub high : g .perm ≤ 3
-  pub low : g .range .start < g .range .end → 1 ≤ g .perm
 
 -- what soundness says of it
 abbrev pub Mapped : UserSegment → Type 0
 Mapped g = g .range .start < g .range .end → (1 ≤ g .perm) × (g .perm ≤ 3)
+
+pub top-part : Part top
+top-part = record { ordered = omega arith; high = omega arith; start-page = refl; end-page = refl; low = λ h. absurd (omega arith) }
+
+pub top-perm : Perm top
+top-perm = record { high = omega arith; low = λ h. absurd (omega arith) }
 
 zero-perm : Perm zeroSegment
 zero-perm = record { high = omega arith; low = λ h. absurd (omega arith) }
@@ -38,7 +40,7 @@ zero-perm = record { high = omega arith; low = λ h. absurd (omega arith) }
 unused-perms : (gs : List UserSegment) → all unused gs ≡ true → Each Perm gs
 unused-perms gs e = rw (all-are unused zeroSegment (λ g. same-is g zeroSegment) gs e) (each-same Perm zeroSegment zero-perm (length gs))
 
-perm-means : (low : ℕ) (g : UserSegment) → imageTest low g ≡ true → (imageOk low g ≡ true) × Perm g
+pub perm-means : (low : ℕ) (g : UserSegment) → imageTest low g ≡ true → (imageOk low g ≡ true) × Perm g
 perm-means low g e =
     let p = both (imageOk low g && not (g .perm below 1)) (not (g .perm above 3)) e in
     let q = both (imageOk low g) (not (g .perm below 1)) (p .0) in
@@ -94,7 +96,7 @@ shape-pass p shape mapped =
 
 pub pass-perms : (p : Proc) → WholeProc p → passes p ≡ true → Each Perm (parts p)
 pass-perms p w e =
-    each-app Perm (p .segments) (bssSegment (p .bss) ∷ [])
+    each-append Perm (p .segments) (bssSegment (p .bss) ∷ [])
     (split (shaped utzero (p .bss) (p .segments))
     (λ q. shaped-means utzero (p .bss) (p .segments) q .1)
     (λ q. rw (dead-zero p w (not-true (lives p) (or-fact (shaped utzero (p .bss) (p .segments)) (not (lives p)) e q))) (each-same Perm zeroSegment zero-perm 16)))
@@ -109,6 +111,6 @@ small-parts p w e = record { segments = λ j h. rw (part-segment p j h) (small j
   where
     small : (j : ℕ) → j < 17 → Small (part p j)
     small j h =
-        let x = each-part Part p (w .segments) (pass-parts p w e .each) j h in
-        let y = each-part Perm p (w .segments) (pass-perms p w e) j h in
+        let x = each-part Part top-part p (w .segments) (pass-parts p w e .each) j h in
+        let y = each-part Perm top-perm p (w .segments) (pass-perms p w e) j h in
         record { ordered = x .ordered; high = x .high; perm-high = y .high }

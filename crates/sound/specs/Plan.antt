@@ -9,17 +9,21 @@ use mathlib.Core.List.{List}
 use lib.ListN.{length, getD}
 use lib.Dec.{leb}
 use Rattle.spec.specs.Tests.{_is_, _below_, _⇒_else_}
-use Rattle.spec.specs.Numbers.{uaddrtop}
-use Rattle.spec.specs.Book.{wordOf, ownerOf, zeroSegment, bssSegment, procAt}
+use Rattle.spec.specs.Numbers.{uaddrtop, ustktop}
+use Rattle.spec.specs.Book.{wordOf, ownerOf, segment, zeroSegment, bssSegment, procAt}
 use Rattle.spec.specs.declared.UserSegment.{UserSegment}
 use Rattle.spec.specs.declared.Proc.{Proc}
 use Rattle.spec.specs.declared.Procs.{Procs}
 
 -- ---- parts
 
+-- a place of a record as a part: an unused one is an empty part at the top, so that an owner's segments ascend
+abbrev pub seat : UserSegment → UserSegment
+seat g = g .perm is 0 ⇒ segment ustktop ustktop 0 else g
+
 -- the parts of a record: sixteen segments and the bss
 unfoldable pub part : Proc → ℕ → UserSegment
-part p j = j below 16 ⇒ getD (p .segments) j zeroSegment else bssSegment (p .bss)
+part p j = j below 16 ⇒ seat (getD (p .segments) j zeroSegment) else bssSegment (p .bss)
 
 -- the word of a part's first page, and how many pages it has
 abbrev pub tag : ℕ → UserSegment → ℕ
@@ -48,6 +52,10 @@ baseAt ps k = sumTo (λ i. size (partAt ps i)) k
 
 -- ---- laying the plan
 
+-- more pages than these no part has
+abbrev pub maxPages : ℕ
+maxPages = uaddrtop / 4096
+
 -- a part whose tag and base don't wrap
 pub record Small (g : UserSegment) : Type 0 where
   pub ordered : g .range .start ≤ g .range .end
@@ -56,7 +64,7 @@ pub record Small (g : UserSegment) : Type 0 where
 
 -- the parts of a record, all of them small
 pub record SmallParts (p : Proc) : Type 0 where
-  pub segments : (j : ℕ) → j < 16 → Small (getD (p .segments) j zeroSegment)
+  pub segments : (j : ℕ) → j < 16 → Small (seat (getD (p .segments) j zeroSegment))
   pub bss : Small (bssSegment (p .bss))
 
 -- the first j parts of process n + 1 are laid, from the pages of the processes before it up to t pages
@@ -66,7 +74,7 @@ pub record Laid (p : Proc) (n total : ℕ) (tags₀ bases₀ tags bases : List �
   pub tags-before : (k : ℕ) → k < 17 * n → getD tags k 0 ≡ getD tags₀ k 0
   pub bases-before : (k : ℕ) → k < 17 * n → getD bases k 0 ≡ getD bases₀ k 0
   pub sum : t ≡ total + sumTo (λ i. size (part p i)) j
-  pub bound : t ≤ (17 * n + j) * 34359738368
+  pub bound : t ≤ (17 * n + j) * maxPages
   pub tags-long : length tags ≡ 272
   pub bases-long : length bases ≡ 273
 
@@ -75,7 +83,7 @@ pub record LaidTo (ps : Procs) (n : ℕ) (tags bases : List ℕ) (t : ℕ) : Typ
   pub tag-is : (k : ℕ) → k < 17 * n → getD tags k 0 ≡ tagAt ps k
   pub base-is : (k : ℕ) → k < 17 * n → getD bases k 0 ≡ baseAt ps k
   pub sum : t ≡ baseAt ps (17 * n)
-  pub bound : t ≤ 17 * n * 34359738368
+  pub bound : t ≤ 17 * n * maxPages
   pub tags-long : length tags ≡ 272
   pub bases-long : length bases ≡ 273
 
@@ -115,10 +123,31 @@ pub record PartOf (tags bases : List ℕ) (w r : ℕ) : Type 0 where
   pub found : r < 272 → hits tags bases w r ≡ true
   pub none : r ≡ 272 → (k : ℕ) → k < 272 → owner k ≡ ownerOf w → hits tags bases w k ≡ false
 
+-- the later of two places, k + step and k, whose tag is at most w
+abbrev pub later : List ℕ → ℕ → ℕ → ℕ → ℕ
+later tags k step w = leb (getD tags (k + step) 0) w ⇒ k + step else k
+
+-- tags don't fall over the sixteen places from `first` on
+abbrev pub Ascending : List ℕ → ℕ → Type 0
+Ascending tags first = (i j : ℕ) → first ≤ i → i ≤ j → j < first + 16 → getD tags i 0 ≤ getD tags j 0
+
+-- of these the last whose tag is at most w, if there is one, is among the n places from k on, and all after them are above w
+pub record Span (tags : List ℕ) (first w k n : ℕ) : Type 0 where
+  pub low : first ≤ k
+  pub high : k + n ≤ first + 16
+  pub at : first < k → getD tags k 0 ≤ w
+  pub past : (l : ℕ) → k + n ≤ l → l < first + 16 → w < getD tags l 0
+
+-- part k lies before part l: its tag isn't above that of l, and its words are below it
+pub record Before (tags bases : List ℕ) (k l : ℕ) : Type 0 where
+  pub tag-up : getD tags k 0 ≤ getD tags l 0
+  pub end-up : getD tags k 0 + 4096 * (getD bases (k + 1) 0 - getD bases k 0) ≤ getD tags l 0 + 3
+
 -- a plan of at most 1,024 pages: each part is of its owner, and each rank has a word of its own
 pub record Plan (tags bases : List ℕ) : Type 0 where
   pub rising : Rising bases
   pub most : getD bases 272 0 ≤ 1024
   pub owner-is : (k : ℕ) → k < 272 → ownerOf (getD tags k 0) ≡ owner k
+  pub ascends : (k l : ℕ) → owner k ≡ owner l → k < l → l < 272 → l % 17 < 16 → Before tags bases k l
   pub apart : (t u : ℕ) → t < getD bases 272 0 → u < getD bases 272 0 → nth tags bases t ≡ nth tags bases u → t ≡ u
   pub some : (t : ℕ) → t < getD bases 272 0 → nth tags bases t ≡ 0 → ⊥

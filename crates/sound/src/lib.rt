@@ -5,20 +5,22 @@ ghost use mathlib.Core.Path.{_≡_};
 ghost use mathlib.Core.Bool.{true, false};
 ghost use mathlib.Core.List.{List};
 ghost use Prim.Native.Nat.{ℕ, _+_, _<_, _≤_};
-ghost use lib.ListN.{length};
+ghost use lib.ListN.{length, getD};
 ghost use Rattle.spec.specs.Tests.{allBelow};
-ghost use Rattle.spec.specs.Book.{frameOf};
+ghost use Rattle.spec.specs.Book.{frameOf, free};
 ghost use Rattle.spec.specs.Sound.{soundBook};
 ghost use Rattle.sound.specs.Plan.{Plan};
 ghost use Rattle.sound.specs.Table.{Marked, Blank, marked, Ready, answerOf, foundOf};
 
-pub mod plan;
-pub mod record;
+mod plan;
+mod record;
 
+pub use record::lives;
 use spec::Found;
 use spec::Procs;
 
-// The pass: enters each word's frame at its page's rank in the table. No if a word is of no part's page, or a page has a frame already.
+// The pass: enters each word's frame at its page's rank in the table. The answer is no where a word is of no part's page, or its page
+// has a frame already.
 fn mark(book: &[u64], tags: &[u64; 272], bases: &[u64; 273], table: &mut [u16; 1024]) -> bool
     requires { ⌜ (length (now book) ≤ 1024) × Plan (now tags) (now bases) × Blank (now table) × (length (now table) ≡ 1024) ⌝ }
     ensures { λ r. ⌜ Marked (now (book .entry)) (now (tags .entry)) (now (bases .entry)) (now (table .exit)) r ⌝ }
@@ -58,7 +60,8 @@ fn all_marked(table: &[u16; 1024], total: usize) -> bool
     ok
 }
 
-// Is the book sound? If so, the three lists hold the plan and each page's frame for the rest of the call.
+// Is the book sound? If so, `tags` and `bases` hold the plan and `table` each page's frame, for the rest of the call; if not, what they
+// hold means nothing. The table comes in empty.
 pub fn prepare(
     book: &[u64],
     procs: Procs,
@@ -104,7 +107,7 @@ fn answer(entry: u16) -> Found
     Found::At(entry as usize - 1)
 }
 
-// The frame of an owner's page, by its seventeen parts and the table of a sound book, and without the book.
+// The frame of an owner's page in the book that the lists are ready for, by the owner's seventeen parts and without the book.
 pub fn frame_at(
     tags: &[u64; 272],
     bases: &[u64; 273],
@@ -137,4 +140,12 @@ pub fn frame_at(
         k += 1;
     }
     Found::Nothing
+}
+
+// How many frames are free of a book that the lists are ready for: those that are no page's.
+pub fn free_frames(book: &[u64], bases: &[u64; 273]) -> usize
+    requires { ⌜ getD (now bases) 272 0 ≤ length (now book) ⌝ }
+    ensures { λ r. ⌜ ((tags table : List ℕ) → Ready (now (book .entry)) tags (now (bases .entry)) table → r ≡ free (now (book .entry))) ⌝ }
+{
+    book.len() - bases[272] as usize
 }

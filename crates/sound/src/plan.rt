@@ -6,13 +6,31 @@ ghost use Prim.Native.Nat.{_+_, _*_, _<_, _≤_};
 ghost use lib.ListN.{length};
 ghost use Rattle.spec.specs.Tests.{all};
 ghost use Rattle.sound.specs.Records.{passes};
-ghost use Rattle.sound.specs.Plan.{SmallParts, Laid, LaidAll, Rising, hits as hitsOf, PartOf};
+ghost use Rattle.sound.specs.Plan.{seat as seatOf, maxPages, SmallParts, Laid, LaidAll, Rising, hits as hitsOf, later as laterOf, Ascending, Span, PartOf, Plan};
+use spec::DATA;
 use spec::Proc;
 use spec::Procs;
+use spec::USTKTOP;
+use spec::UserSegment;
+use spec::VirtRange;
+
+// An unused place as an empty part at the top, so that an owner's segments ascend.
+pub fn seat(s: UserSegment) -> UserSegment
+    ensures { λ r. ⌜ r ≡ seatOf s ⌝ }
+{
+    if s.perm == 0 {
+        let range = VirtRange {
+            start: USTKTOP,
+            end: USTKTOP,
+        };
+        return UserSegment { range, perm: 0 };
+    }
+    s
+}
 
 // Lays the parts of process n + 1, where the processes before it have `total` pages, and gives the pages up to its last.
 pub fn lay(tags: &mut [u64; 272], bases: &mut [u64; 273], p: Proc, n: usize, total: u64) -> u64
-    requires { ⌜ (n < 16) × SmallParts p × (total ≤ 17 * n * 34359738368) × (length (now tags) ≡ 272) × (length (now bases) ≡ 273) ⌝ }
+    requires { ⌜ (n < 16) × SmallParts p × (total ≤ 17 * n * maxPages) × (length (now tags) ≡ 272) × (length (now bases) ≡ 273) ⌝ }
     ensures { λ r. ⌜ Laid p n total (now (tags .entry)) (now (bases .entry)) (now (tags .exit)) (now (bases .exit)) r 17 ⌝ }
 {
     let segments = p.segments;
@@ -21,7 +39,8 @@ pub fn lay(tags: &mut [u64; 272], bases: &mut [u64; 273], p: Proc, n: usize, tot
     let mut t = total;
     let mut j = 0;
     while j < 16 {
-        let s = segments[j];
+        let place = segments[j];
+        let s = seat(place);
         let start = s.range.start;
         let end = s.range.end;
         let perm = s.perm;
@@ -34,7 +53,7 @@ pub fn lay(tags: &mut [u64; 272], bases: &mut [u64; 273], p: Proc, n: usize, tot
     let from = (p.bss.start + 4095) / 4096 * 4096;
     let to = p.bss.end;
     let k = first + 16;
-    tags[k] = from + owner + 3;
+    tags[k] = from + owner + DATA;
     bases[k] = t;
     t + (to - from) / 4096
 }
@@ -71,9 +90,31 @@ pub fn hits(tags: &[u64; 272], bases: &[u64; 273], k: usize, w: u64) -> bool
     d / 4096 < bases[k + 1] - bases[k]
 }
 
-// The part that a word is of, or 272: part `hint`, where the word before it was, or else a part of its owner.
+// The later of two places, k + step and k, whose tag is at most w.
+pub fn later(tags: &[u64; 272], k: usize, step: usize, w: u64) -> usize
+    requires { ⌜ k + step < 272 ⌝ }
+    ensures { λ r. ⌜ r ≡ laterOf (now (tags .entry)) k step w ⌝ }
+{
+    if tags[k + step] <= w {
+        return k + step;
+    }
+    k
+}
+
+// Of an owner's sixteen segments, from `first` on, the last whose tag is at most w, by halves; or `first`.
+pub fn segment_of(tags: &[u64; 272], first: usize, w: u64) -> usize
+    requires { ⌜ (first + 16 ≤ 272) × Ascending (now tags) first ⌝ }
+    ensures { λ r. ⌜ Span (now (tags .entry)) first w r 1 ⌝ }
+{
+    let half = later(tags, first, 8, w);
+    let quarter = later(tags, half, 4, w);
+    let pair = later(tags, quarter, 2, w);
+    later(tags, pair, 1, w)
+}
+
+// The part that a word is of, or 272: part `hint`, where the word before it was, or else the bss or a segment of its owner.
 pub fn part_of(tags: &[u64; 272], bases: &[u64; 273], hint: usize, w: u64) -> usize
-    requires { ⌜ (hint < 272) × Rising (now bases) ⌝ }
+    requires { ⌜ (hint < 272) × Plan (now tags) (now bases) ⌝ }
     ensures { λ r. ⌜ PartOf (now (tags .entry)) (now (bases .entry)) w r ⌝ }
 {
     if hits(tags, bases, hint, w) {
@@ -86,13 +127,13 @@ pub fn part_of(tags: &[u64; 272], bases: &[u64; 273], hint: usize, w: u64) -> us
     if 16 < owner {
         return 272;
     }
-    let end = 17 * owner;
-    let mut k = end - 17;
-    while k < end {
-        if hits(tags, bases, k, w) {
-            return k;
-        }
-        k += 1;
+    let bss = 17 * owner - 1;
+    if hits(tags, bases, bss, w) {
+        return bss;
+    }
+    let k = segment_of(tags, bss - 16, w);
+    if hits(tags, bases, k, w) {
+        return k;
     }
     272
 }

@@ -1,5 +1,5 @@
 -- `kstr::after_slash` meets its contract. The loop's invariant: no `/` stands at `i` or after it.
-use mathlib.Core.Path.{_≡_, refl}
+use mathlib.Core.Path.{_≡_}
 use mathlib.Core.Bool.{false}
 use Prim.Native.Nat.{_≤_}
 use native.Mathlib.Omega.{arith}

@@ -1,12 +1,11 @@
 -- `kstr::put` meets its contract. The loop's invariant: the first `i` bytes of `s` are in place.
-use mathlib.Core.Path.{_≡_, refl, sym, ap, _∙_}
-use Prim.Native.Nat.{ℕ, _+_, _-_, _≤_, _<_}
+use mathlib.Core.Path.{_≡_, _∙_}
+use Prim.Native.Nat.{_-_, _≤_}
 use native.Mathlib.Omega.{arith}
 use native.Mathlib.Numerals.{add-one}
 use denote.Ref.{now}
-use lib.ListN.{length, length-set, take, drop}
+use lib.ListN.{length, length-set}
 use lib.Seq.{paste, paste-zero, paste-suc, take-length}
-use Rattle.spec.specs.Frames.{put}
 use Rattle.kstr.proofs.put.Statement.{statement}
 use Rattle.kstr.proofs.put.Tie as tie
 

@@ -1,6 +1,5 @@
 -- `mem::checked_page_up` meets its contract: an address rounds past 64 bits where it lies above their last page.
-use mathlib.Core.Path.{_≡_}
-use Prim.Native.Nat.{_^_, _≤_, _<_}
+use Prim.Native.Nat.{_^_}
 use native.Mathlib.Omega.{arith}
 use borrow.Author.Needs.{needs}
 use borrow.Author.Tests.{lt-ltb, le-ltb}

@@ -12,7 +12,7 @@ use Rattle.laws.proofs.Record.{Whole}
 use Rattle.sound.specs.Records.{passes}
 use Rattle.sound.proofs.Whole.{whole-procs}
 use Rattle.sound.proofs.Planning.{plan}
-use Rattle.sound.proofs.Decides.{records-of, ok-each, planned-of, total-of, decided, sound-exact}
+use Rattle.sound.proofs.Decides.{records-of, made, planned-of, total-of, decided, sound-exact}
 use Rattle.sound.proofs.Lookup.{ready}
 use Rattle.sound.proofs.prepare.Statement.{statement}
 use Rattle.sound.proofs.prepare.Tie as tie
@@ -42,7 +42,7 @@ returns-2 c =
     let d = c .before .before .before .before in
     let a = d .before .before .before in
     let ps = a .args .procs in (
-      sound-exact _ _ (whole a) _ (λ e. absurd (false≢true e), λ s. absurd (omega (arith, total-of ps (whole a) (ok-each ps (whole a) (pass d)) _ _ _ (c .before .lay-all .ensures) _ s))),
+      sound-exact _ _ (whole a) _ (λ e. absurd (false≢true e), λ s. absurd (omega (arith, total-of (made ps (whole a) (pass d) _ _ _ (c .before .lay-all .ensures)) _ s))),
       λ e. absurd (false≢true e),
     )
 
@@ -51,7 +51,7 @@ mark-requires c κs =
     let d = c .before .before .before .before .before .before .before in
     let a = d .before .before .before in
     let ps = a .args .procs in
-    (omega arith, plan ps (whole a) (ok-each ps (whole a) (pass d)) _ _ _ (c .before .before .before .before .lay-all .ensures) (omega arith), a .pre .4, a .pre .3)
+    (omega arith, plan (made ps (whole a) (pass d) _ _ _ (c .before .before .before .before .lay-all .ensures)) (omega arith), a .pre .4, a .pre .3)
 
 returns-3 : tie.Need-returns-3
 returns-3 c =
@@ -61,7 +61,7 @@ returns-3 c =
     let ps = a .args .procs in (
       sound-exact _ _ (whole a) _ (
         λ e. absurd (false≢true e),
-        λ s. absurd (c .before .mark .ensures .no (not-true _ (c .if3 .taken)) (planned-of ps (whole a) (ok-each ps (whole a) (pass d)) _ _ _ (l .lay-all .ensures) _ s)),
+        λ s. absurd (c .before .mark .ensures .no (not-true _ (c .if3 .taken)) (planned-of (made ps (whole a) (pass d) _ _ _ (l .lay-all .ensures)) _ s)),
       ),
       λ e. absurd (false≢true e),
     )
@@ -79,8 +79,9 @@ returns-4 c =
     let table = m .mark .last .1 .1 .1 .0 in
     let y = m .mark .ensures .yes (not-false _ (c .before .before .if3 .left)) in
     let most : l .lay-all .result ≤ 1024 = omega arith in
-    let r = decided ps (whole a) (pass d) _ _ _ (l .lay-all .ensures) most _ table (y .0) (y .1) (c .all-marked .result) (c .all-marked .ensures) in
-    (sound-exact _ _ (whole a) _ r, λ q. ready ps (whole a) (pass d) _ _ _ (l .lay-all .ensures) most _ table (y .0) (y .1) (r .0 q))
+    let x = made ps (whole a) (pass d) _ _ _ (l .lay-all .ensures) in
+    let r = decided ps _ _ _ x most _ table (y .0) (y .1) (c .all-marked .result) (c .all-marked .ensures) in
+    (sound-exact _ _ (whole a) _ r, λ q. ready ps _ _ _ x most _ table (y .0) (y .1) (r .0 q))
 
 pub prepare-spec : {M : Type 1} → statement M
 prepare-spec =

@@ -5,7 +5,6 @@ use Prim.Native.Nat.{_+_, _-_, _≤_}
 use native.Mathlib.Omega.{arith}
 use denote.Ref.{now}
 use lib.ListN.{length, drop}
-use borrow.Author.Tests.{eq-eqb, ne-eqb}
 use Rattle.spec.specs.Book.{free}
 use Rattle.pagealloc.proofs.Searches.{free-hit, free-miss, free-end}
 use Rattle.pagealloc.proofs.book.free_count.Statement.{statement}

@@ -1,5 +1,4 @@
 -- `pagealloc::release::within_range` meets its contract: the word's owner and page are tested.
-use mathlib.Core.Path.{_≡_}
 use borrow.Author.Needs.{needs}
 use Rattle.pagealloc.proofs.release.within_range.Statement.{statement}
 use Rattle.pagealloc.proofs.release.within_range.Tie as tie

@@ -1,15 +1,15 @@
 -- `lay` meets its contract: the first j parts are laid.
 use Prim.Native.Nat.{ℕ, _+_, _-_, _*_, _≤_, _<_}
 use native.Mathlib.Omega.{arith}
-use lib.ListN.{getD}
-use Rattle.spec.specs.Book.{zeroSegment}
-use Rattle.sound.specs.Plan.{Small, Laid}
+use mathlib.Core.Path.{_∙_}
+use borrow.Author.Needs.{needs}
+use Rattle.sound.specs.Plan.{maxPages, Small, Laid}
 use Rattle.sound.proofs.Laying.{part-segment, laid-none, laid-more, laid-bss}
 use Rattle.sound.proofs.plan.lay.Statement.{statement}
 use Rattle.sound.proofs.plan.lay.Tie as tie
 
 abbrev Inv-loop : tie.InvT-loop
-Inv-loop tags₀ bases₀ p n total segments owner first t₀ j₀ tags bases t j = (j ≤ 16) × (t ≤ (17 * n + j) * 34359738368) × Laid p n total tags₀ bases₀ tags bases t j
+Inv-loop tags₀ bases₀ p n total segments owner first t₀ j₀ tags bases t j = (j ≤ 16) × (t ≤ (17 * n + j) * maxPages) × Laid p n total tags₀ bases₀ tags bases t j
 
 abbrev μ-loop : tie.MeasureT-loop
 μ-loop tags₀ bases₀ p n total segments owner first t₀ j₀ tags bases t j = 16 - j
@@ -26,18 +26,21 @@ mul-first c = omega arith
 loop-holds : tie.Need-loop-holds Inv-loop μ-loop
 loop-holds c = (omega arith, omega arith, laid-none _ _ _ _ _ (omega arith) (c .before .pre .3) (c .before .pre .4))
 
-mul-s : tie.Need-mul-s Inv-loop μ-loop
-mul-s c = omega arith
+mul-place : tie.Need-mul-place Inv-loop μ-loop
+mul-place c = omega arith
 
-array-copy-out-s : tie.Need-array-copy-out-s Inv-loop μ-loop
-array-copy-out-s c = omega arith
+array-copy-out-place : tie.Need-array-copy-out-place Inv-loop μ-loop
+array-copy-out-place c = omega arith
+
+seat-requires : tie.Need-seat-requires Inv-loop μ-loop
+seat-requires c κs = search needs
 
 add-k : tie.Need-add-k Inv-loop μ-loop
 add-k c = omega arith
 
--- the segment is small
-small : (c : tie.After-s Inv-loop μ-loop) → Small (getD (c .before .before .before .before .args .p .segments) (c .before .before .loop .j) zeroSegment)
-small c = c .before .before .before .before .pre .1 .segments (c .before .before .loop .j) (omega arith)
+-- the part is small
+small : (c : tie.After-seat Inv-loop μ-loop) → Small (c .seat .result)
+small c = rw (c .seat .ensures) (c .before .before .before .before .before .pre .1 .segments (c .before .before .before .loop .j) (omega arith))
 
 add-tags : tie.Need-add-tags Inv-loop μ-loop
 add-tags c = let x = small c in omega arith
@@ -71,9 +74,9 @@ loop-less c = omega arith
 
 loop-again : tie.Need-loop-again Inv-loop μ-loop
 loop-again c =
-    let l = c .before .before .loop in
+    let l = c .before .before .before .loop in
     let x = small c in
-    (omega arith, omega arith, laid-more _ _ _ _ _ _ _ _ (l .j) _ (omega arith) (omega arith) (part-segment _ (l .j) (omega arith)) x (l .inv .2))
+    (omega arith, omega arith, laid-more _ _ _ _ _ _ _ _ (l .j) (c .seat .result) (omega arith) (omega arith) (c .seat .ensures ∙ part-segment _ (l .j) (omega arith)) x (l .inv .2))
 
 add-from : tie.Need-add-from Inv-loop μ-loop
 add-from c = omega arith
@@ -123,8 +126,9 @@ lay-spec =
     mul-owner
     mul-first
     loop-holds
-    mul-s
-    array-copy-out-s
+    mul-place
+    array-copy-out-place
+    seat-requires
     add-k
     add-tags
     add-tags-2

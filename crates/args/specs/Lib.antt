@@ -1,0 +1,2 @@
+-- What the contracts of arguments cite besides the specification.
+pub mod Sizes

@@ -1,2 +1,0 @@
--- What the functions of this crate answer before a call's own work.
-pub mod Front

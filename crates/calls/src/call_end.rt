@@ -1,0 +1,27 @@
+// End (added): a process gives up its memory and its record.
+
+ghost use mathlib.Core.Path.{_≡_};
+ghost use Rattle.spec.specs.Machine.{end, plainly};
+ghost use Rattle.spec.specs.World.{Does};
+ghost use Rattle.front.specs.Numbers.{stateOf, call};
+use crate::left::Left;
+use spec::Answer;
+use spec::Procs;
+
+// Ends process `number`: its frames are free and keep their bytes, and its record is zero. Refused with 1 to 4, it changes nothing.
+pub fn end(frames: &mut [u8], book: &mut [u64], procs: Procs, number: u64) -> Left
+    ensures { λ r. ⌜ Does (stateOf (now (frames .entry)) (now (book .entry)) procs) (call number end) (stateOf (now (frames .exit)) (now (book .exit)) (r .procs)) (plainly (r .answer)) ⌝ }
+{
+    let e = front::numbers::plain_error(frames, book, procs, number, true);
+    if e != 0 {
+        return Left {
+            procs: procs,
+            answer: Answer::Refused(e),
+        };
+    }
+    let after = front::ending::forget(book, procs, number);
+    Left {
+        procs: after,
+        answer: Answer::Done,
+    }
+}

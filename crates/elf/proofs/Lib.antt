@@ -1,0 +1,9 @@
+pub mod Join
+pub mod Same
+pub mod Image
+pub mod Walk
+pub mod Errors
+pub mod Checked
+pub mod Checks
+pub mod Flags
+pub mod Ahead

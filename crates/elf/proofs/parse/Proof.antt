@@ -1,0 +1,53 @@
+-- `elf::parse` meets its contract: it says what the checks of the whole image come to.
+-- Assumes nothing.
+use mathlib.Core.Path.{_≡_, sym, ap, _∙_}
+use mathlib.Core.Bool.{Bool, true, false}
+use denote.Ref.{now}
+use borrow.Author.Needs.{needs}
+use borrow.Author.Tests.{not-true, not-false}
+use Rattle.spec.specs.Elf.{elfError}
+use Rattle.spec.specs.declared.ElfError.the-variants.{Truncated, BadMagic}
+use Rattle.elf.specs.Reader.{verdictNumber, imageError}
+use Rattle.elf.proofs.Image.{truncated, bad-magic, by-fields, says-no, says-yes}
+use Rattle.elf.proofs.parse.Statement.{statement}
+use Rattle.elf.proofs.parse.Tie as tie
+
+returns : tie.Need-returns
+returns c = let image = now (c .before .before .args .image) in says-no image Truncated (truncated image (c .if1 .taken))
+
+returns-2 : tie.Need-returns-2
+returns-2 c =
+    let image = now (c .before .before .before .before .args .image) in
+    says-no image BadMagic (bad-magic image (c .before .before .if1 .left) (sym (c .before .has-magic .ensures) ∙ not-true _ (c .if2 .taken)))
+
+-- the verdict's number is the image's
+number : (c : tie.After-judge) → verdictNumber (c .judge .result) ≡ elfError (now (c .before .before .before .before .before .before .args .image))
+number c =
+    let image = now (c .before .before .before .before .before .before .args .image) in
+    c .judge .ensures ∙ ap (imageError image) (c .before .read-ehdr .ensures)
+    ∙ by-fields image (c .before .before .before .before .if1 .left) (sym (c .before .before .before .has-magic .ensures) ∙ not-false _ (c .before .before .if2 .left))
+
+returns-3 : tie.Need-returns-3
+returns-3 c =
+    let image = now (c .before .before .before .before .before .before .before .before .before .args .image) in
+    says-no image (c .before .v .given .0 .0) (sym (ap verdictNumber (c .before .v .given .1)) ∙ number (c .before .before .before))
+
+returns-4 : tie.Need-returns-4
+returns-4 c =
+    let image = now (c .before .before .before .before .before .before .before .before .before .args .image) in
+    rw (c .before .before .before .before .read-ehdr .ensures) (says-yes image (sym (ap verdictNumber (c .before .enum-told .given .1)) ∙ number (c .before .before .before)))
+
+pub parse-spec : {M : Type 1} → statement M
+parse-spec =
+    tie.close
+    (tie.spec
+    returns
+    (λ c κs. search needs)
+    returns-2
+    (λ c κs. search needs)
+    (λ c κs. search needs)
+    (λ c. search needs)
+    (λ c. search needs)
+    (λ c. search needs)
+    returns-3
+    returns-4)

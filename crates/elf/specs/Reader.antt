@@ -1,0 +1,132 @@
+-- What the reader's types stand for in the specification: a header's fields, a segment, and the answer of `parse` with the scope's number.
+-- Assumes nothing.
+use Prim.Native.Nat.{ℕ, _+_, _-_, _*_, _%_, _^_, _≤_}
+use mathlib.Core.Path.{_≡_}
+use mathlib.Core.Bool.{Bool, true, false, not, _&&_, _||_}
+use mathlib.Core.List.{List, [], _∷_, map}
+use lib.ListN.{length, take, drop}
+use Rattle.spec.specs.Tests.{_is_, _isnt_, _above_, _⇒_else_, _orElse_, any, filter}
+use Rattle.spec.specs.Numbers.{le}
+use Rattle.spec.specs.Elf.{Phdr, Segment as Loadable, phdrsFrom, loads, flagPerm, phdrError, segmentOf, inFile, errorNumber, entry, phoff, phnum, elfError}
+use Rattle.spec.specs.declared.ElfError.{ElfError}
+use Rattle.elf.specs.declared.Ehdr.{Ehdr}
+use Rattle.elf.specs.declared.Phdr.{Phdr as Read}
+use Rattle.elf.specs.declared.Seen.{Seen}
+use Rattle.elf.specs.declared.Step.{Step}
+use Rattle.elf.specs.declared.Step.the-variants.{Stop, Next}
+use Rattle.elf.specs.declared.Parsed.{Parsed}
+use Rattle.elf.specs.declared.Parsed.the-variants.{Elf, Refused as No}
+use Rattle.elf.specs.declared.Segment.{Segment as Held}
+use Rattle.elf.specs.declared.Load.{Load}
+use Rattle.elf.specs.declared.Load.the-variants.{Skip, Segment}
+use Rattle.elf.specs.declared.Verdict.{Verdict}
+use Rattle.elf.specs.declared.Verdict.the-variants.{Fine, Refused}
+
+-- ---- answers
+
+-- the scope's number of a verdict, 0 where nothing is refused
+abbrev pub verdictNumber : Verdict → ℕ
+verdictNumber Fine = 0
+verdictNumber (Refused e) = errorNumber e
+
+-- what `parse` says: the scope's number, 0 for an image that is accepted, and then where it is entered and where its headers stand
+pub record Said : Type 0 where
+  pub number : ℕ
+  pub entry : ℕ
+  pub phoff : ℕ
+  pub phnum : ℕ
+
+abbrev pub said : Parsed → Said
+said (Elf e) = record { number = 0; entry = e .entry; phoff = e .phoff; phnum = e .phnum }
+said (No e) = record { number = errorNumber e; entry = 0; phoff = 0; phnum = 0 }
+
+unfoldable pub parsed : List ℕ → Said
+parsed image =
+    elfError image is 0 ⇒ record { number = 0; entry = entry image; phoff = phoff image; phnum = phnum image } else
+    record { number = elfError image; entry = 0; phoff = 0; phnum = 0 }
+
+-- what a loader reads at a header: the segment that it describes, unless it is skipped
+abbrev pub segmentFrom : Phdr → Held
+segmentFrom p = record { vaddr = p .vaddr; memsz = p .memsz; offset = p .offset; filesz = p .filesz; perm = flagPerm p }
+
+abbrev pub loadOf : Phdr → Load
+loadOf p = loads p ⇒ Segment (segmentFrom p) else Skip
+
+-- what holds of a segment that passed, in an image of n bytes
+pub record Checked (n : ℕ) (g : Held) : Type 0 where
+  pub file : g .filesz ≤ g .memsz
+  pub within : g .offset + g .filesz ≤ n
+  pub aligned : g .vaddr % 4096 ≡ g .offset % 4096
+  pub end : g .vaddr + g .memsz ≤ 2 ^ 64 - 4096
+  pub perm : (1 ≤ g .perm) × (g .perm ≤ 3)
+
+abbrev pub CheckedLoad : ℕ → Load → Type 0
+CheckedLoad n Skip = Unit {0}
+CheckedLoad n (Segment g) = Checked n g
+
+-- ---- headers
+
+-- the fields of the ELF header
+abbrev pub ehdrOf : List ℕ → Ehdr
+ehdrOf image = record {
+  class = le 1 image 4;
+  encoding = le 1 image 5;
+  ident = le 1 image 6;
+  kind = le 2 image 16;
+  machine = le 2 image 18;
+  version = le 4 image 20;
+  entry = le 8 image 24;
+  phoff = le 8 image 32;
+  phentsize = le 2 image 54;
+  phnum = le 2 image 56;
+}
+
+-- checks 13 to 20 of those fields, in an image of n bytes
+unfoldable pub fieldsError : ℕ → Ehdr → ℕ
+fieldsError n h =
+    h .class isnt 2 ⇒ 13 else
+    h .encoding isnt 1 ⇒ 14 else
+    h .ident isnt 1 || h .version isnt 1 ⇒ 15 else
+    h .kind isnt 2 ⇒ 16 else
+    h .machine isnt 183 ⇒ 17 else
+    h .phentsize isnt 56 ⇒ 18 else
+    h .entry % 4 isnt 0 ⇒ 19 else
+    h .phoff + 56 * h .phnum above n ⇒ 20 else
+    0
+
+-- a program header that was read, as the specification has it
+abbrev pub phdrOf : Read → Phdr
+phdrOf p = record { type = p .kind; flags = p .flags; offset = p .offset; vaddr = p .vaddr; filesz = p .filesz; memsz = p .memsz }
+
+-- ---- the walk over the headers
+
+-- the entry lies in the file bytes of a text segment
+abbrev pub inText : ℕ → Loadable → Bool
+inText a g = g .perm is 1 && inFile a g
+
+-- k headers from a place on, without the skipped ones
+abbrev pub left : List ℕ → ℕ → ℕ → List Phdr
+left image at k = filter loads (phdrsFrom image at k)
+
+-- a header in front of others, unless it is skipped
+abbrev pub keep : Phdr → List Phdr → List Phdr
+keep p ps = loads p ⇒ p ∷ ps else ps
+
+-- checks 21 to 27 of the headers that are left: the segment before them ends its page at `end`, and `found` says whether the entry was in one
+unfoldable pub scanError : List ℕ → ℕ → ℕ → Bool → List Phdr → ℕ
+scanError image a end found ps =
+    phdrError image end ps orElse
+    (found || any (inText a) (map (segmentOf image) ps) ⇒ 0 else 27)
+
+-- what a step over one header comes to: its refusal, or the checks of those behind it
+abbrev pub stepError : List ℕ → ℕ → Step → List Phdr → ℕ
+stepError image a (Stop e) ps = errorNumber e
+stepError image a (Next t) ps = scanError image a (t .end) (t .found) ps
+
+-- a step from what was seen over header p, whatever headers are behind it
+abbrev pub Steps : List ℕ → ℕ → Seen → Phdr → Step → Type 0
+Steps image a seen p r = (ps : List Phdr) → scanError image a (seen .end) (seen .found) (keep p ps) ≡ stepError image a r ps
+
+-- checks 13 to 27 of an image with header h
+abbrev pub imageError : List ℕ → Ehdr → ℕ
+imageError image h = fieldsError (length image) h orElse scanError image (h .entry) 0 false (left image (h .phoff) (h .phnum))

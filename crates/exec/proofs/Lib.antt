@@ -1,0 +1,4 @@
+pub mod Fitted
+pub mod Kept
+pub mod Pages
+pub mod Planned

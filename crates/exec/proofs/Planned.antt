@@ -1,0 +1,85 @@
+-- The plan of an image, case by case; and what a caller learns of one that is accepted.
+-- Assumes nothing.
+use mathlib.Core.Path.{_≡_, refl, sym, ap, _∙_}
+use mathlib.Core.Bool.{Bool, true, false, not}
+use mathlib.Core.List.{List, [], _∷_, _++_}
+use Prim.Native.Nat.{ℕ, suc, _+_, _-_, _/_, _<_, _≤_}
+use native.Mathlib.Omega.{arith}
+use lib.ListN.{length, take, set, replicate}
+use lib.Seq.{take-all, take-append-seam, set-append-seam}
+use borrow.Author.Tests.{eq-eqb, ne-eqb, lt-ltb, le-ltb}
+use Rattle.spec.specs.Tests.{_is_, _isnt_, _above_, _⇒_else_}
+use Rattle.spec.specs.Numbers.{limit, pageUp, ustktop, ustksize}
+use Rattle.spec.specs.Book.{zeroSegment, stack, bssSegment, pageCount}
+use Rattle.spec.specs.Elf.{entry, elfError, Segment, segmentsOf}
+use Rattle.spec.specs.Exec.{layoutOk, bssOf, imageSegments, imageBss, imageError, startPieces}
+use Rattle.spec.specs.declared.VirtRange.{VirtRange}
+use Rattle.spec.specs.declared.UserSegment.{UserSegment}
+use Rattle.laws.proofs.Apart.{count-append}
+use Rattle.laws.proofs.Accepted.{AllLoad, elf-loads, recorded-all}
+use Rattle.exec.specs.Plan.{recorded, refusedPlan, planOf}
+use Rattle.exec.specs.declared.Plan.{Plan}
+
+module _ (image : List ℕ) where
+  -- ---- the four cases
+
+  pub plan-elf : (n : ℕ) → n ≡ elfError image → (n ≡ 0 → ⊥) → refusedPlan 30 n ≡ planOf image
+  unfolding planOf
+  plan-elf n e nz = rw (← e, ne-eqb n 0 nz)
+
+  pub plan-layout : elfError image ≡ 0 → layoutOk (segmentsOf image) ≡ false → refusedPlan 30 0 ≡ planOf image
+  unfolding planOf
+  plan-layout e l = rw (e, l)
+
+  pub plan-many : elfError image ≡ 0 → layoutOk (segmentsOf image) ≡ true → 15 < length (imageSegments image) → refusedPlan 31 0 ≡ planOf image
+  unfolding planOf
+  plan-many e l m = rw (e, l, lt-ltb 15 (length (imageSegments image)) m)
+
+  pub plan-yes : elfError image ≡ 0 → layoutOk (segmentsOf image) ≡ true → length (imageSegments image) ≤ 15
+      → planOf image ≡ record {
+        number = 0;
+        elf = 0;
+        entry = entry image;
+        segments = imageSegments image ++ stack ∷ replicate (15 - length (imageSegments image)) zeroSegment;
+        count = length (imageSegments image);
+        bss = imageBss image;
+        pages = pageCount (startPieces image);
+      }
+  unfolding planOf
+  plan-yes e l m = rw (e, l, le-ltb 15 (length (imageSegments image)) m)
+
+  -- ---- its bss and its pages
+
+  -- the bss starts at most at limit
+  pub bss-low : elfError image ≡ 0 → layoutOk (segmentsOf image) ≡ true → imageBss image .start ≤ limit
+  bss-low e l = go (segmentsOf image) (elf-loads image e) l
+    where
+      go : (gs : List Segment) → AllLoad 0 gs → layoutOk gs ≡ true → bssOf gs .start ≤ limit
+      go [] a l = omega arith
+      go (g ∷ gs) a l = let b = recorded-all 0 g gs a l .bss-ok in omega (arith, b .order, b .low)
+
+  -- pages are those of the segments, of the bss behind them, and of the stack
+  pub all-pages : pageCount (startPieces image) ≡ pageCount (imageSegments image) + (imageBss image .end - pageUp (imageBss image .start)) / 4096 + ustksize / 4096
+  all-pages = count-append (imageSegments image) (bssSegment (imageBss image) ∷ stack ∷ []) ∙ sum (pageCount (imageSegments image)) ((imageBss image .end - pageUp (imageBss image .start)) / 4096)
+    where
+      sum : (a b : ℕ) → a + (b + (4 + 0)) ≡ a + b + 4
+      sum a b = omega arith
+
+-- ---- its recorded segments
+
+module _ (us : List UserSegment) (h : length us ≤ 15) where
+  -- those of the image, of the record's array
+  pub first-ones : take (length us) (recorded us .segments) ≡ us
+  first-ones = rw (take-all 15 us h) (take-append-seam us (replicate (16 - length us) zeroSegment))
+
+  -- and the stack behind them
+  pub with-stack : set (recorded us .segments) (length us) stack ≡ us ++ stack ∷ replicate (15 - length us) zeroSegment
+  with-stack =
+      let one : 16 - length us ≡ suc (15 - length us) = omega arith in
+      rw (take-all 15 us h, one) (set-append-seam us zeroSegment (replicate (15 - length us) zeroSegment) stack)
+
+-- a plan field by field
+pub same-plan : (e e′ : ℕ) (s s′ : List UserSegment) (c c′ : ℕ) (b b′ : VirtRange) (p p′ : ℕ) → e ≡ e′ → s ≡ s′ → c ≡ c′ → b ≡ b′ → p ≡ p′
+    → _≡_ {A = Plan} (record { number = 0; elf = 0; entry = e; segments = s; count = c; bss = b; pages = p })
+    (record { number = 0; elf = 0; entry = e′; segments = s′; count = c′; bss = b′; pages = p′ })
+same-plan e e′ s s′ c c′ b b′ p p′ ee es ec eb ep = rw (ee, es, ec, eb, ep)

@@ -1,0 +1,86 @@
+-- The answer of a call, once the numbers that come first are known.
+use Prim.Native.Nat.{ℕ}
+use mathlib.Core.Path.{_≡_, refl, sym, ap, _∙_}
+use mathlib.Core.Bool.{Bool, true, false, not, _&&_, _||_}
+use mathlib.Core.List.{List}
+use lib.Dec.{eqb}
+use Rattle.spec.specs.Tests.{_is_, _isnt_, _⇒_else_, _orElse_}
+use Rattle.spec.specs.Book.{valid, free}
+use Rattle.spec.specs.Frames.{sized}
+use Rattle.spec.specs.Machine.{Ask, start, fork, Call, Kind, plain, kind, Reply, outcome, refused, refuse, lengthsFit, listFits, numbered, living, unclaimed, judge, weigh}
+use Rattle.spec.specs.World.{State, sound, taken, view, answer, leave, after, Does}
+use Rattle.spec.proofs.Chain.{here, past, isnt-holds-through, isnt-fails-through}
+use Rattle.spec.proofs.Taken.{refused-keeps}
+use Rattle.front.specs.Numbers.{call, numberError, plainError, beginError, forkError}
+
+-- a refusal where there is a number, and the rest where there is none
+abbrev pub orRefuse : ℕ → Ask → Reply → Reply
+orRefuse e q r = e isnt 0 ⇒ refuse e q else r
+
+-- one test of the chain
+step : (b : Bool) (k e : ℕ) (q : Ask) (x r : Reply) → (k isnt 0) ≡ true → x ≡ orRefuse e q r → (not b ⇒ refuse k q else x) ≡ orRefuse (not b ⇒ k else e) q r
+step true k e q x r z h = h
+step false k e q x r z h = sym (rw z)
+
+-- a test that holds already
+skip : (b : Bool) (x y : Reply) → b ≡ true → (not b ⇒ y else x) ≡ x
+skip b x y h = rw h
+
+-- lengths that are tested again
+again : (z f : Bool) (e : ℕ) (q : Ask) (x r : Reply) → (f ≡ true → x ≡ orRefuse e q r) → (not (z && f) ⇒ refuse 1 q else x) ≡ orRefuse (not (z && f) ⇒ 1 else e) q r
+again true true e q x r h = h refl
+again true false e q x r h = refl
+again false true e q x r h = refl
+again false false e q x r h = refl
+
+-- two numbers in order
+join : (a b : ℕ) (q : Ask) (r : Reply) → orRefuse a q (orRefuse b q r) ≡ orRefuse (a orElse b) q r
+join a b q r = go (eqb a 0) refl
+  where
+    go : (z : Bool) → eqb a 0 ≡ z → (not z ⇒ refuse a q else orRefuse b q r) ≡ orRefuse (z ⇒ b else a) q r
+    go true e = refl
+    go false e = sym (rw e)
+
+pub answer-plain : (s : State) (n : ℕ) (q : Ask) → kind q ≡ plain
+    → answer s (call n q) ≡ orRefuse (plainError s n (lengthsFit q)) q (weigh (view s n) (free (s .store .book)) q)
+unfolding answer judge numberError plainError
+answer-plain s n q k =
+    let w : Reply = weigh (view s n) (free (s .store .book)) q in
+    let x : Reply = not (taken s n) ⇒ refuse 4 q else w in
+    again (sized (s .store)) (lengthsFit q) _ q _ x
+    (λ f. step (sound s) 2 _ q _ x refl (skip (lengthsFit q) _ (refuse 1 q) f ∙ rw k (step (valid n) 3 0 q _ x refl refl)))
+    ∙ ap (orRefuse (numberError s n (lengthsFit q)) q) (step (taken s n) 4 0 q w w refl refl)
+    ∙ join (numberError s n (lengthsFit q)) (not (taken s n) ⇒ 4 else 0) q w
+
+pub answer-start : (s : State) (n : ℕ) (image name bytes lengths : List ℕ)
+    → let q : Ask = start image name bytes lengths in
+    answer s (call n q) ≡ orRefuse (beginError s n (lengthsFit q)) q (weigh (view s n) (free (s .store .book)) q)
+unfolding answer judge numberError beginError
+answer-start s n image name bytes lengths =
+    let q : Ask = start image name bytes lengths in
+    let w : Reply = weigh (view s n) (free (s .store .book)) q in
+    let x : Reply = not (not (taken s n)) ⇒ refuse 5 q else w in
+    again (sized (s .store)) (lengthsFit q) _ q _ x
+    (λ f. step (sound s) 2 _ q _ x refl (skip (lengthsFit q) _ (refuse 1 q) f ∙ step (valid n) 3 0 q _ x refl refl))
+    ∙ ap (orRefuse (numberError s n (lengthsFit q)) q) (step (not (taken s n)) 5 0 q w w refl refl)
+    ∙ join (numberError s n (lengthsFit q)) (not (not (taken s n)) ⇒ 5 else 0) q w
+
+-- ---- what a call does, from what was found first
+
+-- a call that is refused
+pub does-refused : (s : State) (n : ℕ) (q : Ask) (e : ℕ) → answer s (call n q) ≡ refuse e q → Does s (call n q) s (refuse e q)
+does-refused s n q e h = record { left = sym (refused-keeps s (call n q) (ap outcome h)); said = sym h }
+
+-- a call whose answer is known
+pub does-answered : (s : State) (n : ℕ) (q : Ask) (t : State) (r : Reply) → answer s (call n q) ≡ r → t ≡ leave s (call n q) (outcome r) → Does s (call n q) t r
+unfolding after
+does-answered s n q t r h l = record { left = l ∙ ap (λ (x : Reply). leave s (call n q) (outcome x)) (sym h); said = sym h }
+
+-- e is the number that was found first, and w what the call answers if there is none
+module _ (s : State) (n : ℕ) (q : Ask) (e a : ℕ) (w : Reply) (all : answer s (call n q) ≡ orRefuse a q w) (first : e ≡ a) where
+  pub refused-first : (e ≡ 0 → ⊥) → Does s (call n q) s (refuse e q)
+  refused-first ne =
+      does-refused s n q e (all ∙ sym (here (a isnt 0) (refuse a q) w (refuse e q) (isnt-holds-through e a 0 first ne) (ap (λ (k : ℕ). refuse k q) first)))
+
+  pub goes-on : e ≡ 0 → (t : State) (r : Reply) → w ≡ r → t ≡ leave s (call n q) (outcome r) → Does s (call n q) t r
+  goes-on z t r h l = does-answered s n q t r (all ∙ sym (past (a isnt 0) (refuse a q) w w (isnt-fails-through e a 0 first z) refl) ∙ h) l

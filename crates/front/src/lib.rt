@@ -1,0 +1,5 @@
+// What the ten calls share: records by value, the numbers that come first in every call, and a process that ends.
+
+pub mod ending;
+pub mod numbers;
+pub mod record;

@@ -1,0 +1,2 @@
+-- An image's pages, segment by segment.
+pub mod Pages

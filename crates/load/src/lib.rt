@@ -1,0 +1,105 @@
+// Loading an image into a process's frames, as r9's exec.rs does in `load`: each page holds its file bytes and zero elsewhere, and
+// takes the highest free frame, pages ascending: the image's, the bss's, the stack's. Callers have checked the image and counted the
+// free frames.
+
+ghost use mathlib.Core.Path.{_≡_};
+ghost use mathlib.Core.Bool.{true};
+ghost use Prim.Native.Nat.{ℕ, _+_, _*_, _-_, _^_, _≤_, _<_};
+ghost use lib.ListN.{length};
+ghost use Rattle.spec.specs.Numbers.{limit, pageBytes};
+ghost use Rattle.spec.specs.Frames.{pagesOf, place};
+ghost use Rattle.spec.specs.Elf.{phdrAt, segmentsOf};
+ghost use Rattle.spec.specs.Exec.{layoutOk, imageBss, imageError, startPieces, fileByte};
+ghost use Rattle.elf.specs.Reader.{loadOf, CheckedLoad, said, parsed};
+ghost use Rattle.pagealloc.specs.Lent.{store, Passed};
+ghost use Rattle.load.specs.Pages.{segmentPages, loadPages, LaidLoad};
+use elf::Elf;
+use elf::Load;
+use elf::Parsed;
+use spec::VirtRange;
+
+// Places the pages of one program header's segment, if it has one. Frames from `top` on are none free; the answer is the next such.
+fn load_header(
+    frames: &mut [u8],
+    book: &mut [u64],
+    top: usize,
+    owner: u64,
+    image: &[u8],
+    at: usize,
+    bss: VirtRange,
+) -> usize
+    requires { ⌜ (length (now frames) ≡ 4096 * length (now book)) × (1 ≤ owner) × (owner < 256) × (at + 56 ≤ length (now image)) × (bss .start ≤ limit) ⌝ }
+    requires { ⌜ CheckedLoad (length (now image)) (loadOf (phdrAt (now image) at)) × LaidLoad (loadOf (phdrAt (now image) at)) ⌝ }
+    requires { ⌜ Passed top (now book) ⌝ }
+    ensures { λ _. ⌜ store (now (frames .exit)) (now (book .exit)) ≡ place (store (now (frames .entry)) (now (book .entry))) owner (loadPages (now (image .entry)) bss (loadOf (phdrAt (now (image .entry)) at))) ⌝ }
+    ensures { λ r. ⌜ Passed r (now (book .exit)) ⌝ }
+{
+    let l = elf::segment_at(image, at);
+    match l {
+        Load::Skip => top,
+        Load::Segment(g) => {
+            let recorded = exec::user_segment(bss, g);
+            let from = g.offset;
+            let to = from + g.filesz;
+            let vaddr = g.vaddr;
+            pagealloc::place::load_segment(
+                frames,
+                book,
+                top,
+                owner,
+                recorded,
+                vaddr,
+                &image[from..to],
+            )
+        }
+    }
+}
+
+// Places the pages of an image's segments, in table order.
+fn load_segments(
+    frames: &mut [u8],
+    book: &mut [u64],
+    owner: u64,
+    image: &[u8],
+    h: Elf,
+    bss: VirtRange,
+) -> usize
+    requires { ⌜ (length (now frames) ≡ 4096 * length (now book)) × (1 ≤ owner) × (owner < 256) × (bss .start ≤ limit) ⌝ }
+    requires { ⌜ (said (Parsed.Elf h) ≡ parsed (now image)) × (layoutOk (segmentsOf (now image)) ≡ true) ⌝ }
+    ensures { λ _. ⌜ store (now (frames .exit)) (now (book .exit)) ≡ place (store (now (frames .entry)) (now (book .entry))) owner (segmentPages bss (segmentsOf (now (image .entry)))) ⌝ }
+    ensures { λ r. ⌜ Passed r (now (book .exit)) ⌝ }
+{
+    let mut top = book.len();
+    let mut at = h.phoff;
+    let mut k = h.phnum;
+    while k > 0 {
+        top = load_header(frames, book, top, owner, image, at, bss);
+        at += elf::PHDR_SIZE;
+        k -= 1;
+    }
+    top
+}
+
+// Places all pages of an image that is accepted, whose bss is `bss`, with those of its stack.
+pub fn load(frames: &mut [u8], book: &mut [u64], owner: u64, image: &[u8], bss: VirtRange)
+    requires { ⌜ (length (now frames) ≡ 4096 * length (now book)) × (1 ≤ owner) × (owner < 256) × (imageError (now image) ≡ 0) × (bss ≡ imageBss (now image)) ⌝ }
+    ensures { λ _. ⌜ store (now (frames .exit)) (now (book .exit)) ≡ place (store (now (frames .entry)) (now (book .entry))) owner (pagesOf (pageBytes (fileByte (segmentsOf (now (image .entry))))) (startPieces (now (image .entry)))) ⌝ }
+{
+    let Parsed::Elf(h) = elf::parse(image) else {
+        return;
+    };
+    let top = load_segments(frames, book, owner, image, h, bss);
+    let start = mem::page_up(bss.start);
+    let end = bss.end;
+    let next = pagealloc::place::map_zeroed(frames, book, top, owner, VirtRange { start, end });
+    pagealloc::place::map_zeroed(
+        frames,
+        book,
+        next,
+        owner,
+        VirtRange {
+            start: spec::USTKTOP - spec::USTKSIZE,
+            end: spec::USTKTOP,
+        },
+    );
+}

@@ -1,0 +1,75 @@
+-- `pagealloc::place::free_below` meets its contract. The loop's invariant: the highest free frame below `c` is the highest below `i`.
+use mathlib.Core.Path.{_≡_, refl, sym, ap, _∙_}
+use mathlib.Core.Bool.{Bool}
+use Prim.Native.Nat.{ℕ, _≤_}
+use native.Mathlib.Omega.{arith}
+use denote.Ref.{now}
+use lib.ListN.{getD}
+use borrow.Author.Tests.{eq-eqb, ne-eqb}
+use Rattle.spec.specs.Tests.{_is_}
+use Rattle.spec.specs.Book.{highest}
+use Rattle.pagealloc.specs.Lent.{foundOf}
+use Rattle.pagealloc.proofs.Searches.{highest-here, highest-less, highest-end}
+use Rattle.pagealloc.proofs.place.free_below.Statement.{statement}
+use Rattle.pagealloc.proofs.place.free_below.Tie as tie
+
+abbrev Inv-loop : tie.InvT-loop
+Inv-loop book c i₀ i = (i ≤ c) × (highest (λ k. getD book k 0 is 0) c ≡ highest (λ k. getD book k 0 is 0) i)
+
+abbrev μ-loop : tie.MeasureT-loop
+μ-loop book c i₀ i = i
+
+loop-holds : tie.Need-loop-holds Inv-loop μ-loop
+loop-holds c = (omega arith, refl)
+
+sub-if1 : tie.Need-sub-if1 Inv-loop μ-loop
+sub-if1 c = omega arith
+
+mul-if1 : tie.Need-mul-if1 Inv-loop μ-loop
+mul-if1 c = omega arith
+
+shared-slice-read-if1 : tie.Need-shared-slice-read-if1 Inv-loop μ-loop
+shared-slice-read-if1 c = omega arith
+
+sub-t9 : tie.Need-sub-t9 Inv-loop μ-loop
+sub-t9 c = omega arith
+
+returns : tie.Need-returns Inv-loop μ-loop
+returns c =
+    let l = c .before .before .before .loop in
+    let t : ℕ → Bool = λ k. getD (now (c .before .before .before .before .args .book)) k 0 is 0 in
+    sym (ap foundOf (l .inv .1 ∙ highest-here t (l .i) (omega arith) (eq-eqb _ _ (c .if1 .taken))))
+
+sub-i : tie.Need-sub-i Inv-loop μ-loop
+sub-i c = omega arith
+
+loop-less : tie.Need-loop-less Inv-loop μ-loop
+loop-less c = omega arith
+
+loop-again : tie.Need-loop-again Inv-loop μ-loop
+loop-again c =
+    let l = c .before .before .before .loop in
+    let t : ℕ → Bool = λ k. getD (now (c .before .before .before .before .args .book)) k 0 is 0 in
+    (omega arith, l .inv .1 ∙ highest-less t (l .i) (omega arith) (ne-eqb _ _ (c .if1 .left)))
+
+returns-2 : tie.Need-returns-2 Inv-loop μ-loop
+returns-2 c =
+    let t : ℕ → Bool = λ k. getD (now (c .before .before .args .book)) k 0 is 0 in
+    sym (ap foundOf (c .before .loop .inv .1 ∙ highest-end t (c .before .loop .i) (omega arith)))
+
+pub free-below-spec : {M : Type 1} → statement M
+free-below-spec =
+    tie.close
+    (tie.spec
+    Inv-loop
+    μ-loop
+    loop-holds
+    sub-if1
+    mul-if1
+    shared-slice-read-if1
+    sub-t9
+    returns
+    sub-i
+    loop-less
+    loop-again
+    returns-2)

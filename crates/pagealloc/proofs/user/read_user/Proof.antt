@@ -1,0 +1,150 @@
+-- `pagealloc::user::read_user` meets its contract. The loop's invariant: the first `i` bytes are read, and the others as they were.
+use mathlib.Core.Path.{_≡_, refl, sym, _∙_}
+use mathlib.Core.Option.{some}
+use Prim.Native.Nat.{_+_, _-_, _≤_, _<_}
+use native.Mathlib.Omega.{arith}
+use denote.Ref.{now}
+use lib.ListN.{length, length-take, length-drop}
+use Rattle.spec.specs.Numbers.{pageDown}
+use Rattle.spec.specs.Book.{frameOf}
+use Rattle.spec.specs.Frames.{memOf}
+use Rattle.spec.specs.Access.{bytesAt}
+use Rattle.pagealloc.specs.Lent.{store}
+use Rattle.pagealloc.proofs.Overwrite.{mix, mix-none, mix-all}
+use Rattle.pagealloc.proofs.Chunks.{frame-at, not-missed, length-read, read-turn}
+use borrow.Author.Needs.{needs}
+use Rattle.pagealloc.proofs.user.read_user.Statement.{statement}
+use Rattle.pagealloc.proofs.user.read_user.Tie as tie
+
+abbrev Inv-loop : tie.InvT-loop
+Inv-loop frames book owner addr buf₀ i₀ buf i = (i ≤ length buf) × (length buf ≡ length buf₀) × (buf ≡ mix (bytesAt (memOf (store frames book) owner) addr (length buf₀)) buf₀ i)
+
+abbrev μ-loop : tie.MeasureT-loop
+μ-loop frames book owner addr buf₀ i₀ buf i = length buf - i
+
+-- the frame of the next byte's page
+framed : (c : tie.After-k Inv-loop μ-loop)
+    → (c .k .given .0 .0 < length (now (c .before .before .before .before .before .before .before .before .before .args .book)))
+    × (frameOf (now (c .before .before .before .before .before .before .before .before .before .args .book)) (c .before .before .before .before .before .before .before .before .before .args .owner)
+    (pageDown (c .before .before .before .before .before .before .before .before .before .args .addr + c .before .before .before .before .before .loop .i)) ≡ some (c .k .given .0 .0))
+framed c =
+    let a = c .before .before .before .before .before .before .before .before .before .args in
+    frame-at (now (a .book)) (a .owner) (a .addr + c .before .before .before .before .before .loop .i) (c .before .before .before .page-down .result) (c .k .given .0 .0) (c .before .before .before .page-down .ensures)
+    (sym (c .k .given .1) ∙ c .before .before .frame-of .ensures)
+
+loop-holds : tie.Need-loop-holds Inv-loop μ-loop
+loop-holds c = (omega arith, refl, mix-none _ _)
+
+add-a : tie.Need-add-a Inv-loop μ-loop
+add-a c = omega arith
+
+page-down-requires : tie.Need-page-down-requires Inv-loop μ-loop
+page-down-requires c κs = omega arith
+
+frame-of-requires : tie.Need-frame-of-requires Inv-loop μ-loop
+frame-of-requires c κs = omega arith
+
+enum-known-k : tie.Need-enum-known-k Inv-loop μ-loop
+enum-known-k c = search needs
+
+enum-told : tie.Need-enum-told Inv-loop μ-loop
+enum-told c = search needs
+
+same-length : tie.Need-same-length Inv-loop μ-loop
+same-length c = omega arith
+
+returns : tie.Need-returns Inv-loop μ-loop
+returns c =
+    let start = c .before .before .before .before .before .before .before .before .before in
+    let a = start .args in
+    let l = c .before .before .before .before .before .loop in
+    not-missed (now (a .book)) (a .owner) (a .addr) (length (now (a .buf))) (l .i) _ (start .pre .1) (omega arith) (c .before .before .before .page-down .ensures)
+    (sym (c .enum-told .given .1) ∙ c .before .before .frame-of .ensures)
+
+sub-least : tie.Need-sub-least Inv-loop μ-loop
+sub-least c = omega arith
+
+sub-least-2 : tie.Need-sub-least-2 Inv-loop μ-loop
+sub-least-2 c = omega arith
+
+least-requires : tie.Need-least-requires Inv-loop μ-loop
+least-requires c κs = omega arith
+
+add-e : tie.Need-add-e Inv-loop μ-loop
+add-e c = omega arith
+
+phys-requires : tie.Need-phys-requires Inv-loop μ-loop
+phys-requires c κs =
+    let f = framed (c .before .before) in
+    omega arith
+
+sub-read-phys : tie.Need-sub-read-phys Inv-loop μ-loop
+sub-read-phys c = omega arith
+
+part-read-phys-start : tie.Need-part-read-phys-start Inv-loop μ-loop
+part-read-phys-start c = omega arith
+
+part-read-phys-end : tie.Need-part-read-phys-end Inv-loop μ-loop
+part-read-phys-end c = omega arith
+
+read-phys-requires : tie.Need-read-phys-requires Inv-loop μ-loop
+read-phys-requires c κs =
+    let f = framed (c .before .before .before .before) in
+    simp (length-take, length-drop) (omega (arith, c .before .phys .ensures, c .before .before .least .ensures))
+
+loop-less : tie.Need-loop-less Inv-loop μ-loop
+loop-less c = omega arith
+
+loop-again : tie.Need-loop-again Inv-loop μ-loop
+loop-again c =
+    let read = c .before .before in
+    let k = read .before .before .before .before .before in
+    let f = framed k in
+    let l = k .before .before .before .before .before .loop in
+    let start = k .before .before .before .before .before .before .before .before .before in
+    let a = start .args in
+    let n = read .before .before .before .least in
+    let e = n .ensures in (
+      omega arith,
+      omega arith,
+      read-turn (store (now (a .frames)) (now (a .book))) (a .owner) (a .addr) (l .i) (n .result) (k .k .given .0 .0) _ (l .buf) (now (a .buf)) _ (l .inv .1) (l .inv .2) (omega arith) (f .1) (omega (arith, start .pre .0 .0, f .0)) (omega arith)
+          (read .before .before .phys .ensures) (read .read-phys .ensures),
+    )
+
+same-length-2 : tie.Need-same-length-2 Inv-loop μ-loop
+same-length-2 c = omega arith
+
+returns-2 : tie.Need-returns-2 Inv-loop μ-loop
+returns-2 c =
+    let a = c .before .before .before .before .before .args in
+    let l = c .before .loop in
+    let s = length-read (store (now (a .frames)) (now (a .book))) (a .owner) (a .addr) (length (now (a .buf))) in
+    l .inv .2 ∙ mix-all _ _ _ (omega arith) (omega arith)
+
+pub read-user-spec : {M : Type 1} → statement M
+read-user-spec =
+    tie.close
+    (tie.spec
+    Inv-loop
+    μ-loop
+    loop-holds
+    add-a
+    page-down-requires
+    frame-of-requires
+    enum-known-k
+    enum-told
+    same-length
+    returns
+    sub-least
+    sub-least-2
+    least-requires
+    add-e
+    phys-requires
+    sub-read-phys
+    part-read-phys-start
+    part-read-phys-end
+    read-phys-requires
+    loop-less
+    loop-again
+    same-length-2
+    returns-2)
