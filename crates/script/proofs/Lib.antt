@@ -1,0 +1,4 @@
+pub mod ByteTable
+pub mod Decimals
+pub mod Pairs
+pub mod Splits
