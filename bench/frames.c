@@ -97,8 +97,8 @@ int main(void) {
         printf("check of %4zu words, %4zu used: %s %8.1f ns, %.2f ns a word, noise %.0f %%\n", n, used, ok ? "sound" : "TORN", a, a / n, sa);
         MEASURE(a, sa, 20000, (void)measured_free(book, n));
         printf("free count of %4zu words:             %8.1f ns, noise %.0f %%\n", n, a, sa);
-        MEASURE(a, sa, 20000, (void)measured_frame(book, n, 1, 65536));
-        printf("frame of a page by search, %4zu words: %7.1f ns, noise %.0f %%\n", n, a, sa);
+        MEASURE(a, sa, 20000, (void)measured_frame(book, n, i ? 16 : 1, TOP - 4096));
+        printf("last frame by search of %4zu words  : %7.1f ns, noise %.0f %%\n", n, a, sa);
     }
     return 0;
 }
