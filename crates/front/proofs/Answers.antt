@@ -2,15 +2,18 @@
 use Prim.Native.Nat.{ℕ}
 use mathlib.Core.Path.{_≡_, refl, sym, ap, _∙_}
 use mathlib.Core.Bool.{Bool, true, false, not, _&&_, _||_}
-use mathlib.Core.List.{List}
+use mathlib.Core.List.{List, [], _∷_}
 use lib.Dec.{eqb}
-use Rattle.spec.specs.Tests.{_is_, _isnt_, _⇒_else_, _orElse_}
-use Rattle.spec.specs.Book.{valid, free}
+use Rattle.spec.specs.Tests.{_is_, _isnt_, _⇒_else_, _orElse_, same}
+use Rattle.spec.specs.Book.{valid, free, sameSegment, used, procAt}
 use Rattle.spec.specs.Frames.{sized}
 use Rattle.spec.specs.Machine.{Ask, start, fork, Call, Kind, plain, kind, Reply, outcome, refused, refuse, lengthsFit, listFits, numbered, living, unclaimed, judge, weigh}
 use Rattle.spec.specs.World.{State, sound, taken, view, answer, leave, after, Does}
+use Rattle.spec.specs.declared.UserSegment.{UserSegment}
+use Rattle.spec.proofs.Bools.{and-test}
 use Rattle.spec.proofs.Chain.{here, past, isnt-holds-through, isnt-fails-through}
 use Rattle.spec.proofs.Taken.{refused-keeps}
+use Rattle.laws.proofs.Record.{is-same}
 use Rattle.front.specs.Numbers.{call, numberError, plainError, beginError, forkError}
 
 -- a refusal where there is a number, and the rest where there is none
@@ -65,6 +68,37 @@ answer-start s n image name bytes lengths =
     ∙ ap (orRefuse (numberError s n (lengthsFit q)) q) (step (not (taken s n)) 5 0 q w w refl refl)
     ∙ join (numberError s n (lengthsFit q)) (not (not (taken s n)) ⇒ 5 else 0) q w
 
+-- 3 of two numbers
+two : (a b : Bool) (q : Ask) (x : Reply) → (not (a && b) ⇒ refuse 3 q else x) ≡ (not a ⇒ refuse 3 q else not b ⇒ refuse 3 q else x)
+two true b q x = refl
+two false b q x = refl
+
+-- a list is itself
+same-self : (gs : List UserSegment) → same sameSegment gs gs ≡ true
+same-self [] = refl
+same-self (g ∷ gs) = and-test (sameSegment g g) (same sameSegment gs gs) (is-same g) (same-self gs)
+
+or-true : (a b : Bool) → b ≡ true → (a || b) ≡ true
+or-true true b e = refl
+or-true false b e = e
+
+pub answer-fork : (s : State) (n child : ℕ)
+    → let q : Ask = fork child (used (procAt (s .procs) n .segments)) in
+    answer s (call n q) ≡ orRefuse (forkError s n child) q (weigh (view s n) (free (s .store .book)) q)
+unfolding answer judge numberError forkError
+answer-fork s n child =
+    let gs : List UserSegment = used (procAt (s .procs) n .segments) in
+    let q : Ask = fork child gs in
+    let w : Reply = weigh (view s n) (free (s .store .book)) q in
+    let x₅ : Reply = not (not (taken s child)) ⇒ refuse 5 q else w in
+    let x₄ : Reply = not (taken s n) ⇒ refuse 4 q else x₅ in
+    let x₃ : Reply = not (valid child) ⇒ refuse 3 q else x₄ in
+    again (sized (s .store)) true _ q _ x₃
+    (λ f. step (sound s) 2 _ q _ x₃ refl
+    (skip (not (valid n) || same sameSegment gs gs) _ (refuse 2 q) (or-true (not (valid n)) _ (same-self gs)) ∙ two (valid n) (valid child) q x₄ ∙ step (valid n) 3 0 q _ x₃ refl refl))
+    ∙ ap (orRefuse (numberError s n true) q) (step (valid child) 3 _ q _ w refl (step (taken s n) 4 _ q _ w refl (step (not (taken s child)) 5 0 q w w refl refl)))
+    ∙ join (numberError s n true) _ q w
+
 -- ---- what a call does, from what was found first
 
 -- a call that is refused
@@ -92,3 +126,14 @@ module _ (s : State) (n : ℕ) (q : Ask) (e : ℕ) (k : kind q ≡ plain) (first
 
   pub plain-goes : e ≡ 0 → (t : State) (r : Reply) → weigh (view s n) (free (s .store .book)) q ≡ r → t ≡ leave s (call n q) (outcome r) → Does s (call n q) t r
   plain-goes = goes-on s n q e _ _ (answer-plain s n q k) first
+
+-- of a fork
+module _ (s : State) (n child e : ℕ) (first : e ≡ forkError s n child) where
+  abbrev asked : Ask
+  asked = fork child (used (procAt (s .procs) n .segments))
+
+  pub fork-refused : (e ≡ 0 → ⊥) → Does s (call n asked) s (refuse e asked)
+  fork-refused = refused-first s n asked e _ _ (answer-fork s n child) first
+
+  pub fork-goes : e ≡ 0 → (t : State) (r : Reply) → weigh (view s n) (free (s .store .book)) asked ≡ r → t ≡ leave s (call n asked) (outcome r) → Does s (call n asked) t r
+  fork-goes = goes-on s n asked e _ _ (answer-fork s n child) first

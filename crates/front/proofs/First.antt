@@ -1,7 +1,7 @@
 -- The numbers that come first: the one that is given, and what none tells.
 use Prim.Native.Nat.{ℕ, _*_, _≤_, _<_}
 use native.Mathlib.Omega.{arith}
-use mathlib.Core.Path.{_≡_, refl, sym, _∙_}
+use mathlib.Core.Path.{_≡_, refl, sym, ap, _∙_}
 use mathlib.Core.Bool.{Bool, true, false, not, _&&_}
 use mathlib.Core.List.{List}
 use lib.Dec.{eqb}
@@ -11,7 +11,7 @@ use Rattle.spec.specs.Tests.{_is_, _below_, _⇒_else_, _orElse_}
 use Rattle.spec.specs.Book.{valid}
 use Rattle.spec.specs.Frames.{sized}
 use Rattle.spec.specs.World.{State, sound, taken}
-use Rattle.spec.proofs.Bools.{both, split, within-means}
+use Rattle.spec.proofs.Bools.{both, split, clash, not-true, within-means}
 use Rattle.spec.proofs.Chain.{here, past, is-through, isnt-through, not-holds, not-fails}
 use Rattle.pagealloc.specs.Lent.{store}
 use Rattle.front.specs.Numbers.{numberError, plainError, beginError, forkError}
@@ -102,3 +102,7 @@ fork-none s n child e =
     let p4 = none-here (taken s n) 4 _ refl (p3 .1) in
     let p5 = none-here (not (taken s child)) 5 0 refl (p4 .1) in
     record { passed = number-none s n true (p .0); second = p3 .0; parent = p4 .0; fresh = p5 .0 }
+
+-- whose numbers differ
+pub fork-other : (s : State) (n child : ℕ) → Forks s n child → n ≡ child → ⊥
+fork-other s n child f e = clash (taken s child) (ap (taken s) (sym e) ∙ f .parent) (not-true (taken s child) (f .fresh))
