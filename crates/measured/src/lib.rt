@@ -1,6 +1,7 @@
 // Exported functions for bench/: the loops over frames and book, and the check of the book, as C calls them. Each tests what the
 // function that it calls asks of its caller.
 
+use elf::Parsed;
 use spec::Found;
 use spec::Procs;
 
@@ -45,5 +46,14 @@ pub extern "C" fn measured_sound(book: &[u64], procs: Procs) -> bool {
         sound::sound(book, procs)
     } else {
         false
+    }
+}
+
+// The number that an image is refused with by the ELF reader, or 0.
+#[no_mangle]
+pub extern "C" fn measured_parse(image: &[u8]) -> u64 {
+    match elf::parse(image) {
+        Parsed::Elf(_) => 0,
+        Parsed::Refused(e) => elf::error_number(e),
     }
 }
