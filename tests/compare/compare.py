@@ -28,7 +28,7 @@ from model import bytes_of  # noqa: E402
 
 CALLS_A_HISTORY = 40
 HISTORIES_A_RUN = 50
-TIME_LIMIT = 120
+TIME_LIMIT = 600
 TEN = ['start', 'replace', 'push', 'break', 'fork', 'end', 'range', 'from', 'to', 'string']
 COUNTED = TEN + ['rule', 'name']
 
@@ -39,8 +39,8 @@ def run(command, data):
         p = subprocess.run(shlex.split(command), input=data, capture_output=True, cwd=ROOT, timeout=TIME_LIMIT,
                            close_fds=False)
     except subprocess.TimeoutExpired:
-        return b'', 'took over %d s' % TIME_LIMIT
-    failed = '' if p.returncode == 0 else 'status %d %s' % (p.returncode, p.stderr.decode(errors='replace').strip())
+        return b'', '(took over %d s)' % TIME_LIMIT
+    failed = '' if p.returncode == 0 else '(status %d) %s' % (p.returncode, p.stderr.decode(errors='replace').strip())
     return p.stdout, failed
 
 
@@ -71,6 +71,11 @@ def difference(lines, a, b):
     return x, y, None
 
 
+def both(x, y, at):
+    """Both answers at a place."""
+    return [got[at] if at < len(got) else b'(no answer)' for got in (x, y)]
+
+
 def cut(b, n=200):
     text = b.decode('latin-1')
     return text if len(text) <= n else '%s .. (%d bytes)' % (text[:n], len(text))
@@ -87,20 +92,20 @@ def smallest(lines, a, b):
     return lines
 
 
-def report(lines, a, b, where):
-    """Print the first difference with the lines around it, and a smaller script that shows it."""
+def report(lines, a, b, where, first):
+    """Print the first difference with the lines around it, and a smaller script that shows it.
+    `first` has both answers where they differed in the run that found it."""
     x, y, at = difference(lines, a, b)
     if at is None:
-        print('%s: differed once, and does not again' % where)
+        print('%s: differed in a longer run, and not by itself:\n    A %s\n    B %s' % (where, *map(cut, first)))
         return
     calls = asked(lines)
     print('%s: first difference at call %d' % (where, at + 1))
     for i in range(max(0, at - 4), min(len(calls), at + 3)):
         print('%s %s' % ('>' if i == at else ' ', cut(calls[i])))
-        for name, got in (('A', x), ('B', y)):
-            print('    %s %s' % (name, cut(got[i]) if i < len(got) else '(no answer)'))
+        print('    A %s\n    B %s' % tuple(map(cut, both(x, y, i))))
     if at >= len(calls):
-        print('    A %s\n    B %s' % tuple(cut(g[at]) if at < len(g) else '(nothing more)' for g in (x, y)))
+        print('    A %s\n    B %s' % tuple(map(cut, both(x, y, at))))
     small = smallest(calls[:at + 1], a, b)
     file = os.path.join(ROOT, 'target', 'compare-difference.txt')
     os.makedirs(os.path.dirname(file), exist_ok=True)
@@ -146,15 +151,16 @@ def compare_random(seed, count, a, b, small, explain=True):
     while sum(total.calls.values()) < count:
         many = [history(seed, k + i, small) for i in range(HISTORIES_A_RUN)]
         lines = [line for h in many for line in h]
-        x, _, at = difference(lines, a, b)
+        x, y, at = difference(lines, a, b)
         if at is not None and not explain:
             return False
         if at is not None:
             # The history that differs, by itself.
+            first = both(x, y, at)
             for i, h in enumerate(many):
                 at -= len(asked(h))
                 if at < 0 or i == len(many) - 1:
-                    report(h, a, b, 'seed %s, history %d' % (seed, k + i))
+                    report(h, a, b, 'seed %s, history %d' % (seed, k + i), first)
                     return False
         total.add(lines, x)
         k += HISTORIES_A_RUN
@@ -170,11 +176,11 @@ def compare_directed(a, b, files, explain=True):
     for file in files:
         with open(file, 'rb') as f:
             lines = f.read().split(b'\n')
-        x, _, at = difference(lines, a, b)
+        x, y, at = difference(lines, a, b)
         if at is not None and not explain:
             return False
         if at is not None:
-            report(lines, a, b, os.path.relpath(file, ROOT))
+            report(lines, a, b, os.path.relpath(file, ROOT), both(x, y, at))
             fine = False
         total.add(lines, x)
     if fine:
