@@ -13,7 +13,7 @@ ghost use Rattle.spec.specs.Machine.{break, plainly};
 ghost use Rattle.spec.specs.World.{brk, Does};
 ghost use Rattle.pagealloc.specs.Lent.{store};
 ghost use Rattle.front.specs.Numbers.{stateOf, call};
-use crate::left::Left;
+use front::left::Left;
 use spec::Answer;
 use spec::Procs;
 

@@ -7,7 +7,7 @@ ghost use Rattle.spec.specs.Machine.{fork, plainly};
 ghost use Rattle.spec.specs.World.{Does};
 ghost use Rattle.pagealloc.specs.Lent.{store};
 ghost use Rattle.front.specs.Numbers.{stateOf, call, forkError};
-use crate::left::Left;
+use front::left::Left;
 use spec::Answer;
 use spec::Procs;
 

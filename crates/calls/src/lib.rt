@@ -2,11 +2,6 @@
 // them, and answers. No caller has anything to check: no call has a `requires`. What a call leaves and answers is what `after` and
 // `answer` of the specification say, refusals too.
 
-// What a call leaves.
-mod left;
-
-pub use left::Left;
-
 // The calls.
 mod call_brk;
 mod call_copy_from_user;
