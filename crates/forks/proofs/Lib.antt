@@ -1,0 +1,2 @@
+-- Laws of a lent list, one file for each idea.
+pub mod Listed

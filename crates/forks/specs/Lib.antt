@@ -1,0 +1,2 @@
+-- What the definitions ask of a lent list, place by place.
+pub mod Lent

@@ -1,0 +1,1 @@
+// Fork's page copy, over a lent list.
