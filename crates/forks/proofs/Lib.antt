@@ -1,2 +1,5 @@
 -- Laws of a lent list, one file for each idea.
+pub mod Again
+pub mod Copies
 pub mod Listed
+pub mod Loans
