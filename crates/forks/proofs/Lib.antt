@@ -1,6 +1,7 @@
 -- Laws of a lent list, one file for each idea.
 pub mod Again
 pub mod Copies
+pub mod Finished
 pub mod Judged
 pub mod Listed
 pub mod Loans

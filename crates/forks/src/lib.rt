@@ -99,3 +99,41 @@ fn finish(
         answer: Answer::Done,
     }
 }
+
+// A fork that nothing forbids: every page now, segments in the list's order, then the bss; the child takes record and name.
+fn forked(
+    frames: &mut [u8],
+    book: &mut [u64],
+    procs: Procs,
+    number: u64,
+    child: u64,
+    segments: &[UserSegment],
+) -> Left
+    requires { ⌜ (forkError (stateOf (now frames) (now book) procs) number child ≡ 0) × (same sameSegment (now segments) (used (procAt procs number .segments)) ≡ true) ⌝ }
+    ensures { λ r. ⌜ (stateOf (now (frames .exit)) (now (book .exit)) (r .procs) ≡ copy (stateOf (now (frames .entry)) (now (book .entry)) procs) number child (procAt procs number)) × (r .answer ≡ Done) ⌝ }
+{
+    let top = copy::copy_segments(frames, book, number, child, segments);
+    finish(frames, book, top, procs, number, child)
+}
+
+// Forks process `number` as `child`, whose memory and record are its parent's from now on its own. `segments` lists the parent's
+// recorded segments. Refused with 1 to 5, a list unlike the record with 2, or, if the free frames don't hold a copy, with 33, it
+// changes nothing.
+pub fn fork_list(
+    frames: &mut [u8],
+    book: &mut [u64],
+    procs: Procs,
+    number: u64,
+    child: u64,
+    segments: &[UserSegment],
+) -> Left
+    ensures { λ r. ⌜ Does (stateOf (now (frames .entry)) (now (book .entry)) procs) (call number (fork child (now (segments .entry)))) (stateOf (now (frames .exit)) (now (book .exit)) (r .procs)) (plainly (r .answer)) ⌝ }
+{
+    let p = recorded(procs, number);
+    let alike = list::same_list(segments, p);
+    let e = fork_number(frames, book, procs, number, child, alike);
+    if e != 0 {
+        return refused(procs, e);
+    }
+    forked(frames, book, procs, number, child, segments)
+}
