@@ -1,0 +1,2 @@
+-- Laws of a header table.
+pub mod Tables
