@@ -1,2 +1,3 @@
--- Laws of a header table.
+-- Laws of a header table, one file for each idea.
+pub mod Indexed
 pub mod Tables
