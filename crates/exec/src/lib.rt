@@ -103,10 +103,10 @@ fn layout(image: &[u8], h: Elf) -> Fit
         },
     };
     let n = h.phnum;
-    let mut i = 0;
-    while i < n {
-        let f = lay_header(image, h, i, seen);
-        i += 1;
+    let mut k = 0;
+    while k < n {
+        let f = lay_header(image, h, k, seen);
+        k += 1;
         match f {
             Fit::Refused => {
                 return Fit::Refused;
@@ -191,10 +191,10 @@ fn segments(image: &[u8], h: Elf, bss: VirtRange) -> Recorded
     let segments = [zero; 16];
     let mut seen = Recorded { segments, count: 0 };
     let n = h.phnum;
-    let mut i = 0;
-    while i < n {
-        seen = push_header(image, h, i, bss, seen);
-        i += 1;
+    let mut k = 0;
+    while k < n {
+        seen = push_header(image, h, k, bss, seen);
+        k += 1;
     }
     seen
 }

@@ -22,10 +22,10 @@ abbrev Left : List ℕ → Laid → ℕ → ℕ → Type 0
 Left image seen at k = Ahead image at k × (fits nothing (segmentsOf image) ≡ fits seen (segs image at k))
 
 abbrev Inv-loop : tie.InvT-loop
-Inv-loop image h seen₀ n i₀ seen i = (n ≡ h .phnum) × (i ≤ h .phnum) × Left image seen (h .phoff + 56 * i) (h .phnum - i)
+Inv-loop image h seen₀ n k₀ seen k = (n ≡ h .phnum) × (k ≤ h .phnum) × Left image seen (h .phoff + 56 * k) (h .phnum - k)
 
 abbrev μ-loop : tie.MeasureT-loop
-μ-loop image h seen₀ n i₀ seen i = h .phnum - i
+μ-loop image h seen₀ n k₀ seen k = h .phnum - k
 
 loop-holds : tie.Need-loop-holds Inv-loop μ-loop
 loop-holds c =
@@ -36,42 +36,42 @@ lay-header-requires : tie.Need-lay-header-requires Inv-loop μ-loop
 lay-header-requires c κs =
     let a = c .before .before .before .args in
     let l = c .before .loop in
-    let k : 0 < a .h .phnum - l .i = omega (arith, c .loop-test .taken, l .inv .0) in
-    ((omega (arith, l .inv .1, l .inv .2 .0 .room), omega (arith, k)), ahead-here _ (a .h .phoff + 56 * l .i) (a .h .phnum - l .i) k (l .inv .2 .0))
+    let more : 0 < a .h .phnum - l .k = omega (arith, c .loop-test .taken, l .inv .0) in
+    ((omega (arith, l .inv .1, l .inv .2 .0 .room), omega (arith, more)), ahead-here _ (a .h .phoff + 56 * l .k) (a .h .phnum - l .k) more (l .inv .2 .0))
 
 -- a turn, whatever the segment comes to
 on : (c : tie.After-lay-header Inv-loop μ-loop) (f : Fit) → c .lay-header .result ≡ f
     → let a = c .before .before .before .before .args in
     let l = c .before .before .loop in
-    (0 < a .h .phnum - l .i) × (fits nothing (segmentsOf (now (a .image))) ≡ then f (segs (now (a .image)) (a .h .phoff + 56 * l .i + 56) (a .h .phnum - l .i - 1)))
+    (0 < a .h .phnum - l .k) × (fits nothing (segmentsOf (now (a .image))) ≡ then f (segs (now (a .image)) (a .h .phoff + 56 * l .k + 56) (a .h .phnum - l .k - 1)))
 on c f e =
     let a = c .before .before .before .before .args in
     let l = c .before .before .loop in
-    let k : 0 < a .h .phnum - l .i = omega (arith, c .before .loop-test .taken, l .inv .0) in
-    (k, l .inv .2 .1 ∙ fits-some (now (a .image)) (a .h .phoff + 56 * l .i) (a .h .phnum - l .i) (l .seen) f k (l .inv .2 .0) (sym e ∙ c .lay-header .ensures))
+    let more : 0 < a .h .phnum - l .k = omega (arith, c .before .loop-test .taken, l .inv .0) in
+    (more, l .inv .2 .1 ∙ fits-some (now (a .image)) (a .h .phoff + 56 * l .k) (a .h .phnum - l .k) (l .seen) f more (l .inv .2 .0) (sym e ∙ c .lay-header .ensures))
 
-add-i : tie.Need-add-i Inv-loop μ-loop
-add-i c = omega (arith, c .before .before .loop .inv .2 .0 .room)
+add-k : tie.Need-add-k Inv-loop μ-loop
+add-k c = omega (arith, c .before .before .loop .inv .2 .0 .room)
 
 returns : tie.Need-returns Inv-loop μ-loop
 returns c = sym (on (c .before .before) _ (c .enum-told .given .1) .1)
 
 loop-less : tie.Need-loop-less Inv-loop μ-loop
-loop-less c = let k = on (c .before .before .before) _ (c .before .f .given .1) .0 in omega (arith, k)
+loop-less c = let more = on (c .before .before .before) _ (c .before .f .given .1) .0 in omega (arith, more)
 
 loop-again : tie.Need-loop-again Inv-loop μ-loop
 loop-again c =
     let l = c .before .before .before .before .before .loop in
     let a = c .before .before .before .before .before .before .before .args in
     let o = on (c .before .before .before) _ (c .before .f .given .1) in
-    let k = o .0 in
-    (l .inv .0, omega (arith, k), at-next (Left (now (a .image)) (c .before .f .given .0 .0)) (a .h .phoff) (a .h .phnum) (l .i) (ahead-next _ (a .h .phoff + 56 * l .i) (a .h .phnum - l .i) k (l .inv .2 .0), o .1))
+    let more = o .0 in
+    (l .inv .0, omega (arith, more), at-next (Left (now (a .image)) (c .before .f .given .0 .0)) (a .h .phoff) (a .h .phnum) (l .k) (ahead-next _ (a .h .phoff + 56 * l .k) (a .h .phnum - l .k) more (l .inv .2 .0), o .1))
 
 returns-2 : tie.Need-returns-2 Inv-loop μ-loop
 returns-2 c =
     let l = c .before .loop in
     let a = c .before .before .before .args in
-    sym (l .inv .2 .1 ∙ fits-end _ (a .h .phoff + 56 * l .i) (a .h .phnum - l .i) (l .seen) (omega (arith, c .loop-test .left, l .inv .0)))
+    sym (l .inv .2 .1 ∙ fits-end _ (a .h .phoff + 56 * l .k) (a .h .phnum - l .k) (l .seen) (omega (arith, c .loop-test .left, l .inv .0)))
 
 pub layout-spec : {M : Type 1} → statement M
-layout-spec = tie.close (tie.spec Inv-loop μ-loop loop-holds lay-header-requires add-i (λ c. search needs) returns (λ c. search needs) loop-less loop-again returns-2)
+layout-spec = tie.close (tie.spec Inv-loop μ-loop loop-holds lay-header-requires add-k (λ c. search needs) returns (λ c. search needs) loop-less loop-again returns-2)
