@@ -1,12 +1,12 @@
 -- A header read from the table is the header read from the image.
 use Prim.Native.Nat.{ℕ, zero, suc, _+_, _*_, _≤_, _<_}
 use native.Mathlib.Omega.{arith}
-use mathlib.Core.Path.{_≡_, refl, sym, ap, ap₂, _∙_}
+use mathlib.Core.Path.{_≡_, refl, ap, ap₂, _∙_}
 use mathlib.Core.List.{List}
-use lib.ListN.{length, getD, take, drop, length-drop}
+use lib.ListN.{length, take, drop, length-drop}
 use lib.Seq.{getD-take, getD-drop, length-take-le}
 use Rattle.spec.specs.Numbers.{le}
-use Rattle.spec.specs.Elf.{Phdr, phdrAt}
+use Rattle.spec.specs.Elf.{phdrAt}
 
 -- a number in a part of the image
 le-part : (k n o : ℕ) (image : List ℕ) (at : ℕ) → at + k ≤ n → le k (take n (drop o image)) at ≡ le k image (o + at)

@@ -6,10 +6,10 @@ use mathlib.Core.List.{List}
 use lib.Dec.{eqb}
 use native.Mathlib.Omega.{arith}
 use borrow.Author.Tests.{eqb-true}
-use Rattle.spec.specs.Tests.{_is_, _isnt_, _above_, _⇒_else_, _orElse_, same}
+use Rattle.spec.specs.Tests.{_isnt_, _above_, _⇒_else_, _orElse_, same}
 use Rattle.spec.specs.Book.{valid, free, sameSegment, used, procAt, zeroProc}
 use Rattle.spec.specs.Frames.{sized}
-use Rattle.spec.specs.Machine.{Ask, fork, Reply, plainly, outcome, refuse, judge, weigh, own}
+use Rattle.spec.specs.Machine.{Ask, fork, Reply, plainly, refuse, judge, weigh, own}
 use Rattle.spec.specs.World.{State, sound, taken, view, copy, answer, Does}
 use Rattle.spec.specs.declared.UserSegment.{UserSegment}
 use Rattle.spec.specs.declared.Answer.{Answer}

@@ -1,17 +1,16 @@
 -- A fork that nothing forbids: its list's pages, then the bss's, are the pages that the specification places.
-use Prim.Native.Nat.{ℕ, zero, suc, _+_, _*_, _-_, _%_, _^_, _≤_, _<_}
+use Prim.Native.Nat.{ℕ, zero, suc, _+_, _*_, _-_, _^_, _≤_, _<_}
 use native.Mathlib.Omega.{arith}
-use native.Mathlib.Nat.{not-suc-le-zero}
 use mathlib.Core.Path.{_≡_, refl, sym, ap, ap₂, subst, _∙_}
-use mathlib.Core.Bool.{Bool, true, false}
+use mathlib.Core.Bool.{true, false}
 use mathlib.Core.List.{List, [], _∷_, _++_}
 use lib.ListN.{length, getD, take}
 use lib.Seq.{take-all}
-use Rattle.spec.specs.Tests.{same, _⇒_else_}
+use Rattle.spec.specs.Tests.{same}
 use Rattle.spec.specs.Numbers.{pageUp}
-use Rattle.spec.specs.Book.{valid, sameSegment, unused, used, zeroSegment, bssSegment, procAt, piecesOf}
+use Rattle.spec.specs.Book.{valid, sameSegment, unused, used, zeroSegment, bssSegment, procAt}
 use Rattle.spec.specs.Sound.{Sound, Shape}
-use Rattle.spec.specs.Frames.{Store, memOf}
+use Rattle.spec.specs.Frames.{Store}
 use Rattle.spec.specs.World.{State, setProc, copy}
 use Rattle.spec.specs.declared.UserSegment.{UserSegment}
 use Rattle.spec.specs.declared.Procs.{Procs}
@@ -51,9 +50,11 @@ copied-up-to m number child gs fits small other can zero h = (m, copied-none m n
 copied-up-to m number child gs fits small other can (suc i) h =
     let r = copied-up-to m number child gs fits small other can i (omega (arith, h)) in
     let s : i + 1 ≡ suc i = omega arith in
-    let t = copiesOf (r .0) number child (getD gs i zeroSegment ∷ []) in
-    (t, subst (Copied m t number child) (sym (take-more gs i h) ∙ ap (λ (k : ℕ). take k gs) s)
-    (copied-more m (r .0) t number child (take i gs) (getD gs i zeroSegment) fits small other (r .1) (as-copyable (m .book) number _ (can i h)) refl))
+    let t = copiesOf (r .0) number child (getD gs i zeroSegment ∷ []) in (
+      t,
+      subst (Copied m t number child) (sym (take-more gs i h) ∙ ap (λ (k : ℕ). take k gs) s)
+          (copied-more m (r .0) t number child (take i gs) (getD gs i zeroSegment) fits small other (r .1) (as-copyable (m .book) number _ (can i h)) refl),
+    )
 
 pub copied-all : (m t : Store) (number child : ℕ) (gs : List UserSegment) → Fits m → child < 256 → (number ≡ child → ⊥) → ((i : ℕ) → i < length gs → Copyable (m .book) number (getD gs i zeroSegment))
     → t ≡ copiesOf m number child gs → Copied m t number child gs

@@ -1,10 +1,10 @@
 -- The number that a fork with a lent list is refused with, as it is found.
 use Prim.Native.Nat.{ℕ, _≤_, _<_}
-use mathlib.Core.Path.{_≡_, refl, sym, ap, _∙_}
+use mathlib.Core.Path.{_≡_, refl, sym, _∙_}
 use mathlib.Core.Bool.{Bool, true, false, not, _&&_}
 use lib.Dec.{eqb}
 use borrow.Author.Tests.{lt-ltb, le-ltb}
-use Rattle.spec.specs.Tests.{_isnt_, _above_, _⇒_else_, _orElse_}
+use Rattle.spec.specs.Tests.{_isnt_}
 use Rattle.spec.specs.Book.{valid, free, zeroProc, procAt}
 use Rattle.spec.specs.Machine.{own}
 use Rattle.spec.specs.World.{State, view}

@@ -18,7 +18,7 @@ use prog.Wp.{Heap}
 use ghost.Atoms.{Atoms}
 use contract.Monad.{fact, factI}
 use denote.Triple.Walked.{needs}
-use types.Kit.{Goal, prop, Soaks, Seq, Step, step, Given, Item, ‵, raw, _⊛_, some, later, _$_, _∵_, !, qed, move, drop, use0, use1, use2, use3, split, pick, fsplit, fjoin, feqI, await, done}
+use types.Kit.{Goal, prop, Soaks, Seq, Step, step, Given, Item, ‵, raw, _⊛_, some, later, _$_, _∵_, !, qed, move, drop, use0, use2, use3, split, pick, fsplit, fjoin, feqI, await, done}
 use types.Tokens.{lft-new, lft-end}
 use denote.RattleType.{RattleType}
 use denote.Ref.{RefT}

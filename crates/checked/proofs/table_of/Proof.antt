@@ -1,5 +1,4 @@
 -- `table_of` meets its contract: the headers' part of the image.
-use native.Mathlib.Omega.{arith}
 use borrow.Author.Needs.{needs}
 use Rattle.checked.proofs.table_of.Statement.{statement}
 use Rattle.checked.proofs.table_of.Tie as tie

@@ -1,8 +1,7 @@
 -- `finish` meets its contract: the bss is copied as a segment is, and the child's record is the parent's.
-use Prim.Native.Nat.{ℕ, _≤_, _<_}
 use native.Mathlib.Omega.{arith}
-use mathlib.Core.Path.{_≡_, refl, sym, ap, subst, _∙_}
-use mathlib.Core.List.{List, [], _∷_}
+use mathlib.Core.Path.{_≡_, sym, ap, subst, _∙_}
+use mathlib.Core.List.{[], _∷_}
 use denote.Ref.{now}
 use borrow.Author.Needs.{needs}
 use Rattle.spec.specs.Book.{bssSegment, procAt}
@@ -53,9 +52,10 @@ returns : tie.Need-returns
 returns c =
     let s = c .before .before .before .before .before .copy-segment in
     let b = c .before .before .before .before .before .before .before .before in
-    let a = b .before .before .before .before .before .args in
-    (s .ensures .0 ∙ ap (λ (g : UserSegment). copiesOf (store (now (a .frames)) (now (a .book))) (a .number) (a .child) (g ∷ [])) (bss-is b),
-    ap (λ (ps : Procs). done ps) (c .with-proc .ensures ∙ ap (setProc (a .procs) (a .child)) (b .before .before .proc-at .ensures)))
+    let a = b .before .before .before .before .before .args in (
+      s .ensures .0 ∙ ap (λ (g : UserSegment). copiesOf (store (now (a .frames)) (now (a .book))) (a .number) (a .child) (g ∷ [])) (bss-is b),
+      ap (λ (ps : Procs). done ps) (c .with-proc .ensures ∙ ap (setProc (a .procs) (a .child)) (b .before .before .proc-at .ensures)),
+    )
 
 pub finish-spec : {M : Type 1} → statement M
 finish-spec = tie.close (tie.spec proc-at-requires bss-segment-requires copy-segment-requires with-proc-requires same-length same-length-2 returns)

@@ -1,7 +1,6 @@
 -- `fork_number` meets its contract: the numbers that come first, the list's 2 among them, then the parent's pages are counted.
-use Prim.Native.Nat.{ℕ, _≤_, _<_}
 use native.Mathlib.Omega.{arith}
-use mathlib.Core.Path.{_≡_, refl, sym, ap, _∙_}
+use mathlib.Core.Path.{_≡_, sym, ap, _∙_}
 use mathlib.Core.Bool.{true}
 use mathlib.Core.List.{List, [], _∷_, _++_}
 use denote.Ref.{now}

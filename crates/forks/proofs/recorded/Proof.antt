@@ -1,18 +1,9 @@
-use mathlib.Core.Path.{_≡_, refl, sym, ap, _∙_}
-use Prim.Native.Nat.{ℕ, _+_, _-_, _*_, _≤_, _<_}
-use native.Mathlib.Omega.{arith}
-use mathlib.Core.Logic.{⊎-elim}
-use denote.Ref.{now}
-use lib.ListN.{length}
+use mathlib.Core.Path.{sym, _∙_}
+use Prim.Native.Nat.{_-_}
 use borrow.Author.Needs.{needs}
 use Rattle.forks.proofs.Judged.{un-not, record-none, record-some}
 use Rattle.forks.proofs.recorded.Statement.{statement}
 use Rattle.forks.proofs.recorded.Tie as tie
-use Rattle.forks.proofs.recorded.Reads as reads
-use Rattle.forks.proofs.recorded.Lts as lts
-use Rattle.front.proofs.record.is_number.Reads as is-number-reads
-use Rattle.front.proofs.record.proc_at.Reads as proc-at-reads
-use Rattle.front.proofs.record.zero_proc.Reads as zero-proc-reads
 
 -- src/lib.rt:38:9
 is-number-requires : tie.Need-is-number-requires

@@ -1,20 +1,16 @@
 -- `load::load_header` meets its contract: a header that is skipped places nothing, and any other its segment's pages.
-use mathlib.Core.Path.{_≡_, refl, sym, ap, ap₂, _∙_}
+use mathlib.Core.Path.{refl, sym, ap, _∙_}
 use mathlib.Core.List.{List, [], _∷_}
-use Prim.Native.Nat.{ℕ, _+_, _-_, _*_, _≤_, _<_}
+use Prim.Native.Nat.{ℕ, _+_, _-_, _≤_}
 use native.Mathlib.Omega.{arith}
 use denote.Ref.{now}
-use lib.ListN.{length, take, drop, length-take}
+use lib.ListN.{length, drop, length-take}
 use borrow.Author.Needs.{needs}
 use Rattle.spec.specs.Numbers.{limit, pageBytes}
-use Rattle.spec.specs.Frames.{Store, Page, pagesOf, place}
-use Rattle.spec.specs.Elf.{phdrAt}
-use Rattle.spec.specs.declared.UserSegment.{UserSegment}
-use Rattle.elf.specs.Reader.{loadOf, Checked}
-use Rattle.exec.specs.Plan.{pagesIn}
+use Rattle.spec.specs.Frames.{Store, pagesOf, place}
+use Rattle.elf.specs.Reader.{Checked}
 use Rattle.pagealloc.specs.Lent.{store}
 use Rattle.pagealloc.specs.Contents.{fileAt}
-use Rattle.load.specs.Pages.{loadPages}
 use Rattle.load.proofs.Headers.{checked-of, laid-of, whole, place-skip, load-taken}
 use Rattle.load.proofs.load_header.Statement.{statement}
 use Rattle.load.proofs.load_header.Tie as tie

@@ -1,14 +1,13 @@
 -- `load::load_segments` meets its contract. The invariant: placing the pages of the headers that are left, after what is placed, is
 -- placing those of the whole image.
 use mathlib.Core.Path.{_≡_, refl, sym, ap, _∙_}
-use mathlib.Core.Bool.{Bool, true}
-use mathlib.Core.List.{List, [], _++_}
+use mathlib.Core.Bool.{true}
+use mathlib.Core.List.{List}
 use Prim.Native.Nat.{ℕ, _+_, _-_, _*_, _≤_, _<_}
 use native.Mathlib.Omega.{arith}
 use denote.Ref.{now}
 use lib.ListN.{length}
-use borrow.Author.Needs.{needs}
-use Rattle.spec.specs.Frames.{Store, Page, place}
+use Rattle.spec.specs.Frames.{Store, place}
 use Rattle.spec.specs.Elf.{Segment, phdrAt, segmentsOf}
 use Rattle.spec.specs.Exec.{layoutOk}
 use Rattle.spec.specs.declared.VirtRange.{VirtRange}

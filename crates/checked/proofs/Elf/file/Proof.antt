@@ -68,7 +68,7 @@ abbrev Part : {M : Type 1} (𝓤 : URA M) (H : Heap 𝓤) (A : Atoms 𝓤) (at-m
 Part 𝓤 H A at-mem run = tripleOf 𝓤 H A part.signature (part.spec 𝓤 H A at-mem run)
 
 module _ {M : Type 1} (𝓤 : URA M) (H : Heap 𝓤) (A : Atoms 𝓤) (W : Given 𝓤 H A) (at-mem : Memory → SProp 𝓤) (run : Routine → Fun 𝓤) (κ : Lft) (q : Share) (d : Elf) (g : Segment)
-    (isD : Is (B (κ, tt)) d (LL.vals (T.the-type (namedLft 1 0 tt (κ, tt))) (T′.the-laws (namedLft 1 0 tt (κ, tt))) d)) (isG : Is G.the-row g (LL.vals G.the-type G′.the-laws g)) (within : g .offset + g .filesz ≤ length (now (d .image))) where
+    (isG : Is G.the-row g (LL.vals G.the-type G′.the-laws g)) (within : g .offset + g .filesz ≤ length (now (d .image))) where
   abbrev mach : Val
   mach = T′.lowered d
 
@@ -157,7 +157,7 @@ module _ {M : Type 1} (𝓤 : URA M) (H : Heap 𝓤) (A : Atoms 𝓤) (W : Given
   file-walks known =
       walked 𝓤 H A file.ended stayed (file.clauses 𝓤 H A at-mem run) (WpFn 𝓤 H (𝓣 .C) (𝓣 .Λ) code.function)
       (λ κs. (LL.vals (T.the-type (namedLft 1 0 tt κs)) (T′.the-laws (namedLft 1 0 tt κs)), (LL.vals G.the-type G′.the-laws, tt))) (λ κs. (LL.tells (T.the-type (namedLft 1 0 tt κs)) (T′.the-laws (namedLft 1 0 tt κs)), (LL.tells G.the-type G′.the-laws, tt)))
-      (λ κs qs bounds a g are. needs 𝓤 (a .1 .0 .offset + a .1 .0 .filesz ≤ length (now (a .0 .image))) _ (λ within. walk 𝓤 H A W at-mem run (κs .0) (qs .0) (a .0) (a .1 .0) (are .0) (are .1 .0) within (𝓣 .C) (𝓣 .Λ) (fmOf 𝓤 H (W .laws) 𝓣) known
+      (λ κs qs bounds a g are. needs 𝓤 (a .1 .0 .offset + a .1 .0 .filesz ≤ length (now (a .0 .image))) _ (λ within. walk 𝓤 H A W at-mem run (κs .0) (qs .0) (a .0) (a .1 .0) (are .1 .0) within (𝓣 .C) (𝓣 .Λ) (fmOf 𝓤 H (W .laws) 𝓣) known
       (LL.lawful (T.the-type (namedLft 1 0 tt κs)) (T′.the-laws (namedLft 1 0 tt κs)) 𝓤 H A W .typed (a .0) _ (are .0) .0)))
 
   file-meets : Triple 𝓤 (𝓣 .C #part) (Part 𝓤 H A at-mem run) → Meets 𝓤 H A file.signature (WpFn 𝓤 H (𝓣 .C) (𝓣 .Λ) code.function) (file.spec 𝓤 H A at-mem run)
