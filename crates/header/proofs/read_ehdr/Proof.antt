@@ -1,8 +1,8 @@
 -- `elf::read_ehdr` meets its contract: each field is what the reader at its place ensures.
 -- Assumes nothing.
 use borrow.Author.Needs.{needs}
-use Rattle.elf.proofs.read_ehdr.Statement.{statement}
-use Rattle.elf.proofs.read_ehdr.Tie as tie
+use Rattle.header.proofs.read_ehdr.Statement.{statement}
+use Rattle.header.proofs.read_ehdr.Tie as tie
 
 returns : tie.Need-returns
 returns c = cc

@@ -1,10 +1,10 @@
 -- `elf::judge_ehdr` meets its contract: each `return` is the case of `fieldsError` that the tests before it lead to.
 -- Assumes nothing.
 use borrow.Author.Needs.{needs}
-use Rattle.elf.specs.Reader.{fieldsError}
+use Rattle.header.specs.Header.{fieldsError}
 use Rattle.spec.proofs.Chain.{chain}
-use Rattle.elf.proofs.judge_ehdr.Statement.{statement}
-use Rattle.elf.proofs.judge_ehdr.Tie as tie
+use Rattle.header.proofs.judge_ehdr.Statement.{statement}
+use Rattle.header.proofs.judge_ehdr.Tie as tie
 
 pub judge-ehdr-spec : {M : Type 1} → statement M
 unfolding fieldsError

@@ -3,8 +3,8 @@
 use mathlib.Core.Path.{sym, ap}
 use borrow.Author.Needs.{needs}
 use Rattle.spec.specs.Elf.{errorNumber}
-use Rattle.elf.proofs.error_number.Statement.{statement}
-use Rattle.elf.proofs.error_number.Tie as tie
+use Rattle.field.proofs.error_number.Statement.{statement}
+use Rattle.field.proofs.error_number.Tie as tie
 
 pub error-number-spec : {M : Type 1} → statement M
 error-number-spec =

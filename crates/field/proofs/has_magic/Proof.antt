@@ -10,9 +10,9 @@ use lib.Seq.{getD-take, length-take-le}
 use borrow.Author.Count.{below-more}
 use borrow.Author.Needs.{needs}
 use Rattle.spec.specs.Elf.{magic}
-use Rattle.elf.proofs.Same.{differs, agrees}
-use Rattle.elf.proofs.has_magic.Statement.{statement}
-use Rattle.elf.proofs.has_magic.Tie as tie
+use Rattle.field.proofs.Same.{differs, agrees}
+use Rattle.field.proofs.has_magic.Statement.{statement}
+use Rattle.field.proofs.has_magic.Tie as tie
 
 abbrev Inv-loop : tie.InvT-loop
 Inv-loop image i₀ i = (i ≤ 4) × ((k : ℕ) → k < i → getD image k 0 ≡ getD magic k 0)

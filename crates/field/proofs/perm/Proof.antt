@@ -10,8 +10,8 @@ use borrow.Author.Tests.{eqb-true}
 use Rattle.spec.specs.Tests.{_is_}
 use Rattle.spec.specs.Elf.{flagTable}
 use Rattle.spec.proofs.Bools.{below-at}
-use Rattle.elf.proofs.perm.Statement.{statement}
-use Rattle.elf.proofs.perm.Tie as tie
+use Rattle.field.proofs.perm.Statement.{statement}
+use Rattle.field.proofs.perm.Tie as tie
 
 abbrev perms : List ℕ
 perms = 0 ∷ 0 ∷ 0 ∷ 0 ∷ 2 ∷ 1 ∷ 3 ∷ 0 ∷ []
