@@ -11,7 +11,7 @@ ghost use Rattle.spec.specs.Book.{pageOf, ownerOf, valid, segment, procAt};
 ghost use Rattle.spec.specs.Frames.{pagesOf, place, release};
 ghost use Rattle.spec.specs.Machine.{break, plainly};
 ghost use Rattle.spec.specs.World.{brk, Does};
-ghost use Rattle.pagealloc.specs.Lent.{store};
+ghost use Rattle.book.specs.Lent.{store};
 ghost use Rattle.front.specs.Numbers.{stateOf, call};
 use front::left::Left;
 use spec::Answer;
@@ -24,7 +24,7 @@ fn move_pages(frames: &mut [u8], book: &mut [u64], number: u64, old: u64, new: u
     ensures { λ _. ⌜ store (now (frames .exit)) (now (book .exit)) ≡ place (release (store (now (frames .entry)) (now (book .entry))) (λ w. ownerOf w is number && within new old (pageOf w))) number (pagesOf zeroPage (segment old new 3 ∷ [])) ⌝ }
 {
     if new < old {
-        pagealloc::release::unmap_and_free(book, number, new, old);
+        book::unmap_and_free(book, number, new, old);
         return;
     }
     let top = book.len();
@@ -59,7 +59,7 @@ pub fn brk(frames: &mut [u8], book: &mut [u64], procs: Procs, number: u64, addr:
     }
     let p = front::record::proc_at(procs, number);
     let bss = p.bss;
-    let free = pagealloc::book::free_count(book) as u64;
+    let free = book::free_count(book) as u64;
     let b = segment::ibrk(segment::Bss::Set(bss), addr, free);
     let error = b.error;
     let value = b.value;

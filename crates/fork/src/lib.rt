@@ -5,7 +5,7 @@ ghost use Rattle.spec.specs.Book.{frameOf, used, procAt, piecesOf};
 ghost use Rattle.spec.specs.Frames.{pagesOf, place, frameBytes};
 ghost use Rattle.spec.specs.Machine.{fork, plainly};
 ghost use Rattle.spec.specs.World.{Does};
-ghost use Rattle.pagealloc.specs.Lent.{store};
+ghost use Rattle.book.specs.Lent.{store};
 ghost use Rattle.front.specs.Numbers.{stateOf, call, forkError};
 use front::left::Left;
 use spec::Answer;
@@ -44,7 +44,7 @@ pub fn fork(frames: &mut [u8], book: &mut [u64], procs: Procs, number: u64, chil
         };
     }
     let p = front::record::proc_at(procs, number);
-    let free = pagealloc::book::free_count(book) as u64;
+    let free = book::free_count(book) as u64;
     if front::pages::own_pages(p) > free {
         return Left {
             procs: procs,

@@ -15,8 +15,9 @@ use Rattle.laws.proofs.Frame.{Fits, frame-found}
 use Rattle.laws.proofs.Pokes.{pokes-append, pokes-page}
 use Rattle.laws.proofs.Contents.{length-bytes, get-bytes}
 use Rattle.spec.specs.declared.Found.the-variants.{At, Nothing}
-use Rattle.pagealloc.specs.Lent.{store, foundOf, Mapped}
-use Rattle.pagealloc.proofs.Overwrite.{mix, mix-part}
+use Rattle.book.specs.Lent.{store, foundOf}
+use Rattle.pagealloc.specs.Lent.{Mapped}
+use Rattle.book.proofs.Overwrite.{mix, mix-part}
 use Rattle.pagealloc.proofs.Placing.{found-at}
 use Rattle.pagealloc.proofs.Copying.{not-missing}
 

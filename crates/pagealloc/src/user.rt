@@ -7,7 +7,8 @@ ghost use lib.ListN.{length, take, drop};
 ghost use Rattle.spec.specs.Numbers.{pageDown};
 ghost use Rattle.spec.specs.Frames.{memOf, put, pokes};
 ghost use Rattle.spec.specs.Access.{bytesAt};
-ghost use Rattle.pagealloc.specs.Lent.{store, Mapped};
+ghost use Rattle.book.specs.Lent.{store};
+ghost use Rattle.pagealloc.specs.Lent.{Mapped};
 
 // The bytes from `at` on become `s`.
 fn write_phys(frames: &mut [u8], at: mem::PhysAddr, s: &[u8])
@@ -53,7 +54,7 @@ pub fn write_user(frames: &mut [u8], book: &[u64], owner: u64, addr: u64, bytes:
     while i < bytes.len() {
         let a = addr + (i as u64);
         let offset = a % spec::PAGE_SIZE_4K;
-        let spec::Found::At(k) = crate::book::frame_of(book, owner, mem::page_down(a)) else {
+        let spec::Found::At(k) = book::frame_of(book, owner, mem::page_down(a)) else {
             return;
         };
         let e = i + least((spec::PAGE_SIZE_4K - offset) as usize, bytes.len() - i);
@@ -72,7 +73,7 @@ pub fn read_user(frames: &[u8], book: &[u64], owner: u64, addr: u64, buf: &mut [
     while i < buf.len() {
         let a = addr + (i as u64);
         let offset = a % spec::PAGE_SIZE_4K;
-        let spec::Found::At(k) = crate::book::frame_of(book, owner, mem::page_down(a)) else {
+        let spec::Found::At(k) = book::frame_of(book, owner, mem::page_down(a)) else {
             return;
         };
         let e = i + least((spec::PAGE_SIZE_4K - offset) as usize, buf.len() - i);

@@ -17,7 +17,8 @@ use Rattle.spec.proofs.Bools.{within-means}
 use Rattle.laws.proofs.Lists.{Each}
 use Rattle.laws.proofs.Frame.{Fits}
 use Rattle.laws.proofs.Record.{Whole}
-use Rattle.pagealloc.specs.Lent.{store, Passed}
+use Rattle.book.specs.Lent.{store}
+use Rattle.pagealloc.specs.Lent.{Passed}
 use Rattle.sound.proofs.Walk.{length-mapped}
 use Rattle.sound.proofs.Whole.{whole-procs}
 use Rattle.front.specs.Numbers.{stateOf}

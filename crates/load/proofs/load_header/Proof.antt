@@ -12,7 +12,7 @@ use Rattle.spec.specs.Elf.{phdrAt}
 use Rattle.spec.specs.declared.UserSegment.{UserSegment}
 use Rattle.elf.specs.Reader.{loadOf, Checked}
 use Rattle.exec.specs.Plan.{pagesIn}
-use Rattle.pagealloc.specs.Lent.{store}
+use Rattle.book.specs.Lent.{store}
 use Rattle.pagealloc.specs.Contents.{fileAt}
 use Rattle.load.specs.Pages.{loadPages}
 use Rattle.load.proofs.Headers.{checked-of, laid-of, whole, place-skip, load-taken}

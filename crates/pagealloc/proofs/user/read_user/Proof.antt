@@ -9,8 +9,8 @@ use Rattle.spec.specs.Numbers.{pageDown}
 use Rattle.spec.specs.Book.{frameOf}
 use Rattle.spec.specs.Frames.{memOf}
 use Rattle.spec.specs.Access.{bytesAt}
-use Rattle.pagealloc.specs.Lent.{store}
-use Rattle.pagealloc.proofs.Overwrite.{mix, mix-none, mix-all}
+use Rattle.book.specs.Lent.{store}
+use Rattle.book.proofs.Overwrite.{mix, mix-none, mix-all}
 use Rattle.pagealloc.proofs.Chunks.{frame-at, not-missed, length-read, read-turn}
 use borrow.Author.Needs.{needs}
 use Rattle.pagealloc.proofs.user.read_user.Statement.{statement}

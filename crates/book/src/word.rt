@@ -3,7 +3,7 @@
 ghost use mathlib.Core.Path.{_≡_};
 ghost use Prim.Native.Nat.{_%_, _^_, _≤_, _<_};
 ghost use Rattle.spec.specs.Book.{wordOf, pageOf, ownerOf, permOf, frameOf, free};
-ghost use Rattle.pagealloc.specs.Lent.{foundOf};
+ghost use Rattle.book.specs.Lent.{foundOf};
 
 // The word of an owner's page.
 pub fn pack(page: u64, owner: u64, perm: u64) -> u64

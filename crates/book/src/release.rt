@@ -7,7 +7,7 @@ ghost use Prim.Native.Nat.{ℕ};
 ghost use Rattle.spec.specs.Tests.{_is_, within, _⇒_else_};
 ghost use Rattle.spec.specs.Book.{pageOf, ownerOf};
 ghost use Rattle.spec.specs.Frames.{release};
-ghost use Rattle.pagealloc.specs.Lent.{store};
+ghost use Rattle.book.specs.Lent.{store};
 
 // The word after a release that takes it or leaves it.
 fn left(gone: bool, w: u64) -> u64
@@ -23,7 +23,7 @@ pub fn release_owner(book: &mut [u64], owner: u64)
     let mut i = 0;
     while i < book.len() {
         let w = book[i];
-        book[i] = left(crate::book::owner_of(w) == owner, w);
+        book[i] = left(crate::word::owner_of(w) == owner, w);
         i += 1;
     }
 }
@@ -32,8 +32,8 @@ pub fn release_owner(book: &mut [u64], owner: u64)
 fn within_range(w: u64, owner: u64, lo: u64, hi: u64) -> bool
     ensures { λ r. ⌜ r ≡ (ownerOf w is owner && within lo hi (pageOf w)) ⌝ }
 {
-    let page = crate::book::page_of(w);
-    (crate::book::owner_of(w) == owner) & (!(page < lo) & (page < hi))
+    let page = crate::word::page_of(w);
+    (crate::word::owner_of(w) == owner) & (!(page < lo) & (page < hi))
 }
 
 // Releases a process's pages from `lo` up to, but not including, `hi`, as `unmap_and_free`.

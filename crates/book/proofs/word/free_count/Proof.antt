@@ -6,9 +6,9 @@ use native.Mathlib.Omega.{arith}
 use denote.Ref.{now}
 use lib.ListN.{length, drop}
 use Rattle.spec.specs.Book.{free}
-use Rattle.pagealloc.proofs.Searches.{free-hit, free-miss, free-end}
-use Rattle.pagealloc.proofs.book.free_count.Statement.{statement}
-use Rattle.pagealloc.proofs.book.free_count.Tie as tie
+use Rattle.book.proofs.Searches.{free-hit, free-miss, free-end}
+use Rattle.book.proofs.word.free_count.Statement.{statement}
+use Rattle.book.proofs.word.free_count.Tie as tie
 
 abbrev Inv-loop : tie.InvT-loop
 Inv-loop book n₀ i₀ n i = (i ≤ length book) × (n ≤ i) × (n + free (drop i book) ≡ free book)

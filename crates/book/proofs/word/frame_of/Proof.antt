@@ -6,10 +6,10 @@ use native.Mathlib.Omega.{arith}
 use denote.Ref.{now}
 use lib.ListN.{length, getD}
 use Rattle.spec.specs.Book.{highest, owns, frameOf}
-use Rattle.pagealloc.specs.Lent.{foundOf}
-use Rattle.pagealloc.proofs.Searches.{highest-here, highest-less, highest-end, key-owns, key-not}
-use Rattle.pagealloc.proofs.book.frame_of.Statement.{statement}
-use Rattle.pagealloc.proofs.book.frame_of.Tie as tie
+use Rattle.book.specs.Lent.{foundOf}
+use Rattle.book.proofs.Searches.{highest-here, highest-less, highest-end, key-owns, key-not}
+use Rattle.book.proofs.word.frame_of.Statement.{statement}
+use Rattle.book.proofs.word.frame_of.Tie as tie
 
 abbrev Inv-loop : tie.InvT-loop
 Inv-loop book owner page key i₀ i = (i ≤ length book) × (frameOf book owner page ≡ highest (λ k. owns owner page (getD book k 0)) i)

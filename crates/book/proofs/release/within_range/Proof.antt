@@ -1,7 +1,7 @@
 -- `pagealloc::release::within_range` meets its contract: the word's owner and page are tested.
 use borrow.Author.Needs.{needs}
-use Rattle.pagealloc.proofs.release.within_range.Statement.{statement}
-use Rattle.pagealloc.proofs.release.within_range.Tie as tie
+use Rattle.book.proofs.release.within_range.Statement.{statement}
+use Rattle.book.proofs.release.within_range.Tie as tie
 
 page-of-requires : tie.Need-page-of-requires
 page-of-requires c κs = search needs
