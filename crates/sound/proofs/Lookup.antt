@@ -15,7 +15,8 @@ use Rattle.spec.specs.declared.Procs.{Procs}
 use Rattle.laws.proofs.Frame.{frame-found, once-means, frame-is}
 use Rattle.laws.proofs.Owned.{in-range}
 use Rattle.sound.specs.Plan.{owner, hits, nth, rank, Plan}
-use Rattle.sound.specs.Table.{frameWith, entry, answerOf, foundOf, Planned, Tabled, Ready}
+use Rattle.sound.specs.Table.{frameWith, entry, answerOf, Planned, Tabled, Ready}
+use Rattle.book.specs.Lent.{foundOf}
 use Rattle.sound.proofs.Pass.{with-found, hit-fact, rank-below, rank-word, hit-owner}
 use Rattle.sound.proofs.Planning.{Made, plan}
 use Rattle.sound.proofs.Decides.{option-some, Matched, free-matched, full-of}

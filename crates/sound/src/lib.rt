@@ -10,12 +10,11 @@ ghost use Rattle.spec.specs.Tests.{allBelow};
 ghost use Rattle.spec.specs.Book.{frameOf, free};
 ghost use Rattle.spec.specs.Sound.{soundBook};
 ghost use Rattle.sound.specs.Plan.{Plan};
-ghost use Rattle.sound.specs.Table.{Marked, Blank, marked, Ready, answerOf, foundOf};
+ghost use Rattle.sound.specs.Table.{Marked, Blank, marked, Ready, answerOf};
+ghost use Rattle.book.specs.Lent.{foundOf};
 
 mod plan;
-mod record;
 
-pub use record::lives;
 use spec::Found;
 use spec::Procs;
 
@@ -73,7 +72,7 @@ pub fn prepare(
     ensures { λ r. ⌜ r ≡ soundBook (now (book .entry)) procs ⌝ }
     ensures { λ r. ⌜ (r ≡ true → Ready (now (book .entry)) (now (tags .exit)) (now (bases .exit)) (now (table .exit))) ⌝ }
 {
-    if !record::records_ok(procs) {
+    if !records::records_ok(procs) {
         return false;
     }
     let total = plan::lay_all(tags, bases, procs);

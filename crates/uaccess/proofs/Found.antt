@@ -14,7 +14,7 @@ use Rattle.spec.specs.Access.{cellOk}
 use Rattle.spec.specs.declared.Found.{Found}
 use Rattle.spec.specs.declared.Found.the-variants.{At, Nothing}
 use Rattle.laws.proofs.Frame.{frame-found}
-use Rattle.sound.specs.Table.{foundOf}
+use Rattle.book.specs.Lent.{foundOf}
 use Rattle.book.specs.Lent.{store}
 
 -- what an answer says of the search

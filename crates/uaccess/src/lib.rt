@@ -12,7 +12,8 @@ ghost use Rattle.spec.specs.Numbers.{pageDown};
 ghost use Rattle.spec.specs.Book.{frameOf};
 ghost use Rattle.spec.specs.Frames.{memOf, pokes};
 ghost use Rattle.spec.specs.Access.{cellOk, userRangeOk, bytesAt, copyStr};
-ghost use Rattle.sound.specs.Table.{Ready, foundOf};
+ghost use Rattle.sound.specs.Table.{Ready};
+ghost use Rattle.book.specs.Lent.{foundOf};
 ghost use Rattle.book.specs.Lent.{store};
 ghost use Rattle.uaccess.specs.Strings.{toNul, copied};
 

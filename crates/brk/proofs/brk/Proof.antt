@@ -15,7 +15,7 @@ use Rattle.spec.specs.declared.Answer.{Answer}
 use Rattle.spec.specs.declared.Answer.the-variants.{Value, Refused}
 use Rattle.laws.proofs.Record.{Whole}
 use Rattle.history.proofs.Accepted.{Moves, ibrk-moves}
-use Rattle.sound.proofs.Whole.{whole-procs}
+use Rattle.records.proofs.Whole.{whole-procs}
 use Rattle.segment.specs.Rule.{breakOf}
 use Rattle.front.specs.Numbers.{stateOf, call}
 use Rattle.front.proofs.First.{Passed, plain-none, sizes-words}

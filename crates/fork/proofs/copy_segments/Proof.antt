@@ -19,8 +19,8 @@ use Rattle.laws.proofs.Frame.{Fits}
 use Rattle.laws.proofs.Record.{Whole}
 use Rattle.book.specs.Lent.{store}
 use Rattle.pagealloc.specs.Lent.{Passed}
-use Rattle.sound.proofs.Walk.{length-mapped}
-use Rattle.sound.proofs.Whole.{whole-procs}
+use Rattle.records.proofs.Walk.{length-mapped}
+use Rattle.records.proofs.Whole.{whole-procs}
 use Rattle.front.specs.Numbers.{stateOf}
 use Rattle.front.proofs.First.{Forks, fork-none, fork-other, sizes-words}
 use Rattle.front.proofs.Living.{passed-sound, living-shape}

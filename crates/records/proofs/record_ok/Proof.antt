@@ -2,8 +2,8 @@
 use mathlib.Core.Path.{refl, sym, ap, _∙_}
 use mathlib.Core.Bool.{not}
 use borrow.Author.Needs.{needs}
-use Rattle.sound.proofs.record.record_ok.Statement.{statement}
-use Rattle.sound.proofs.record.record_ok.Tie as tie
+use Rattle.records.proofs.record_ok.Statement.{statement}
+use Rattle.records.proofs.record_ok.Tie as tie
 
 is-shaped-requires : tie.Need-is-shaped-requires
 is-shaped-requires c κs = search needs

@@ -6,11 +6,11 @@ use lib.ListN.{length, drop}
 use borrow.Author.Needs.{needs}
 use borrow.Author.Tests.{not-true, not-false}
 use Rattle.spec.specs.Tests.{all}
-use Rattle.sound.specs.Records.{passes}
-use Rattle.sound.proofs.Walk.{all-stop, all-go, all-end, length-mapped}
-use Rattle.sound.proofs.Whole.{noProc}
-use Rattle.sound.proofs.record.records_ok.Statement.{statement}
-use Rattle.sound.proofs.record.records_ok.Tie as tie
+use Rattle.records.specs.Records.{passes}
+use Rattle.records.proofs.Walk.{all-stop, all-go, all-end, length-mapped}
+use Rattle.records.proofs.Whole.{noProc}
+use Rattle.records.proofs.records_ok.Statement.{statement}
+use Rattle.records.proofs.records_ok.Tie as tie
 
 abbrev Inv-loop : tie.InvT-loop
 Inv-loop procs i₀ i = (i ≤ 16) × (length (procs .all) ≡ 16) × (all passes (procs .all) ≡ all passes (drop i (procs .all)))

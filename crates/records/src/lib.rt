@@ -1,4 +1,5 @@
-// One process's record: its own rules, without the book.
+// One process's record, and all of them: their own rules, without the book.
+
 ghost use mathlib.Core.Path.{_≡_};
 ghost use Prim.Native.Nat.{_≤_};
 ghost use lib.ListN.{drop};
@@ -6,7 +7,7 @@ ghost use Rattle.spec.specs.Tests.{_is_, all};
 ghost use Rattle.spec.specs.Numbers.{utzero};
 ghost use Rattle.spec.specs.Book.{sameSegment, unused, lives as livesOf, stack};
 ghost use Rattle.spec.specs.Sound.{bssOk};
-ghost use Rattle.sound.specs.Records.{imageTest, shaped, passes};
+ghost use Rattle.records.specs.Records.{imageTest, shaped, passes};
 use spec::DATA;
 use spec::LIMIT;
 use spec::Proc;

@@ -1,7 +1,7 @@
 -- `lives` meets its contract: its two loops are the specification's two tests.
 use borrow.Author.Needs.{needs}
-use Rattle.sound.proofs.record.lives.Statement.{statement}
-use Rattle.sound.proofs.record.lives.Tie as tie
+use Rattle.records.proofs.lives.Statement.{statement}
+use Rattle.records.proofs.lives.Tie as tie
 
 rest-unused-requires : tie.Need-rest-unused-requires
 rest-unused-requires c κs = search needs

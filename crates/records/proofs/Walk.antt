@@ -14,7 +14,7 @@ use Rattle.spec.specs.Sound.{bssOk}
 use Rattle.spec.specs.declared.VirtRange.{VirtRange}
 use Rattle.spec.specs.declared.UserSegment.{UserSegment}
 use Rattle.spec.proofs.Bools.{split}
-use Rattle.sound.specs.Records.{imageTest, shaped}
+use Rattle.records.specs.Records.{imageTest, shaped}
 
 -- the code's `a <= b` is the specification's `not (b below a)`
 pub at-most : (a b : ℕ) → leb a b ≡ not (ltb b a)

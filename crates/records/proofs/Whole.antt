@@ -19,7 +19,7 @@ use Rattle.spec.proofs.Bools.{split}
 use Rattle.spec.proofs.Proc as P
 use Rattle.spec.proofs.UserSegment as S
 use Rattle.laws.proofs.Record.{WholeProc, Whole, zero-whole}
-use Rattle.sound.proofs.Walk.{length-mapped}
+use Rattle.records.proofs.Walk.{length-mapped}
 
 -- what stands past the end of an array of records, as the logic has it
 abbrev pub noProc : Proc

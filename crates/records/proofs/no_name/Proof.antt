@@ -6,9 +6,9 @@ use lib.ListN.{length, drop}
 use borrow.Author.Needs.{needs}
 use borrow.Author.Tests.{eq-eqb, ne-eqb}
 use Rattle.spec.specs.Tests.{_is_, all}
-use Rattle.sound.proofs.Walk.{all-stop, all-go, all-end}
-use Rattle.sound.proofs.record.no_name.Statement.{statement}
-use Rattle.sound.proofs.record.no_name.Tie as tie
+use Rattle.records.proofs.Walk.{all-stop, all-go, all-end}
+use Rattle.records.proofs.no_name.Statement.{statement}
+use Rattle.records.proofs.no_name.Tie as tie
 
 abbrev Inv-loop : tie.InvT-loop
 Inv-loop text i₀ i = (i ≤ 28) × (length text ≡ 28) × (all (λ b. b is 0) text ≡ all (λ b. b is 0) (drop i text))

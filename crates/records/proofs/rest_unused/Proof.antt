@@ -7,9 +7,9 @@ use borrow.Author.Needs.{needs}
 use borrow.Author.Tests.{not-true, not-false}
 use Rattle.spec.specs.Tests.{all}
 use Rattle.spec.specs.Book.{unused, zeroSegment}
-use Rattle.sound.proofs.Walk.{all-stop, all-go, all-end}
-use Rattle.sound.proofs.record.rest_unused.Statement.{statement}
-use Rattle.sound.proofs.record.rest_unused.Tie as tie
+use Rattle.records.proofs.Walk.{all-stop, all-go, all-end}
+use Rattle.records.proofs.rest_unused.Statement.{statement}
+use Rattle.records.proofs.rest_unused.Tie as tie
 
 abbrev Inv-loop : tie.InvT-loop
 Inv-loop from segments i₀ i = (i ≤ 16) × (length segments ≡ 16) × (all unused (drop from segments) ≡ all unused (drop i segments))

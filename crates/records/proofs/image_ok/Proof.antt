@@ -1,9 +1,9 @@
 -- `image_ok` meets its contract, test by test.
 use mathlib.Core.Path.{refl}
 use Rattle.spec.specs.Numbers.{limit}
-use Rattle.sound.proofs.Walk.{at-most}
-use Rattle.sound.proofs.record.image_ok.Statement.{statement}
-use Rattle.sound.proofs.record.image_ok.Tie as tie
+use Rattle.records.proofs.Walk.{at-most}
+use Rattle.records.proofs.image_ok.Statement.{statement}
+use Rattle.records.proofs.image_ok.Tie as tie
 
 returns : tie.Need-returns
 returns c =

@@ -6,10 +6,10 @@ use lib.ListN.{length, drop}
 use borrow.Author.Needs.{needs}
 use borrow.Author.Tests.{not-true, not-false}
 use Rattle.spec.specs.Numbers.{utzero}
-use Rattle.sound.specs.Records.{shaped}
-use Rattle.sound.proofs.Walk.{shaped-stack, shaped-stop, shaped-go, shaped-end, length-mapped}
-use Rattle.sound.proofs.record.is_shaped.Statement.{statement}
-use Rattle.sound.proofs.record.is_shaped.Tie as tie
+use Rattle.records.specs.Records.{shaped}
+use Rattle.records.proofs.Walk.{shaped-stack, shaped-stop, shaped-go, shaped-end, length-mapped}
+use Rattle.records.proofs.is_shaped.Statement.{statement}
+use Rattle.records.proofs.is_shaped.Tie as tie
 
 abbrev Inv-loop : tie.InvT-loop
 Inv-loop segments bss low₀ i₀ low i = (i ≤ 16) × (length segments ≡ 16) × (shaped utzero bss segments ≡ shaped low bss (drop i segments))

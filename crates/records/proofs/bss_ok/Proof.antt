@@ -2,9 +2,9 @@
 use borrow.Author.Needs.{needs}
 use borrow.Author.Tests.{lt-ltb, le-ltb}
 use Rattle.spec.specs.Numbers.{utzero, pageUp}
-use Rattle.sound.proofs.Walk.{at-most, and-false, and-true}
-use Rattle.sound.proofs.record.bss_ok.Statement.{statement}
-use Rattle.sound.proofs.record.bss_ok.Tie as tie
+use Rattle.records.proofs.Walk.{at-most, and-false, and-true}
+use Rattle.records.proofs.bss_ok.Statement.{statement}
+use Rattle.records.proofs.bss_ok.Tie as tie
 
 returns : tie.Need-returns
 returns c = simp (lt-ltb _ _ (c .if1 .taken), and-false)
