@@ -1,0 +1,54 @@
+-- The places and the two ranges of a push, by the size of the strings and the count of arguments.
+use Prim.Native.Nat.{ℕ, _+_, _*_, _-_, _≤_}
+use mathlib.Core.Path.{_≡_, sym, ap, ap₂, _∙_}
+use mathlib.Core.Bool.{Bool, true, false, not, _&&_}
+use mathlib.Core.List.{List}
+use lib.ListN.{length}
+use Rattle.spec.specs.Frames.{Mem}
+use Rattle.spec.specs.Access.{userRangeOk}
+use Rattle.spec.specs.Exec.{argsOf, strings, stringsAt, argvAt, belowZero, pushOk}
+use Rattle.spec.proofs.Bools.{both, not-true}
+use Rattle.args.specs.Sizes.{belowZeroBy, argvBy}
+use Rattle.args.proofs.Cut.{cut-count}
+use Rattle.args.proofs.Size.{Passed}
+
+-- `pushOk`, by sizes
+abbrev pushOkBy : Mem → ℕ → ℕ → ℕ → Bool
+pushOkBy mem top size count = not (belowZeroBy top size count) && userRangeOk mem true (top - size) size && userRangeOk mem true (argvBy top size count) (8 * (count + 1))
+
+-- ---- the check, from what its tests say
+
+module _ (mem : Mem) (top size count : ℕ) (args : List (List ℕ)) (strings-size : length (strings args) ≡ size) (args-count : length args ≡ count) where
+  by-sizes : pushOk mem top args ≡ pushOkBy mem top size count
+  by-sizes = ap₂ (pushOkBy mem top) strings-size args-count
+
+  pub ok-low : belowZeroBy top size count ≡ true → false ≡ pushOk mem top args
+  ok-low low = sym (by-sizes ∙ rw low)
+
+  pub ok-ranges : (x y : Bool) → belowZeroBy top size count ≡ false → x ≡ userRangeOk mem true (top - size) size
+      → y ≡ userRangeOk mem true (argvBy top size count) (8 * (count + 1)) → (x && y) ≡ pushOk mem top args
+  ok-ranges x y low ex ey = ap₂ _&&_ ex ey ∙ sym (by-sizes ∙ rw low)
+
+-- ---- what a check that passed says
+
+pub record Allowed (mem : Mem) (top size count : ℕ) : Type 0 where
+  pub above-zero : belowZeroBy top size count ≡ false
+  pub strings-range : userRangeOk mem true (top - size) size ≡ true
+  pub pointers-range : userRangeOk mem true (argvBy top size count) (8 * (count + 1)) ≡ true
+
+allowed-by : (mem : Mem) (top size count : ℕ) → pushOkBy mem top size count ≡ true → Allowed mem top size count
+allowed-by mem top size count ok =
+    let p = both (not (belowZeroBy top size count) && userRangeOk mem true (top - size) size) (userRangeOk mem true (argvBy top size count) (8 * (count + 1))) ok in
+    let q = both (not (belowZeroBy top size count)) (userRangeOk mem true (top - size) size) (p .0) in
+    record { above-zero = not-true (belowZeroBy top size count) (q .0); strings-range = q .1; pointers-range = p .1 }
+
+-- of arguments that passed
+module _ (bytes lengths : List ℕ) (size top : ℕ) (passed : Passed bytes lengths size) where
+  pub strings-place : stringsAt top (argsOf bytes lengths) ≡ top - size
+  strings-place = ap (λ (n : ℕ). top - n) (sym (passed .strings-size))
+
+  pub argv-place : argvAt top (argsOf bytes lengths) ≡ argvBy top size (length lengths)
+  argv-place = ap₂ (argvBy top) (sym (passed .strings-size)) (cut-count bytes lengths)
+
+  pub allowed : (mem : Mem) → pushOk mem top (argsOf bytes lengths) ≡ true → Allowed mem top size (length lengths)
+  allowed mem ok = allowed-by mem top size (length lengths) (sym (by-sizes mem top size (length lengths) (argsOf bytes lengths) (sym (passed .strings-size)) (cut-count bytes lengths)) ∙ ok)
