@@ -6,9 +6,9 @@ use mathlib.Core.List.{List}
 use lib.ListN.{length}
 use Rattle.spec.specs.Frames.{Mem}
 use Rattle.spec.specs.Access.{userRangeOk}
-use Rattle.spec.specs.Exec.{argsOf, strings, stringsAt, argvAt, belowZero, pushOk}
+use Rattle.spec.specs.Exec.{argsOf, strings, stringsAt, argvAt, registers, pushOk}
 use Rattle.spec.proofs.Bools.{both, not-true}
-use Rattle.args.specs.Sizes.{belowZeroBy, argvBy}
+use Rattle.args.specs.Sizes.{belowZeroBy, argvBy, registersBy}
 use Rattle.args.proofs.Cut.{cut-count}
 use Rattle.args.proofs.Size.{Passed}
 
@@ -49,6 +49,9 @@ module _ (bytes lengths : List ℕ) (size top : ℕ) (passed : Passed bytes leng
 
   pub argv-place : argvAt top (argsOf bytes lengths) ≡ argvBy top size (length lengths)
   argv-place = ap₂ (argvBy top) (sym (passed .strings-size)) (cut-count bytes lengths)
+
+  pub registers-by : (pc : ℕ) → registers pc top (argsOf bytes lengths) ≡ registersBy pc top size (length lengths)
+  registers-by pc = ap₂ (registersBy pc top) (sym (passed .strings-size)) (cut-count bytes lengths)
 
   pub allowed : (mem : Mem) → pushOk mem top (argsOf bytes lengths) ≡ true → Allowed mem top size (length lengths)
   allowed mem ok = allowed-by mem top size (length lengths) (sym (by-sizes mem top size (length lengths) (argsOf bytes lengths) (sym (passed .strings-size)) (cut-count bytes lengths)) ∙ ok)
