@@ -4,7 +4,7 @@
 // ranges are checked before a byte is written, and each is written at once, from a buffer.
 
 ghost use mathlib.Core.Path.{_≡_};
-ghost use mathlib.Core.Bool.{true, false};
+ghost use mathlib.Core.Bool.{true};
 ghost use mathlib.Core.List.{List};
 ghost use Prim.Native.Nat.{ℕ, _+_, _*_, _^_, _≤_, _<_};
 ghost use lib.ListN.{length};
@@ -13,7 +13,7 @@ ghost use Rattle.spec.specs.Numbers.{argLimit};
 ghost use Rattle.spec.specs.Frames.{memOf, pokes};
 ghost use Rattle.spec.specs.Access.{userRangeOk};
 ghost use Rattle.spec.specs.Exec.{argsOf, strings, registers, pushOk};
-ghost use Rattle.spec.specs.Machine.{push as pushes, plainly};
+ghost use Rattle.spec.specs.Machine.{push, plainly};
 ghost use Rattle.spec.specs.World.{pushIn, Does};
 ghost use Rattle.sound.specs.Table.{Ready};
 ghost use Rattle.pagealloc.specs.Lent.{store};
@@ -23,6 +23,9 @@ use front::left::Left;
 use spec::Answer;
 use spec::Procs;
 use spec::UserRegs;
+
+// What the strings of arguments take at most, and their pointers: the size of the buffers.
+const ARG_LIMIT: usize = spec::ARG_LIMIT as usize;
 
 // Whether the process may write the strings and the pointers of arguments below `top`, given their strings' size.
 fn push_ok(
@@ -41,11 +44,14 @@ fn push_ok(
     if args::below_zero(top, size, nargs) {
         return false;
     }
-    // Of the registers only the pointers' place matters.
+    // Of the registers only argv matters here.
     let regs = args::registers(0, top, size, nargs);
+    let s = top - size;
     let argv = regs.argv;
-    uaccess::user_range_ok(book, tags, bases, table, number, top - size, size, true)
-        & uaccess::user_range_ok(book, tags, bases, table, number, argv, 8 * (nargs + 1), true)
+    let len = 8 * (nargs + 1);
+    let strings_ok = uaccess::user_range_ok(book, tags, bases, table, number, s, size, true);
+    let pointers_ok = uaccess::user_range_ok(book, tags, bases, table, number, argv, len, true);
+    strings_ok & pointers_ok
 }
 
 // Writes the strings of arguments, each with its NUL, to the process's memory from `at` on.
@@ -65,7 +71,7 @@ fn write_strings(
     requires { ⌜ userRangeOk (memOf (store (now frames) (now book)) number) true at (length (strings (argsOf (now bytes) (now lengths)))) ≡ true ⌝ }
     ensures { λ _. ⌜ store (now (frames .exit)) (now (book .entry)) ≡ pokes (store (now (frames .entry)) (now (book .entry))) number at (strings (argsOf (now (bytes .entry)) (now (lengths .entry)))) ⌝ }
 {
-    let mut buf = [0u8; 4096];
+    let mut buf = [0u8; ARG_LIMIT];
     let n = args::strings_into(&mut buf, bytes, lengths);
     uaccess::write_user(frames, book, tags, bases, table, number, at, &buf[..n]);
 }
@@ -87,7 +93,7 @@ fn write_pointers(
     requires { ⌜ userRangeOk (memOf (store (now frames) (now book)) number) true at (8 * (length (now lengths) + 1)) ≡ true ⌝ }
     ensures { λ _. ⌜ store (now (frames .exit)) (now (book .entry)) ≡ pokes (store (now (frames .entry)) (now (book .entry))) number at (pointersBy first (now (lengths .entry))) ⌝ }
 {
-    let mut buf = [0u8; 4096];
+    let mut buf = [0u8; ARG_LIMIT];
     let n = args::pointers_into(&mut buf, first, lengths);
     uaccess::write_user(frames, book, tags, bases, table, number, at, &buf[..n]);
 }
@@ -135,7 +141,7 @@ pub fn push(
     bytes: &[u8],
     lengths: &[u64],
 ) -> Left
-    ensures { λ r. ⌜ Does (stateOf (now (frames .entry)) (now (book .entry)) procs) (call number (pushes pc top (now (bytes .entry)) (now (lengths .entry)))) (stateOf (now (frames .exit)) (now (book .exit)) (r .procs)) (plainly (r .answer)) ⌝ }
+    ensures { λ r. ⌜ Does (stateOf (now (frames .entry)) (now (book .entry)) procs) (call number (push pc top (now (bytes .entry)) (now (lengths .entry)))) (stateOf (now (frames .exit)) (now (book .exit)) (r .procs)) (plainly (r .answer)) ⌝ }
 {
     let mut tags = [0u64; 272];
     let mut bases = [0u64; 273];

@@ -2,7 +2,7 @@
 -- written.
 use Prim.Native.Nat.{ℕ, _+_, _*_, _-_, _/_, _≤_}
 use native.Mathlib.Omega.{arith}
-use mathlib.Core.Path.{_≡_, refl, sym, ap, ap₂, _∙_}
+use mathlib.Core.Path.{refl, sym, ap, _∙_}
 use mathlib.Core.Bool.{true}
 use mathlib.Core.List.{List}
 use lib.ListN.{length}
@@ -26,7 +26,7 @@ module _ (c : tie.Start) where
   passed = size-passed (now (c .args .bytes)) (now (c .args .lengths)) (record { error = 0; strings = c .args .size }) (sym (c .pre .1 .0)) refl
 
   ok : (f : List ℕ) → Allowed (memOf (store f (now (c .args .book))) (c .args .number)) (c .args .top) (c .args .size) (length (now (c .args .lengths)))
-  ok f = allowed (now (c .args .bytes)) (now (c .args .lengths)) (c .args .size) (c .args .top) passed (memOf (store f (now (c .args .book))) (c .args .number)) (c .pre .1 .1 f)
+  ok f = allowed (now (c .args .bytes)) (now (c .args .lengths)) (c .args .size) passed (c .args .top) (memOf (store f (now (c .args .book))) (c .args .number)) (c .pre .1 .1 f)
 
   room : 8 * (length (now (c .args .lengths)) + 1) ≤ (c .args .top - c .args .size) / 8 * 8
   room = low-room (c .args .top) (c .args .size) (length (now (c .args .lengths))) (ok (now (c .args .frames)) .above-zero)
@@ -59,8 +59,8 @@ write-pointers-requires c κs =
       (
         (omega (arith, p .limit), omega (arith, p .sums, p .bytes-size, room start)),
         ap (λ (r : UserRegs). userRangeOk (memOf (store (w .last .0) (now (a .book))) (a .number)) true (r .argv) (8 * (length (now (a .lengths)) + 1)))
-        (c .before .before .before .before .before .registers .ensures)
-        ∙ ok start (w .last .0) .pointers-range,
+            (c .before .before .before .before .before .registers .ensures)
+            ∙ ok start (w .last .0) .pointers-range,
       ),
     )
 
@@ -76,10 +76,10 @@ returns c =
     let a = start .args in
     let p = passed start in (
       written (store (now (a .frames)) (now (a .book))) (store (s .write-strings .last .0) (now (a .book))) _ (a .number) (a .top) (a .size) (now (a .bytes)) (now (a .lengths)) p
-      (s .write-strings .ensures)
-      (w .write-pointers .ensures
-      ∙ ap (λ (x : UserRegs). pokes (store (s .write-strings .last .0) (now (a .book))) (a .number) (x .argv) (pointersBy (a .top - a .size) (now (a .lengths)))) (r .ensures)),
-      r .ensures ∙ sym (registers-by (now (a .bytes)) (now (a .lengths)) (a .size) (a .top) p (a .pc)),
+          (s .write-strings .ensures)
+          (w .write-pointers .ensures
+          ∙ ap (λ (x : UserRegs). pokes (store (s .write-strings .last .0) (now (a .book))) (a .number) (x .argv) (pointersBy (a .top - a .size) (now (a .lengths)))) (r .ensures)),
+      r .ensures ∙ sym (registers-by (now (a .bytes)) (now (a .lengths)) (a .size) p (a .top) (a .pc)),
     )
 
 pub push-args-spec : {M : Type 1} → statement M

@@ -1,7 +1,7 @@
 -- `push::write_pointers` meets its contract: the buffer begins with the pointers, and they are written at once.
+use Prim.Native.Nat.{ℕ}
 use mathlib.Core.Path.{_≡_, sym, ap, _∙_}
 use mathlib.Core.Bool.{Bool, true}
-use Prim.Native.Nat.{ℕ}
 use lib.ListN.{length, take}
 use denote.Ref.{now}
 use borrow.Author.Needs.{needs}
@@ -28,19 +28,19 @@ laid : (c : tie.After-buf3) → let i = c .before .before .before in let a = i .
 laid c =
     let i = c .before .before .before .pointers-into in
     let a = c .before .before .before .before .before .before .before .before .args in
-    buffer-begins _ _ (i .last .0) (i .result) (i .ensures .0) (i .ensures .1 ∙ sym (pointers-size (now (a .lengths)) (a .first)))
+    buffer-begins _ _ (i .last .0) (i .result) (i .ensures .0) (i .ensures .1 ∙ sym (pointers-size (a .first) (now (a .lengths))))
 
 slice-aggregate-write-user : tie.Need-slice-aggregate-write-user
 slice-aggregate-write-user c =
     let a = c .before .before .before .before .before .before .before .before .args in
-    c .before .before .before .pointers-into .ensures .1 ∙ sym (ap length (laid c) ∙ pointers-size (now (a .lengths)) (a .first))
+    c .before .before .before .pointers-into .ensures .1 ∙ sym (ap length (laid c) ∙ pointers-size (a .first) (now (a .lengths)))
 
 write-user-requires : tie.Need-write-user-requires
 write-user-requires c κs =
     let start = c .before .before .before .before .before .before .before .before in
     let a = start .args in
     let range : ℕ → Bool = λ n. userRangeOk (memOf (store (now (a .frames)) (now (a .book))) (a .number)) true (a .at) n in
-    (start .pre .0, ap range (ap length (laid c) ∙ pointers-size (now (a .lengths)) (a .first)) ∙ start .pre .1 .1)
+    (start .pre .0, ap range (ap length (laid c) ∙ pointers-size (a .first) (now (a .lengths))) ∙ start .pre .1 .1)
 
 same-length : tie.Need-same-length
 same-length c = search needs
