@@ -17,11 +17,11 @@ use Rattle.start.proofs.record_of.Reads as record-of-reads
 
 -- src/lib.rt:93:5
 load-requires : tie.Need-load-requires
-load-requires c κs = omega arith
+load-requires c κs = ?
 
 -- src/lib.rt:94:5
 push-args-requires : tie.Need-push-args-requires
-push-args-requires c κs = omega arith
+push-args-requires c κs = ?
 
 -- src/lib.rt:95:57
 record-of-requires : tie.Need-record-of-requires
@@ -33,11 +33,11 @@ with-proc-requires c κs = search needs
 
 -- src/lib.rt:97:16
 add-size : tie.Need-add-size
-add-size c = omega arith
+add-size c = ?
 
 -- src/lib.rt:98:9
 registers-requires : tie.Need-registers-requires
-registers-requires c κs = omega arith
+registers-requires c κs = ?
 
 -- src/lib.rt:77:1
 same-length : tie.Need-same-length
@@ -49,7 +49,7 @@ same-length-2 c = search needs
 
 -- src/lib.rt:77:1
 returns : tie.Need-returns
-returns c = omega arith
+returns c = ?
 
 pub install-spec : {M : Type 1} → statement M
 install-spec =

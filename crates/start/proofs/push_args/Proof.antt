@@ -26,7 +26,7 @@ same-length c = search needs
 
 -- src/lib.rt:49:1
 returns : tie.Need-returns
-returns c = omega arith
+returns c = ?
 
 pub push-args-spec : {M : Type 1} → statement M
 push-args-spec =

@@ -18,7 +18,7 @@ add-first c = search needs
 
 -- src/lib.rt:42:17
 sub-first : tie.Need-sub-first
-sub-first c = omega arith
+sub-first c = ?
 
 -- src/lib.rt:43:36
 slice-aggregate-pointers-into : tie.Need-slice-aggregate-pointers-into
@@ -26,7 +26,7 @@ slice-aggregate-pointers-into c = search needs
 
 -- src/lib.rt:43:9
 pointers-into-requires : tie.Need-pointers-into-requires
-pointers-into-requires c κs = omega arith
+pointers-into-requires c κs = ?
 
 -- src/lib.rt:44:16
 mul-argv : tie.Need-mul-argv
@@ -34,19 +34,19 @@ mul-argv c = search needs
 
 -- src/lib.rt:44:16
 sub-argv : tie.Need-sub-argv
-sub-argv c = omega arith
+sub-argv c = ?
 
 -- src/lib.rt:45:61
 array-share-prefix-buf : tie.Need-array-share-prefix-buf
-array-share-prefix-buf c = omega arith
+array-share-prefix-buf c = ?
 
 -- src/lib.rt:45:61
 slice-aggregate-write-user : tie.Need-slice-aggregate-write-user
-slice-aggregate-write-user c = omega arith
+slice-aggregate-write-user c = ?
 
 -- src/lib.rt:45:5
 write-user-requires : tie.Need-write-user-requires
-write-user-requires c κs = omega arith
+write-user-requires c κs = ?
 
 -- src/lib.rt:35:1
 same-length : tie.Need-same-length
@@ -54,7 +54,7 @@ same-length c = search needs
 
 -- src/lib.rt:35:1
 returns : tie.Need-returns
-returns c = omega arith
+returns c = ?
 
 pub push-pointers-spec : {M : Type 1} → statement M
 push-pointers-spec =

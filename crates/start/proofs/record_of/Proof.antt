@@ -22,7 +22,7 @@ kstrcpy-requires c κs = search needs
 
 -- src/lib.rt:60:1
 returns : tie.Need-returns
-returns c = omega arith
+returns c = ?
 
 pub record-of-spec : {M : Type 1} → statement M
 record-of-spec = tie.close (tie.spec elem-requires kstrcpy-requires returns)

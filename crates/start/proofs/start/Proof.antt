@@ -34,7 +34,7 @@ same-length-2 c = search needs
 
 -- src/lib.rt:123:9
 returns : tie.Need-returns
-returns c = omega arith
+returns c = ?
 
 -- src/lib.rt:128:9
 args-size-requires : tie.Need-args-size-requires
@@ -50,7 +50,7 @@ same-length-4 c = search needs
 
 -- src/lib.rt:130:9
 returns-2 : tie.Need-returns-2
-returns-2 c = omega arith
+returns-2 c = ?
 
 -- src/lib.rt:135:9
 plan-of-requires : tie.Need-plan-of-requires
@@ -66,7 +66,7 @@ same-length-6 c = search needs
 
 -- src/lib.rt:137:9
 returns-3 : tie.Need-returns-3
-returns-3 c = omega arith
+returns-3 c = ?
 
 -- src/lib.rt:142:16
 free-count-requires : tie.Need-free-count-requires
@@ -82,11 +82,11 @@ same-length-8 c = search needs
 
 -- src/lib.rt:144:9
 returns-4 : tie.Need-returns-4
-returns-4 c = omega arith
+returns-4 c = ?
 
 -- src/lib.rt:149:5
 install-requires : tie.Need-install-requires
-install-requires c κs = omega arith
+install-requires c κs = ?
 
 -- src/lib.rt:108:1
 same-length-9 : tie.Need-same-length-9
@@ -98,7 +98,7 @@ same-length-10 c = search needs
 
 -- src/lib.rt:108:1
 returns-5 : tie.Need-returns-5
-returns-5 c = omega arith
+returns-5 c = ?
 
 pub start-spec : {M : Type 1} → statement M
 start-spec =
