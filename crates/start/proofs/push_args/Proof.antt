@@ -1,32 +1,29 @@
-use mathlib.Core.Path.{_≡_, refl, sym, ap, _∙_}
-use Prim.Native.Nat.{ℕ, _+_, _-_, _*_, _≤_, _<_}
-use native.Mathlib.Omega.{arith}
-use mathlib.Core.Logic.{⊎-elim}
+-- `push_args` meets its contract: strings, then pointers.
+use mathlib.Core.Path.{_≡_, ap, _∙_}
 use denote.Ref.{now}
 use lib.ListN.{length}
 use borrow.Author.Needs.{needs}
+use Rattle.spec.specs.Frames.{Store, pokes}
+use Rattle.spec.specs.Numbers.{ustktop}
+use Rattle.spec.specs.Exec.{argsOf, stringsAt, argvAt, pointers}
 use Rattle.start.proofs.push_args.Statement.{statement}
 use Rattle.start.proofs.push_args.Tie as tie
-use Rattle.start.proofs.push_args.Reads as reads
-use Rattle.start.proofs.push_args.Lts as lts
-use Rattle.start.proofs.push_pointers.Reads as push-pointers-reads
-use Rattle.start.proofs.push_strings.Reads as push-strings-reads
 
--- src/lib.rt:55:5
 push-strings-requires : tie.Need-push-strings-requires
 push-strings-requires c κs = search needs
 
--- src/lib.rt:56:5
 push-pointers-requires : tie.Need-push-pointers-requires
 push-pointers-requires c κs = search needs
 
--- src/lib.rt:49:1
 same-length : tie.Need-same-length
 same-length c = search needs
 
--- src/lib.rt:49:1
 returns : tie.Need-returns
-returns c = ?
+returns c =
+    let a = c .before .before .before .before .before .before .before .before .before .before .before .before .args in
+    let args = argsOf (now (a .bytes)) (now (a .lengths)) in
+    c .before .before .push-pointers .ensures
+    ∙ ap (λ (m : Store). pokes m (a .number) (argvAt ustktop args) (pointers (stringsAt ustktop args) args)) (c .before .before .before .before .before .before .push-strings .ensures)
 
 pub push-args-spec : {M : Type 1} → statement M
 push-args-spec =

@@ -1,0 +1,2 @@
+-- What a start answers.
+use Prim.Native.Nat.{ℕ}
