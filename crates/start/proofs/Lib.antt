@@ -1,5 +1,5 @@
--- The stack that an image is placed with, and what is pushed onto it.
-pub mod Stack
+-- What an image that may be installed gives, and where its arguments go.
+pub mod Installed
 pub mod Pushing
 -- The answer of a start.
 pub mod Weighing

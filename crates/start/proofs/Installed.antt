@@ -1,15 +1,17 @@
--- An image's pages, once placed, have the whole stack.
-use Prim.Native.Nat.{ℕ, _+_, _-_, _≤_, _<_}
+-- What an image that may be installed gives: the whole stack among its pages, once they are placed; its bss, entry and record.
+use Prim.Native.Nat.{ℕ, _-_}
 use native.Mathlib.Omega.{arith}
 use mathlib.Core.Path.{_≡_, ap, _∙_}
 use mathlib.Core.Bool.{true}
 use mathlib.Core.Option.{Option, some}
 use mathlib.Core.List.{List, [], _∷_, _++_}
-use Rattle.spec.specs.Numbers.{ustktop, ustksize, pageDown, pageBytes}
-use Rattle.spec.specs.Book.{bookPerm, stack, bssSegment, inSegment, permAt}
-use Rattle.spec.specs.Frames.{Store, Cell, pagesOf, place}
-use Rattle.spec.specs.Elf.{segmentsOf}
+use lib.ListN.{length, replicate}
+use Rattle.spec.specs.Numbers.{ustktop, ustksize, pageBytes}
+use Rattle.spec.specs.Book.{bookPerm, zeroSegment, stack, bssSegment, inSegment, permAt, pageCount}
+use Rattle.spec.specs.Frames.{Store, pagesOf, place}
+use Rattle.spec.specs.Elf.{entry, segmentsOf}
 use Rattle.spec.specs.Exec.{imageSegments, imageBss, startPieces, fileByte}
+use Rattle.spec.specs.World.{procOf}
 use Rattle.spec.specs.History as history
 use Rattle.spec.specs.declared.UserSegment.{UserSegment}
 use Rattle.spec.proofs.Bools.{split, within-test}
@@ -17,12 +19,13 @@ use Rattle.laws.proofs.Frame.{frame-perm, page-perm}
 use Rattle.laws.proofs.Owned.{valid-means}
 use Rattle.laws.proofs.Apart.{orPerm}
 use Rattle.laws.proofs.Contents.{length-page}
-use Rattle.laws.proofs.Placed.{Whole, Room, fits-placed, perm-placed}
+use Rattle.laws.proofs.Placed.{Whole, Room, perm-placed}
 use Rattle.laws.proofs.Started.{start-perm, start-aligned, start-apart}
 use Rattle.history.proofs.Stored.{pieces-of}
 use Rattle.pagealloc.specs.Lent.{Mapped}
 use Rattle.exec.specs.declared.Plan.{Plan}
-use Rattle.start.specs.Installing.{Installable}
+use Rattle.exec.proofs.Planned.{plan-accepted}
+use Rattle.start.specs.Installing.{Installable, recordOf}
 
 -- the last of pieces gives its addresses a permission, unless another does
 last-there : (gs : List UserSegment) (b g : UserSegment) (a : ℕ) → inSegment a g ≡ true → (q : ℕ) × (permAt (gs ++ b ∷ g ∷ []) a ≡ some q)
@@ -55,3 +58,24 @@ module _ (m : Store) (n : ℕ) (image : List ℕ) (plan : Plan) (bytes lengths :
   stack-mapped a z l u =
       let r = last-there (imageSegments image) (bssSegment (imageBss image)) stack a (within-test (ustktop - ustksize) ustktop a l u) in
       frame-perm (placed .book) n a (r .0) (perm-placed m n page (startPieces image) (i .sizes) whole room a z ∙ ap (λ (o : Option ℕ). orPerm o (bookPerm (m .book) n a)) (r .1))
+
+  -- the plan is the image's
+  plan-is : plan ≡ record {
+    number = 0;
+    elf = 0;
+    entry = entry image;
+    segments = imageSegments image ++ stack ∷ replicate (15 - length (imageSegments image)) zeroSegment;
+    count = length (imageSegments image);
+    bss = imageBss image;
+    pages = pageCount (startPieces image);
+  }
+  plan-is = i .planned ∙ plan-accepted image (i .accepted)
+
+  pub plan-bss : plan .bss ≡ imageBss image
+  plan-bss = ap (λ (p : Plan). p .bss) plan-is
+
+  pub plan-entry : plan .entry ≡ entry image
+  plan-entry = ap (λ (p : Plan). p .entry) plan-is
+
+  pub plan-record : (name : List ℕ) → recordOf plan name ≡ procOf image name
+  plan-record name = ap (λ (p : Plan). recordOf p name) plan-is
