@@ -11,3 +11,4 @@ pub use end::end;
 pub use fork::fork;
 pub use front::left::Left;
 pub use push::push;
+pub use start::start;

@@ -9,7 +9,8 @@ ghost use Rattle.spec.specs.Elf.{entry};
 ghost use Rattle.spec.specs.Exec.{argsOf, strings, stringsAt, argvAt, pointers, registers};
 ghost use Rattle.spec.specs.Machine.{start, plainly};
 ghost use Rattle.spec.specs.World.{pushIn, load as loaded, Does};
-ghost use Rattle.pagealloc.specs.Lent.{store, Mapped};
+ghost use Rattle.book.specs.Lent.{store};
+ghost use Rattle.pagealloc.specs.Lent.{Mapped};
 ghost use Rattle.front.specs.Numbers.{stateOf, call};
 ghost use Rattle.start.specs.Installing.{Fitting, Installable, recordOf};
 use exec::Plan;
@@ -131,7 +132,7 @@ pub fn start(
     }
     let checked = args::args_size(bytes, lengths);
     let plan = exec::plan_of(image);
-    let free = pagealloc::book::free_count(book) as u64;
+    let free = book::free_count(book) as u64;
     if checked.error != 0 {
         return Left {
             procs: procs,
