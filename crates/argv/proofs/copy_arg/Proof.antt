@@ -21,8 +21,6 @@ use Rattle.argv.proofs.Buffered.{Told, buffered}
 use Rattle.argv.proofs.Adding.{added-bad, added-over, added-fine}
 use Rattle.argv.proofs.copy_arg.Statement.{statement}
 use Rattle.argv.proofs.copy_arg.Tie as tie
-use Rattle.argv.proofs.copy_arg.Reads as reads
-use Rattle.argv.proofs.copy_arg.Lts as lts
 
 -- where the string has been read
 module _ (c : tie.After-struct-known) where
