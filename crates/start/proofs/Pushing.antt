@@ -1,13 +1,12 @@
 -- Arguments that pass fit a buffer of the argument limit, and are pushed inside the stack.
-use Prim.Native.Nat.{ℕ, _+_, _*_, _-_, _/_, _^_, _≤_, _<_}
+use Prim.Native.Nat.{ℕ, _+_, _*_, _-_, _/_, _≤_}
 use native.Mathlib.Omega.{arith}
 use mathlib.Core.Path.{_≡_, sym, ap, ap₂, _∙_}
 use mathlib.Core.Bool.{false}
 use mathlib.Core.List.{List}
 use lib.ListN.{length, take}
-use Rattle.spec.specs.Tests.{sum}
-use Rattle.spec.specs.Numbers.{ustktop, ustksize, pageDown}
-use Rattle.spec.specs.Frames.{Store, put, pokes}
+use Rattle.spec.specs.Numbers.{ustktop, ustksize, argLimit, pageDown}
+use Rattle.spec.specs.Frames.{put}
 use Rattle.spec.specs.Exec.{argsOf, strings, stringsAt, argvAt, pointers}
 use Rattle.pagealloc.specs.Lent.{Mapped}
 use Rattle.args.specs.Sizes.{pointersBy, belowZeroBy}
@@ -28,13 +27,13 @@ module _ (bytes lengths : List ℕ) (fit : Fitting bytes lengths) where
   args = argsOf bytes lengths
 
   -- room for both
-  pub strings-small : length (strings args) ≤ 4096
+  pub strings-small : length (strings args) ≤ argLimit
   strings-small = passed-strings args (fit .passed)
 
-  pub strings-room : length bytes + length lengths ≤ 4096
+  pub strings-room : length bytes + length lengths ≤ argLimit
   strings-room = omega (arith, cut-size bytes lengths (fit .sums), strings-small)
 
-  pub pointers-room : 8 * (length lengths + 1) ≤ 4096
+  pub pointers-room : 8 * (length lengths + 1) ≤ argLimit
   pointers-room = omega (arith, cut-count bytes lengths, passed-size args (fit .passed))
 
   -- where they lie: strings up to the top, pointers below them, all inside the stack

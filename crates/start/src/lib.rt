@@ -18,6 +18,9 @@ use spec::Answer;
 use spec::Proc;
 use spec::Procs;
 
+// A buffer that holds the strings of arguments that pass, or their pointers.
+const BUFFER_SIZE: usize = spec::ARG_LIMIT as usize;
+
 // Writes the strings of arguments, each with its NUL, to the top of the stack of process `number`.
 fn push_strings(frames: &mut [u8], book: &[u64], number: u64, bytes: &[u8], lengths: &[u64])
     requires { ⌜ (length (now frames) ≡ 4096 * length (now book)) × (1 ≤ number) × (number < 256) ⌝ }
@@ -25,7 +28,7 @@ fn push_strings(frames: &mut [u8], book: &[u64], number: u64, bytes: &[u8], leng
     requires { ⌜ Fitting (now bytes) (now lengths) ⌝ }
     ensures { λ _. ⌜ store (now (frames .exit)) (now (book .entry)) ≡ pokes (store (now (frames .entry)) (now (book .entry))) number (stringsAt ustktop (argsOf (now (bytes .entry)) (now (lengths .entry)))) (strings (argsOf (now (bytes .entry)) (now (lengths .entry)))) ⌝ }
 {
-    let mut buf = [0u8; 4096];
+    let mut buf = [0u8; BUFFER_SIZE];
     let size = args::strings_into(&mut buf, bytes, lengths);
     let at = spec::USTKTOP - (size as u64);
     pagealloc::user::write_user(frames, book, number, at, &buf[..size]);
@@ -38,7 +41,7 @@ fn push_pointers(frames: &mut [u8], book: &[u64], number: u64, bytes: &[u8], len
     requires { ⌜ Fitting (now bytes) (now lengths) ⌝ }
     ensures { λ _. ⌜ store (now (frames .exit)) (now (book .entry)) ≡ pokes (store (now (frames .entry)) (now (book .entry))) number (argvAt ustktop (argsOf (now (bytes .entry)) (now (lengths .entry)))) (pointers (stringsAt ustktop (argsOf (now (bytes .entry)) (now (lengths .entry)))) (argsOf (now (bytes .entry)) (now (lengths .entry)))) ⌝ }
 {
-    let mut buf = [0u8; 4096];
+    let mut buf = [0u8; BUFFER_SIZE];
     let first = spec::USTKTOP - ((bytes.len() + lengths.len()) as u64);
     let size = args::pointers_into(&mut buf, first, lengths);
     let argv = first / 8 * 8 - (size as u64);
@@ -62,8 +65,9 @@ fn record_of(plan: Plan, name: &[u8]) -> Proc
 {
     let segments = plan.segments;
     let bss = plan.bss;
+    let last = kstr::elem(name);
     let mut text = [0u8; 28];
-    kstr::kstrcpy(&mut text, kstr::elem(name));
+    kstr::kstrcpy(&mut text, last);
     Proc {
         segments: segments,
         text: text,
@@ -126,25 +130,35 @@ pub fn start(
         };
     }
     let checked = args::args_size(bytes, lengths);
+    let plan = exec::plan_of(image);
+    let free = pagealloc::book::free_count(book) as u64;
     if checked.error != 0 {
         return Left {
             procs: procs,
             answer: Answer::Refused(checked.error),
         };
     }
-    let plan = exec::plan_of(image);
     if plan.number != 0 {
         return Left {
             procs: procs,
             answer: Answer::Refused(plan.number),
         };
     }
-    let free = pagealloc::book::free_count(book) as u64;
     if plan.pages > free {
         return Left {
             procs: procs,
             answer: Answer::Refused(spec::ENOVMEM),
         };
     }
-    install(frames, book, procs, number, image, plan, name, bytes, lengths)
+    install(
+        frames,
+        book,
+        procs,
+        number,
+        image,
+        plan,
+        name,
+        bytes,
+        lengths,
+    )
 }

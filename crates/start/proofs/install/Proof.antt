@@ -1,5 +1,5 @@
 -- `install` meets its contract: pages placed, arguments pushed onto the stack that is among them, and the record set.
-use mathlib.Core.Path.{_≡_, sym, ap, subst, _∙_}
+use mathlib.Core.Path.{sym, ap, subst, _∙_}
 use Prim.Native.Nat.{ℕ, _+_, _-_}
 use native.Mathlib.Omega.{arith}
 use mathlib.Core.List.{List}
@@ -12,11 +12,10 @@ use Rattle.spec.specs.Exec.{argsOf}
 use Rattle.spec.specs.World.{setProc, pushIn}
 use Rattle.spec.specs.declared.Answer.the-variants.{Regs}
 use Rattle.laws.proofs.Owned.{valid-means}
-use Rattle.pagealloc.specs.Lent.{store, Mapped}
+use Rattle.pagealloc.specs.Lent.{Mapped}
 use Rattle.args.specs.Sizes.{registersBy}
 use Rattle.args.proofs.Places.{registers-at}
 use Rattle.front.proofs.States.{state-is}
-use Rattle.start.specs.Installing.{Installable}
 use Rattle.start.proofs.Installed.{stack-mapped, plan-bss, plan-entry, plan-record}
 use Rattle.start.proofs.Pushing.{strings-room, push-above}
 use Rattle.start.proofs.install.Statement.{statement}
@@ -34,8 +33,7 @@ push-args-requires c κs =
     let s = c .before .before .before .before .before .before .before .before .before .before .before .before .before .before .before .before in
     let l = c .before .before .before .before .before .before .load in
     let i = s .pre in
-    let v = valid-means (s .args .number) (i .number) in
-    (
+    let v = valid-means (s .args .number) (i .number) in (
       (omega (arith, i .sizes, l .kept), v .0, omega (arith, v .1)),
       (subst (λ (m : Store). Mapped (m .book) (s .args .number) (ustktop - ustksize) ustktop) (sym (l .ensures)) (stack-mapped _ _ _ _ _ _ i), i .args),
     )
@@ -75,8 +73,7 @@ returns c =
     let s = start w in
     let a = s .args in
     let i = s .pre in
-    let args = argsOf (bytes w) (lengths w) in
-    (
+    let args = argsOf (bytes w) (lengths w) in (
       state-is _ _ _ _
           (c .before .before .before .before .before .push-args .ensures ∙ ap (λ (m : Store). pushIn m (a .number) ustktop args) (c .before .before .before .before .before .before .before .before .before .before .before .before .load .ensures))
           (w .with-proc .ensures ∙ ap (setProc (a .procs) (a .number)) (c .before .before .record-of .ensures ∙ plan-record _ _ _ _ _ _ i (now (a .name)))),

@@ -1,7 +1,6 @@
 -- `push_args` meets its contract: strings, then pointers.
-use mathlib.Core.Path.{_≡_, ap, _∙_}
+use mathlib.Core.Path.{ap, _∙_}
 use denote.Ref.{now}
-use lib.ListN.{length}
 use borrow.Author.Needs.{needs}
 use Rattle.spec.specs.Frames.{Store, pokes}
 use Rattle.spec.specs.Numbers.{ustktop}

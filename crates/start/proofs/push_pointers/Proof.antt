@@ -1,12 +1,12 @@
 -- `push_pointers` meets its contract: the pointers are laid into a buffer, and its part that holds them is written below the strings.
 use mathlib.Core.Path.{_≡_, sym, ap, ap₂, _∙_}
-use Prim.Native.Nat.{ℕ, _+_, _-_, _*_, _/_, _≤_, _<_}
+use Prim.Native.Nat.{ℕ, _+_, _-_, _*_, _/_, _≤_}
 use native.Mathlib.Omega.{arith}
 use mathlib.Core.List.{List}
 use denote.Ref.{now}
 use lib.ListN.{length, take, replicate}
 use borrow.Author.Needs.{needs}
-use Rattle.spec.specs.Numbers.{ustktop}
+use Rattle.spec.specs.Numbers.{ustktop, argLimit}
 use Rattle.spec.specs.Frames.{put, pokes}
 use Rattle.spec.specs.Exec.{argsOf, stringsAt, pointers}
 use Rattle.pagealloc.specs.Lent.{store}
@@ -51,8 +51,8 @@ module _ (c : tie.After-pointers-into) where
 
   laid : take (c .pointers-into .result) (c .pointers-into .last .0) ≡ pointers (stringsAt ustktop (argsOf (bytes start) (lengths start))) (argsOf (bytes start) (lengths start))
   laid =
-      part-is (c .pointers-into .last .0) (replicate 4096 0) _ (c .pointers-into .result)
-      (c .pointers-into .ensures .0 ∙ ap (put (replicate 4096 0) 0) (pointers-are (bytes start) (lengths start) (fit start)))
+      part-is (c .pointers-into .last .0) (replicate argLimit 0) _ (c .pointers-into .result)
+      (c .pointers-into .ensures .0 ∙ ap (put (replicate argLimit 0) 0) (pointers-are (bytes start) (lengths start) (fit start)))
       (c .pointers-into .ensures .1 ∙ pointers-long (bytes start) (lengths start) (fit start))
 
   long : c .pointers-into .result ≡ length (take (c .pointers-into .result) (c .pointers-into .last .0))
@@ -81,11 +81,10 @@ write-user-requires c κs =
     let k = long t in
     let r = t .pointers-into .ensures .1 in
     let f = fits t in
-    let l = argv-low (bytes s) (lengths s) (fit s) in
-    (
+    let l = argv-low (bytes s) (lengths s) (fit s) in (
       (p .0 .0, p .0 .1, p .0 .2, omega (arith, k, f)),
       inside (now (s .args .book)) (s .args .number) ((ustktop - (length (bytes s) + length (lengths s))) / 8 * 8 - t .pointers-into .result) (length (take (t .pointers-into .result) (t .pointers-into .last .0)))
-      (p .1 .0) (omega (arith, r, l)) (omega (arith, k, f)),
+          (p .1 .0) (omega (arith, r, l)) (omega (arith, k, f)),
     )
 
 same-length : tie.Need-same-length

@@ -1,22 +1,18 @@
 -- `push_strings` meets its contract: the strings are laid into a buffer, and its part that holds them is written below the top.
-use mathlib.Core.Path.{_≡_, refl, sym, ap, ap₂, _∙_}
-use Prim.Native.Nat.{ℕ, _+_, _-_, _*_, _≤_, _<_}
+use mathlib.Core.Path.{_≡_, sym, ap, ap₂, _∙_}
+use Prim.Native.Nat.{ℕ, _-_, _≤_}
 use native.Mathlib.Omega.{arith}
 use mathlib.Core.List.{List}
 use denote.Ref.{now}
 use lib.ListN.{length, take, replicate}
 use borrow.Author.Needs.{needs}
-use Rattle.spec.specs.Numbers.{ustktop}
+use Rattle.spec.specs.Numbers.{ustktop, argLimit}
 use Rattle.spec.specs.Frames.{pokes}
 use Rattle.spec.specs.Exec.{argsOf, strings}
 use Rattle.pagealloc.specs.Lent.{store}
 use Rattle.start.proofs.Pushing.{inside, part-is, strings-small, strings-room}
 use Rattle.start.proofs.push_strings.Statement.{statement}
 use Rattle.start.proofs.push_strings.Tie as tie
-use Rattle.start.proofs.push_strings.Reads as reads
-use Rattle.start.proofs.push_strings.Lts as lts
-use Rattle.args.proofs.strings_into.Reads as strings-into-reads
-use Rattle.pagealloc.proofs.user.write_user.Reads as write-user-reads
 
 slice-aggregate-strings-into : tie.Need-slice-aggregate-strings-into
 slice-aggregate-strings-into c = search needs
@@ -25,7 +21,7 @@ strings-into-requires : tie.Need-strings-into-requires
 strings-into-requires c κs = let s = c .before .before .before .before .before in (s .pre .1 .1 .sums, strings-room _ _ (s .pre .1 .1))
 
 -- the strings fit the buffer
-small : (c : tie.After-strings-into) → c .strings-into .result ≤ 4096
+small : (c : tie.After-strings-into) → c .strings-into .result ≤ argLimit
 small c = rw (c .strings-into .ensures .1) (strings-small _ _ (c .before .before .before .before .before .before .pre .1 .1))
 
 sub-at : tie.Need-sub-at
@@ -37,7 +33,7 @@ array-share-prefix-buf c = omega (arith, small (c .before .before), c .before .b
 -- its part that is written
 laid : (c : tie.After-strings-into)
     → take (c .strings-into .result) (c .strings-into .last .0) ≡ strings (argsOf (now (c .before .before .before .before .before .before .args .bytes)) (now (c .before .before .before .before .before .before .args .lengths)))
-laid c = part-is (c .strings-into .last .0) (replicate 4096 0) _ (c .strings-into .result) (c .strings-into .ensures .0) (c .strings-into .ensures .1)
+laid c = part-is (c .strings-into .last .0) (replicate argLimit 0) _ (c .strings-into .result) (c .strings-into .ensures .0) (c .strings-into .ensures .1)
 
 slice-aggregate-write-user : tie.Need-slice-aggregate-write-user
 slice-aggregate-write-user c = let s = c .before .before .before in s .strings-into .ensures .1 ∙ sym (ap length (laid s))
@@ -48,8 +44,7 @@ write-user-requires c κs =
     let p = s .pre in
     let t = c .before .before .before in
     let l = small t in
-    let k = slice-aggregate-write-user c in
-    (
+    let k = slice-aggregate-write-user c in (
       (p .0 .0, p .0 .1, p .0 .2, omega (arith, l, k)),
       inside (now (s .args .book)) (s .args .number) (ustktop - t .strings-into .result) (length (take (t .strings-into .result) (t .strings-into .last .0))) (p .1 .0) (omega (arith, l)) (omega (arith, l, k)),
     )

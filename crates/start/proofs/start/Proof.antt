@@ -1,4 +1,4 @@
--- `start` meets its contract: the numbers that come first, the arguments, the image, the free frames; then the image is installed.
+-- `start` meets its contract: the numbers that come first, then arguments, image and free frames, weighed in that order.
 use mathlib.Core.Path.{_≡_, refl, sym, ap, _∙_}
 use Prim.Native.Nat.{ℕ, _≤_}
 use native.Mathlib.Omega.{arith}
@@ -10,15 +10,14 @@ use borrow.Author.Needs.{needs}
 use borrow.Author.Tests.{eqb-true}
 use Rattle.spec.specs.Tests.{_is_, sum}
 use Rattle.spec.specs.Book.{free, pageCount}
-use Rattle.spec.specs.Exec.{imageError, startPieces, argsOf}
+use Rattle.spec.specs.Exec.{imageError, startPieces, argsOf, argsError}
 use Rattle.spec.specs.Machine.{start, Call, outcome, plainly, weighStart}
 use Rattle.spec.specs.World.{State, taken, leave, Does}
 use Rattle.spec.specs.declared.Answer.{Answer}
 use Rattle.laws.proofs.Record.{Whole}
 use Rattle.sound.proofs.Whole.{whole-procs}
 use Rattle.args.specs.declared.ArgsSize.{ArgsSize}
-use Rattle.args.proofs.Size as size
-use Rattle.args.proofs.Size.{size-number, size-passed}
+use Rattle.args.proofs.Size.{size-number}
 use Rattle.exec.specs.declared.Plan.{Plan}
 use Rattle.exec.proofs.Planned.{plan-number, plan-accepted}
 use Rattle.front.specs.Numbers.{stateOf, call, beginError}
@@ -27,7 +26,7 @@ use Rattle.start.proofs.Weighing.{weigh-args, weigh-image, weigh-short,
 use Rattle.start.proofs.start.Statement.{statement}
 use Rattle.start.proofs.start.Tie as tie
 
--- what was found first
+-- the state, what is asked, and the number that was found first
 module _ (c : tie.After-begin-error) where
   abbrev begin : tie.Start
   begin = c .before .before .before .before .before .before .before .before .before .before
@@ -35,8 +34,14 @@ module _ (c : tie.After-begin-error) where
   abbrev state : State
   state = stateOf (now (begin .args .frames)) (now (begin .args .book)) (begin .args .procs)
 
+  abbrev number : ℕ
+  number = begin .args .number
+
   abbrev image : List ℕ
   image = now (begin .args .image)
+
+  abbrev name : List ℕ
+  name = now (begin .args .name)
 
   abbrev bytes : List ℕ
   bytes = now (begin .args .bytes)
@@ -47,8 +52,8 @@ module _ (c : tie.After-begin-error) where
   abbrev fits : Bool
   fits = sum lengths is length bytes
 
-  first : c .begin-error .result ≡ beginError state (begin .args .number) fits
-  first = c .begin-error .ensures ∙ ap (beginError state (begin .args .number)) (c .before .before .before .lengths-fit .ensures)
+  first : c .begin-error .result ≡ beginError state number fits
+  first = c .begin-error .ensures ∙ ap (beginError state number) (c .before .before .before .lengths-fit .ensures)
 
 lengths-fit-requires : tie.Need-lengths-fit-requires
 lengths-fit-requires c κs = search needs
@@ -63,35 +68,57 @@ same-length-2 : tie.Need-same-length-2
 same-length-2 c = search needs
 
 returns : tie.Need-returns
-returns c = let b = c .before in start-refused (state b) (begin b .args .number) (image b) (now (begin b .args .name)) (bytes b) (lengths b) (b .begin-error .result) (first b) (c .if1 .taken)
-
--- where no number came first
-module _ (c : tie.Else1) where
-  free-number : Passed (state (c .before)) (begin (c .before) .args .number) (fits (c .before)) × (not (taken (state (c .before)) (begin (c .before) .args .number)) ≡ true)
-  free-number = begin-none (state (c .before)) (begin (c .before) .args .number) (fits (c .before)) (sym (first (c .before)) ∙ c .if1 .left)
-
-  whole : Whole (begin (c .before) .args .procs)
-  whole = let g = begin (c .before) .good .1 .1 .0 .1 .1 .0 in whole-procs (begin (c .before) .args .procs) (g .0) (g .1 .1) (g .1 .0 .1)
-
-  sums : sum (lengths (c .before)) ≡ length (bytes (c .before))
-  sums = eqb-true _ _ (free-number .0 .lengths)
-
-  abbrev frames : ℕ
-  frames = free (now (begin (c .before) .args .book))
-
-  abbrev args : List (List ℕ)
-  args = argsOf (bytes (c .before)) (lengths (c .before))
-
-  abbrev asked : Call
-  asked = call (begin (c .before) .args .number) (start (image (c .before)) (now (begin (c .before) .args .name)) (bytes (c .before)) (lengths (c .before)))
-
-  answers : (t : State) (a : Answer) → weighStart frames (image (c .before)) args ≡ a → t ≡ leave (state (c .before)) asked (outcome (plainly a)) → Does (state (c .before)) asked t (plainly a)
-  answers =
-      let b = c .before in
-      start-goes (state b) (begin b .args .number) (image b) (now (begin b .args .name)) (bytes b) (lengths b) (b .begin-error .result) (first b) (c .if1 .left)
+returns c = let b = c .before in start-refused (state b) (number b) (image b) (name b) (bytes b) (lengths b) (b .begin-error .result) (first b) (c .if1 .taken)
 
 args-size-requires : tie.Need-args-size-requires
 args-size-requires c κs = search needs
+
+plan-of-requires : tie.Need-plan-of-requires
+plan-of-requires c κs = search needs
+
+free-count-requires : tie.Need-free-count-requires
+free-count-requires c κs = search needs
+
+-- where no number came first: what is weighed
+module _ (c : tie.After-free-count) where
+  abbrev none : tie.Else1
+  none = c .before .before .before .before
+
+  abbrev b : tie.After-begin-error
+  b = none .before
+
+  free-number : Passed (state b) (number b) (fits b) × (not (taken (state b) (number b)) ≡ true)
+  free-number = begin-none (state b) (number b) (fits b) (sym (first b) ∙ none .if1 .left)
+
+  whole : Whole (begin b .args .procs)
+  whole = let g = begin b .good .1 .1 .0 .1 .1 .0 in whole-procs (begin b .args .procs) (g .0) (g .1 .1) (g .1 .0 .1)
+
+  abbrev frames : ℕ
+  frames = free (now (begin b .args .book))
+
+  abbrev args : List (List ℕ)
+  args = argsOf (bytes b) (lengths b)
+
+  sums : sum (lengths b) ≡ length (bytes b)
+  sums = eqb-true _ _ (free-number .0 .lengths)
+
+  args-number : c .before .before .before .args-size .result .error ≡ argsError args
+  args-number = ap (λ (r : ArgsSize). r .error) (c .before .before .before .args-size .ensures) ∙ size-number (bytes b) (lengths b) sums
+
+  abbrev plan : Plan
+  plan = c .before .before .plan-of .result
+
+  image-number : plan .number ≡ imageError (image b)
+  image-number = ap (λ (p : Plan). p .number) (c .before .before .plan-of .ensures) ∙ plan-number (image b)
+
+  pages : imageError (image b) ≡ 0 → plan .pages ≡ pageCount (startPieces (image b))
+  pages e = ap (λ (p : Plan). p .pages) (c .before .before .plan-of .ensures ∙ plan-accepted (image b) e)
+
+  abbrev asked : Call
+  asked = call (number b) (start (image b) (name b) (bytes b) (lengths b))
+
+  answers : (t : State) (a : Answer) → weighStart frames (image b) args ≡ a → t ≡ leave (state b) asked (outcome (plainly a)) → Does (state b) asked t (plainly a)
+  answers = start-goes (state b) (number b) (image b) (name b) (bytes b) (lengths b) (b .begin-error .result) (first b) (none .if1 .left)
 
 same-length-3 : tie.Need-same-length-3
 same-length-3 c = search needs
@@ -100,22 +127,7 @@ same-length-4 : tie.Need-same-length-4
 same-length-4 c = search needs
 
 returns-2 : tie.Need-returns-2
-returns-2 c =
-    let f = c .before .before in
-    let d = f .before in
-    let b = d .before in
-    answers d (state b) _ (weigh-args (frames d) (image b) (args d) (f .args-size .result .error) (ap (λ (r : ArgsSize). r .error) (f .args-size .ensures) ∙ size-number (bytes b) (lengths b) (sums d)) (c .if2 .taken)) refl
-
--- where the arguments pass
-module _ (c : tie.Else2) where
-  abbrev numbered : tie.Else1
-  numbered = c .before .before .before
-
-  pushed : size.Passed (bytes (numbered .before)) (lengths (numbered .before)) (c .before .before .args-size .result .strings)
-  pushed = size-passed (bytes (numbered .before)) (lengths (numbered .before)) (c .before .before .args-size .result) (c .before .before .args-size .ensures) (c .if2 .left)
-
-plan-of-requires : tie.Need-plan-of-requires
-plan-of-requires c κs = search needs
+returns-2 c = let f = c .before .before in answers f (state (b f)) _ (weigh-args (frames f) (image (b f)) (args f) _ (args-number f) (c .if2 .taken)) refl
 
 same-length-5 : tie.Need-same-length-5
 same-length-5 c = search needs
@@ -123,32 +135,15 @@ same-length-5 c = search needs
 same-length-6 : tie.Need-same-length-6
 same-length-6 c = search needs
 
+-- where the arguments pass
+passed : (c : tie.Else2) → argsError (args (c .before .before)) ≡ 0
+passed c = sym (args-number (c .before .before)) ∙ c .if2 .left
+
 returns-3 : tie.Need-returns-3
 returns-3 c =
-    let p = c .before .before in
-    let k = p .before in
-    let d = numbered k in
-    answers d (state (d .before)) _ (weigh-image (frames d) (image (d .before)) (args d) (pushed k .passed) (p .plan-of .result .number) (ap (λ (x : Plan). x .number) (p .plan-of .ensures) ∙ plan-number (image (d .before))) (c .if3 .taken)) refl
-
--- where the image is accepted
-module _ (c : tie.Else3) where
-  abbrev fitting : tie.Else2
-  fitting = c .before .before .before
-
-  abbrev plan : Plan
-  plan = c .before .before .plan-of .result
-
-  abbrev given : List ℕ
-  given = image (numbered fitting .before)
-
-  accepted : imageError given ≡ 0
-  accepted = sym (ap (λ (x : Plan). x .number) (c .before .before .plan-of .ensures) ∙ plan-number given) ∙ c .if3 .left
-
-  pages : plan .pages ≡ pageCount (startPieces given)
-  pages = ap (λ (x : Plan). x .pages) (c .before .before .plan-of .ensures ∙ plan-accepted given accepted)
-
-free-count-requires : tie.Need-free-count-requires
-free-count-requires c κs = search needs
+    let k = c .before .before in
+    let f = k .before .before in
+    answers f (state (b f)) _ (weigh-image (frames f) (image (b f)) (args f) (passed k) _ (image-number f) (c .if3 .taken)) refl
 
 same-length-7 : tie.Need-same-length-7
 same-length-7 c = search needs
@@ -156,34 +151,38 @@ same-length-7 c = search needs
 same-length-8 : tie.Need-same-length-8
 same-length-8 c = search needs
 
+-- where the image is accepted
+accepted : (c : tie.Else3) → imageError (image (b (c .before .before .before .before))) ≡ 0
+accepted c = sym (image-number (c .before .before .before .before)) ∙ c .if3 .left
+
 returns-4 : tie.Need-returns-4
 returns-4 c =
-    let f = c .before .before in
-    let u = f .before .before in
-    let k = fitting u in
-    let d = numbered k in
-    answers d (state (d .before)) _ (weigh-short (frames d) (given u) (args d) (pushed k .passed) (accepted u) (omega (arith, pages u, f .free-count .ensures, c .if4 .taken))) refl
+    let u = c .before .before in
+    let k = u .before .before in
+    let f = k .before .before in
+    answers f (state (b f)) _
+    (weigh-short (frames f) (image (b f)) (args f) (passed k) (accepted u) (omega (arith, pages f (accepted u), f .free-count .ensures, c .if4 .taken))) refl
 
 -- where the free frames hold its pages
-room : (c : tie.Else4) → pageCount (startPieces (given (c .before .before .before .before))) ≤ free (now (begin (numbered (fitting (c .before .before .before .before)) .before) .args .book))
-room c = omega (arith, pages (c .before .before .before .before), c .before .before .free-count .ensures, c .if4 .left)
+room : (c : tie.Else4) → pageCount (startPieces (image (b (c .before .before .before .before .before .before)))) ≤ frames (c .before .before .before .before .before .before)
+room c = let f = c .before .before .before .before .before .before in omega (arith, pages f (accepted (c .before .before)), f .free-count .ensures, c .if4 .left)
 
 install-requires : tie.Need-install-requires
 install-requires c κs =
-    let f = c .before .before in
-    let u = f .before .before .before .before in
-    let k = fitting u in
-    let d = numbered k in
-    let a = begin (d .before) .args in
-    let n = free-number d in
+    let r = c .before .before in
+    let u = r .before .before in
+    let k = u .before .before in
+    let f = k .before .before in
+    let a = begin (b f) .args in
+    let n = free-number f in
     record {
       sizes = sizes-words (now (a .frames)) (now (a .book)) (n .0 .sizes) .0;
       number = n .0 .number;
-      empty = free-empty (state (d .before)) (a .number) (fits (d .before)) (whole d) (n .0) (n .1);
-      planned = u .before .before .plan-of .ensures;
+      empty = free-empty (state (b f)) (a .number) (fits (b f)) (whole f) (n .0) (n .1);
+      planned = f .before .before .plan-of .ensures;
       accepted = accepted u;
-      args = record { sums = sums d; passed = pushed k .passed };
-      room = room f;
+      args = record { sums = sums f; passed = passed k };
+      room = room r;
     }
 
 same-length-9 : tie.Need-same-length-9
@@ -195,14 +194,13 @@ same-length-10 c = search needs
 returns-5 : tie.Need-returns-5
 returns-5 c =
     let w = c .before .before .before .before in
-    let f = w .before .before .before in
-    let u = f .before .before .before .before in
-    let k = fitting u in
-    let d = numbered k in
-    let r = w .install in
-    answers d _ (r .result .answer)
-    (weigh-fits (frames d) (given u) (args d) (pushed k .passed) (accepted u) (room f) ∙ sym (r .ensures .1))
-    (r .ensures .0 ∙ ap (λ (x : Answer). leave (state (d .before)) (asked d) (outcome (plainly x))) (sym (r .ensures .1)))
+    let r = w .before .before .before in
+    let u = r .before .before in
+    let k = u .before .before in
+    let f = k .before .before in
+    answers f _ (w .install .result .answer)
+    (weigh-fits (frames f) (image (b f)) (args f) (passed k) (accepted u) (room r) ∙ sym (w .install .ensures .1))
+    (w .install .ensures .0 ∙ ap (λ (x : Answer). leave (state (b f)) (asked f) (outcome (plainly x))) (sym (w .install .ensures .1)))
 
 pub start-spec : {M : Type 1} → statement M
 start-spec =
@@ -214,14 +212,14 @@ start-spec =
     same-length-2
     returns
     args-size-requires
+    plan-of-requires
+    free-count-requires
     same-length-3
     same-length-4
     returns-2
-    plan-of-requires
     same-length-5
     same-length-6
     returns-3
-    free-count-requires
     same-length-7
     same-length-8
     returns-4
