@@ -1,17 +1,17 @@
 -- One string more, from the tests that are made; and what it leaves.
 use Prim.Native.Nat.{ℕ, _+_, _≤_}
 use native.Mathlib.Omega.{arith}
-use mathlib.Core.Path.{_≡_, refl, sym, ap, _∙_}
+use mathlib.Core.Path.{_≡_, sym, ap, _∙_}
 use mathlib.Core.Bool.{Bool, true, false, not, _||_}
 use mathlib.Core.List.{List}
 use lib.ListN.{take, set}
-use borrow.Author.Tests.{eqb-true, eqb-false, ltb-false}
+use borrow.Author.Tests.{eqb-true, ltb-false}
 use Rattle.spec.specs.Tests.{_is_, _above_, _⇒_else_}
 use Rattle.spec.specs.Numbers.{argLimit}
 use Rattle.spec.specs.Frames.{put}
 use Rattle.spec.specs.Access.{Str}
 use Rattle.spec.specs.Exec.{stackSize}
-use Rattle.spec.proofs.Bools.{split, clash, un-not, neither, or-fact}
+use Rattle.spec.proofs.Bools.{split, neither, or-fact}
 use Rattle.argv.specs.Reading.{stringError, Added, withString}
 
 module _ (t : Str) (used count : ℕ) (bytes lengths : List ℕ) where

@@ -1,11 +1,11 @@
 -- Arguments that copy_argv has read have no NUL and are within the limit.
 use Prim.Native.Nat.{ℕ, zero, suc, _+_, _*_}
 use native.Mathlib.Omega.{arith}
-use mathlib.Core.Path.{_≡_, refl, sym, ap, subst, _∙_}
+use mathlib.Core.Path.{_≡_, refl, sym, subst}
 use mathlib.Core.Bool.{Bool, true, false}
 use mathlib.Core.List.{List, [], _∷_, _++_}
 use lib.ListN.{length, take}
-use Rattle.spec.specs.Tests.{_is_, _above_, _⇒_else_, any, has}
+use Rattle.spec.specs.Tests.{_is_, _above_, any, has}
 use Rattle.spec.specs.Numbers.{argLimit, le}
 use Rattle.spec.specs.Frames.{Mem}
 use Rattle.spec.specs.Access.{userRangeOk, bytesAt, Str, copyStr}

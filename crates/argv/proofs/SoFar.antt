@@ -18,7 +18,7 @@ use Rattle.argv.specs.declared.Pointer.the-variants.{Bad, Null, At}
 use Rattle.argv.specs.Reading.{pointerAt, stringError, Added, withString}
 use Rattle.argv.proofs.Buffered.{str-length}
 use Rattle.argv.proofs.Turned.{pointer-saturated, sum-snoc, turn-bad, turn-null, turn-stop, turn-next}
-use Rattle.argv.proofs.Adding.{fine, added-error, added-none, error-none}
+use Rattle.argv.proofs.Adding.{added-error, added-none, error-none}
 
 -- a text behind the bytes so far, and a length behind the lengths
 take-put : (d s : List ℕ) (at : ℕ) → at ≤ length d → take (at + length s) (put d at s) ≡ take at d ++ s

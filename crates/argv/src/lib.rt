@@ -38,6 +38,7 @@ pub struct More {
     pub size: usize,
 }
 
+// A byte as a number of 64 bits.
 fn wide(b: u8) -> u64
     ensures { λ r. ⌜ (r ≡ b) × (r < 256) ⌝ }
 {
@@ -123,15 +124,16 @@ fn copy_arg(
 {
     let str = uaccess::try_copy_str_from_user(frames, book, tags, bases, table, number, buf, s);
     let n = str.size;
+    let strings = (used + n + (count + 1)) as u64;
+    let nargs = (count + 1) as u64;
+    let over = (n as u64 == spec::ARG_LIMIT) | (args::stack_size(strings, nargs) > spec::ARG_LIMIT);
     if !str.whole {
         return More {
             error: spec::BAD_ADDRESS,
             size: 0,
         };
     }
-    let strings = (used + n + (count + 1)) as u64;
-    let nargs = (count + 1) as u64;
-    if (n as u64 == spec::ARG_LIMIT) | (args::stack_size(strings, nargs) > spec::ARG_LIMIT) {
+    if over {
         return More {
             error: spec::ENOVMEM,
             size: 0,

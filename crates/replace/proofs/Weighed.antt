@@ -1,11 +1,10 @@
 -- A replace's answer, case by case.
 use Prim.Native.Nat.{ℕ, _+_}
-use native.Mathlib.Omega.{arith}
 use mathlib.Core.Path.{_≡_, refl, sym, ap, _∙_}
 use mathlib.Core.Bool.{Bool, true, false}
 use mathlib.Core.List.{List}
-use borrow.Author.Tests.{eq-eqb, ne-eqb}
-use Rattle.spec.specs.Tests.{_is_, _above_, _⇒_else_}
+use borrow.Author.Tests.{ne-eqb}
+use Rattle.spec.specs.Tests.{_above_, _⇒_else_}
 use Rattle.spec.specs.Numbers.{ustktop}
 use Rattle.spec.specs.Book.{free, pageCount}
 use Rattle.spec.specs.Elf.{entry}

@@ -12,7 +12,7 @@ use spec::Answer;
 use spec::Procs;
 
 // Past the point of no return: the old pages are freed, as `replace_pmmu` does, and the image is installed, as `exec` does. If the
-// frames that are free by then, the process's own among them, don't hold its pages, the process ends with 33.
+// process's own and the free frames don't hold its pages, it ends with 33.
 fn enter(
     frames: &mut [u8],
     book: &mut [u64],
@@ -28,9 +28,11 @@ fn enter(
     ensures { λ r. ⌜ stateOf (now (frames .exit)) (now (book .exit)) (r .procs) ≡ entered (stateOf (now (frames .entry)) (now (book .entry)) procs) number (now (image .entry)) (now (name .entry)) (argsOf (now (bytes .entry)) (now (lengths .entry))) ⌝ }
     ensures { λ r. ⌜ r .answer ≡ entering (stateOf (now (frames .entry)) (now (book .entry)) procs) number (now (image .entry)) (argsOf (now (bytes .entry)) (now (lengths .entry))) ⌝ }
 {
-    let after = front::ending::forget(book, procs, number);
+    let p = front::record::proc_at(procs, number);
     let free = pagealloc::book::free_count(book) as u64;
-    if plan.pages > free {
+    let room = front::pages::own_pages(p) + free;
+    let after = front::ending::forget(book, procs, number);
+    if plan.pages > room {
         return Left {
             procs: after,
             answer: Answer::Ended(spec::ENOVMEM),

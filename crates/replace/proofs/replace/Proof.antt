@@ -1,19 +1,17 @@
 -- `replace` meets its contract: the image is judged, the arguments are read, and only then are pages freed.
-use Prim.Native.Nat.{ℕ, _*_, _≤_}
+use Prim.Native.Nat.{ℕ, _*_}
 use mathlib.Core.Path.{_≡_, refl, sym, ap, _∙_}
 use mathlib.Core.Bool.{true}
 use mathlib.Core.List.{List}
 use denote.Ref.{now}
-use lib.ListN.{length, take}
+use lib.ListN.{length}
 use lib.Seq.{length-take-le}
 use borrow.Author.Needs.{needs}
 use Rattle.spec.specs.Book.{free}
-use Rattle.spec.specs.Frames.{memOf}
 use Rattle.spec.specs.Exec.{imageError, Argv, copyArgv, argsError}
 use Rattle.spec.specs.Machine.{Ask, replace, Reply, outcome, weigh}
 use Rattle.spec.specs.World.{State, view, leave, Does}
 use Rattle.sound.proofs.Lookup.{blank-zeros}
-use Rattle.pagealloc.specs.Lent.{store}
 use Rattle.exec.specs.declared.Plan.{Plan}
 use Rattle.exec.proofs.Planned.{plan-number}
 use Rattle.front.specs.Numbers.{stateOf, call, plainError}
