@@ -184,7 +184,18 @@ pub fn copy_argv(
             }
             Pointer::At(s) => {
                 let r = copy_arg(
-                    frames, book, tags, bases, table, number, s, &mut buf, bytes, lengths, used, count,
+                    frames,
+                    book,
+                    tags,
+                    bases,
+                    table,
+                    number,
+                    s,
+                    &mut buf,
+                    bytes,
+                    lengths,
+                    used,
+                    count,
                 );
                 let e = r.error;
                 if e != 0 {

@@ -78,7 +78,7 @@ same-length-2 : tie.Need-same-length-2 Inv-loop μ-loop
 same-length-2 c = c .before .before .before .before .loop .inv .2
 
 returns : tie.Need-returns Inv-loop μ-loop
-returns c = 
+returns c =
     let r = c .before .before in
     let s = start r in
     let v = l r .loop in
@@ -94,7 +94,7 @@ same-length-4 : tie.Need-same-length-4 Inv-loop μ-loop
 same-length-4 c = c .before .before .before .before .loop .inv .2
 
 returns-2 : tie.Need-returns-2 Inv-loop μ-loop
-returns-2 c = 
+returns-2 c =
     let r = c .before .before in
     let s = start r in
     let v = l r .loop in (
@@ -109,17 +109,17 @@ slice-aggregate-copy-arg : tie.Need-slice-aggregate-copy-arg Inv-loop μ-loop
 slice-aggregate-copy-arg c = search needs
 
 copy-arg-requires : tie.Need-copy-arg-requires Inv-loop μ-loop
-copy-arg-requires c κs = 
+copy-arg-requires c κs =
     let v = c .before .before .before .before .before .before .before .before in
     (v .before .before .before .before .before .pre .0, ((v .loop .inv .0, v .loop .inv .3 .room, v .loop .inv .3 .places), v .loop .inv .3 .limit))
 
 same-length-5 : tie.Need-same-length-5 Inv-loop μ-loop
-same-length-5 c = 
+same-length-5 c =
     let k = c .before .before .before .before .before .before in
     k .copy-arg .kept .1 .1 .1 .1 .1 .1 .1 .1 .0 ∙ l (at k) .loop .inv .1
 
 same-length-6 : tie.Need-same-length-6 Inv-loop μ-loop
-same-length-6 c = 
+same-length-6 c =
     let k = c .before .before .before .before .before .before in
     k .copy-arg .kept .1 .1 .1 .1 .1 .1 .1 .1 .1 .0 ∙ l (at k) .loop .inv .2
 
@@ -136,7 +136,7 @@ loop-less : tie.Need-loop-less Inv-loop μ-loop
 loop-less c = let k = c .before .before .before .before .before .before .before in omega (arith, v k .loop .inv .3 .limit)
 
 loop-again : tie.Need-loop-again Inv-loop μ-loop
-loop-again c = 
+loop-again c =
     let k = c .before .before .before .before .before .before .before in
     let w = v k .loop .inv in (
       k .copy-arg .kept .1 .1 .1 .1 .1 .1 .1 .0 ∙ w .0,

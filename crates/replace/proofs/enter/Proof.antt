@@ -1,5 +1,4 @@
 -- `enter` meets its contract: own and free frames are counted, then the old pages are freed, and the new ones find as many frames free.
-use Prim.Native.Nat.{ℕ}
 use native.Mathlib.Omega.{arith}
 use mathlib.Core.Path.{_≡_, refl, ap, _∙_}
 use mathlib.Core.List.{[], _∷_, _++_}
