@@ -11,4 +11,5 @@ pub use end::end;
 pub use fork::fork;
 pub use front::left::Left;
 pub use push::push;
+pub use replace::replace;
 pub use start::start;
