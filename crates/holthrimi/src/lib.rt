@@ -1,3 +1,4 @@
 // The library for kernels in C and Rust.
 
 pub mod answers;
+mod records;

@@ -1,0 +1,3 @@
+-- How the exported calls are walked.
+pub mod Locals
+pub mod Kept
