@@ -2,3 +2,4 @@
 
 pub mod answers;
 mod records;
+mod reads;

@@ -10,7 +10,7 @@ use types.Kit.{raw, step, _$_, _∵_, !, qed}
 use types.Run.{no-more}
 use denote.Plain.{uint-vals, uint-tells}
 use denote.Builtin.{u8, u64, SliceRef}
-use denote.Ref.{now, ptr-vals, mut-tells}
+use denote.Ref.{ptr-vals, mut-tells}
 use denote.Slice.{slice-vals, mut-slice-tells, shr-slice-tells}
 use denote.Signature.{plain}
 use denote.Struct.Laws as LL
