@@ -196,13 +196,13 @@ pub record Setting {M : Type 1} (𝓤 : URA M) (H : Heap 𝓤) : Type 2 where
   pub knows-tell : Triple 𝓤 (C #tell) (Tell 𝓤 H A at-mem run)
 
 -- ---- from a walk over the tables of a function's environment to the function's routine
-module _ {M : Type 1} (𝓤 : URA M) (H : Heap 𝓤) (𝓜 : Model 𝓤 H) (𝓖 : GhostRules 𝓤 H) (𝓡 : Running 𝓤 H 𝓜) (env : Env) (tell-is : env #tell ≡ tell-def.routine) where
+module _ {M : Type 1} (𝓤 : URA M) (H : Heap 𝓤) (𝓜 : Model 𝓤 H) (𝓖 : GhostRules 𝓤 H) (𝓡 : Running 𝓤 H 𝓜) (env : Env) where
   pub framed : FmC 𝓤 H (givenOf 𝓤 H 𝓜 𝓖 .laws) (tables 𝓤 H 𝓜 𝓡 env .C)
   unfolding tablesOf
   framed = fmOf 𝓤 H (givenOf 𝓤 H 𝓜 𝓖 .laws) (tablesOf 𝓤 H 𝓜 (tables 𝓤 H 𝓜 𝓡 env))
 
-  abbrev pub setting : Setting 𝓤 H
-  setting = record {
+  abbrev pub setting : env #tell ≡ tell-def.routine → Setting 𝓤 H
+  setting tell-is = record {
     A = 𝓖 .A;
     W = givenOf 𝓤 H 𝓜 𝓖;
     at-mem = 𝓜 .mem;
