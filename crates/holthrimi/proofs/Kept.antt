@@ -81,7 +81,7 @@ module _ {M : Type 1} {𝓤 : URA M} {H : Heap 𝓤} {A : Atoms 𝓤} {K : Type 
   relent k i t s r fits are = step (λ z.
       assigns k (addr k (from k (fld k (ap (λ (τ : Ty). fieldOf τ 0) (are .0 .1)) (hop k (peek-in k 0 i 0 refl (are .0) refl) (stop k))))) (from k (stop k)) (fill k 0 t refl (are .1) (tt, tt)) $
       assigns k (agg k (and-then k (load k (from k (stop k)) (peek k 0 t refl (are .3))) (and-then k (load k (from k (fld k (ap (λ (τ : Ty). fieldOf τ 1) (are .0 .1)) (stop k))) (peek-in k 0 i 1 refl (are .2) refl)) (no-more k)))) (from k (stop k))
-        (fill k 0 s refl (are .4) (tt, (tt, (record { fits = fits }, tt)))) $ z)
+      (fill k 0 s refl (are .4) (tt, (tt, (record { fits = fits }, tt)))) $ z)
 
   -- the records are copied to local k from behind the reference in local j
   pub copied : K → (j k : ℕ) {κ : Lft} {s : Share} (h : Procs) {γ : GName} (b o : ℕ) {τ : Ty} {rest : Body} → At E cs j τ (holds (vptr b o)) → At E cs k P′.mir empty
@@ -177,7 +177,7 @@ module _ {M : Type 1} {𝓤 : URA M} {H : Heap 𝓤} {A : Atoms 𝓤} {K : Type 
       land t (from t (stop t)) (fill t 1 l refl at-l (LL.lawful L.the-type L′.the-laws 𝓤 H A W .typed r _ is .0)) $
       rewrite t 1 (λ (u : Val). locals 𝓤 H E (with cs l (holds u))) (ap only (LL.tells L.the-type L′.the-laws r (v ∷ []) is)) refl $
       assigns t (of-opd t (load t (from t (fld t (ap (λ (σ : Ty). fieldOf σ 0) (then w .0 .1)) (stop t))) (peek-in t 1 l 0 refl (then w .0) refl))) (from t (hop t (peek t 1 j refl (then w .1)) (stop t)))
-        (store-raw t 2 refl (LL.lawful P.the-type P′.the-laws 𝓤 H A W .typed (r .procs) _ (records-are r v is) .0)) $
+      (store-raw t 2 refl (LL.lawful P.the-type P′.the-laws 𝓤 H A W .typed (r .procs) _ (records-are r v is) .0)) $
       owned t P.the-row (Is P.the-row) (LL.makes P.the-type P′.the-plain 𝓤 H A) (r .procs) _ (records-are r v is) $
       move t (3 ∷ 0 ∷ 4 ∷ 5 ∷ 6 ∷ []) $ closes t tt P.the-row (r .procs) (LL.vals P.the-type P′.the-laws (r .procs)) b o $
       -- [obs; the borrow; the token; the rest; the locals; that they may be freed; ..]
@@ -272,8 +272,8 @@ module _ {M : Type 1} (𝓤 : URA M) (H : Heap 𝓤) (Z : Setting 𝓤 H) (n : �
         → ent 𝓤 (⋆ 𝓤 H (Z .A) (‵ (O.the-row .own t (LL.vals O.the-type O′.the-laws t)) ∷ raw (sep 𝓤 Tokens (Rest r)) ∷ ‵ (fobs (x .name) (P.the-row .coded .code (r .procs))) ∷ ‵ behind ∷ ‵ (flft (κs .1 .1 .0) (qs .1 .1 .0)) ∷ [])) (Exit (LL.val O.the-type O′.the-laws t))
     ends r t e =
         qed (Z .W) (‵ (O.the-row .own t (LL.vals O.the-type O′.the-laws t)) ∷ ((‵ (flft (κs .0) (qs .0)) ⊛ ‵ (flft (κs .1 .0) (qs .1 .0)) ⊛ raw Tok)
-          ⊛ some (λ (ws : List ℕ × (List ℕ × (Unit {0} × Xs))). ‵ (said-with (ws .0) (ws .1 .0) ftrue (ws .1 .1 .1)) ⊛ raw (fact 𝓤 (Did ws r))))
-          ∷ ‵ (fobs (x .name) (P.the-row .coded .code (r .procs))) ∷ ‵ behind ∷ ‵ (flft (κs .1 .1 .0) (qs .1 .1 .0)) ∷ []) ∵
+        ⊛ some (λ (ws : List ℕ × (List ℕ × (Unit {0} × Xs))). ‵ (said-with (ws .0) (ws .1 .0) ftrue (ws .1 .1 .1)) ⊛ raw (fact 𝓤 (Did ws r))))
+        ∷ ‵ (fobs (x .name) (P.the-row .coded .code (r .procs))) ∷ ‵ behind ∷ ‵ (flft (κs .1 .1 .0) (qs .1 .1 .0)) ∷ []) ∵
         move ! (1 ∷ []) $ split ! $ move ! (1 ∷ []) $ pick ! (λ ws. split ! $ move ! (1 ∷ []) $ heard ! (Did ws r) (λ did.
         -- [what is said of the last values; the tokens; what the result owns; obs; the borrow; the token]
         fsplit ! $ move ! (1 ∷ []) $ fsplit ! $ move ! (1 ∷ []) $ fsplit ! $ drop ! $ move ! (5 ∷ []) $ use1 (Z .W) (‵ (fres (x .name) (P.the-row .coded .code (r .procs)))) (Z .W .names .obs-res (x .name) (P.the-row .coded .code (r .procs))) $

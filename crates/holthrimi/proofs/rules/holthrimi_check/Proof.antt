@@ -63,7 +63,7 @@ module _ {M : Type 1} (𝓤 : URA M) (H : Heap 𝓤) (A : Atoms 𝓤) (W : Given
       (λ κs qs bounds a g are.
       let s : State = stateOf (a .0 .now) (a .1 .0 .now) (a .1 .1 .0 .now) in
       qed W (((‵ (flft (κs .0) (qs .0)) ⊛ ‵ (flft (κs .1 .0) (qs .1 .0)) ⊛ ‵ (flft (κs .1 .1 .0) (qs .1 .1 .0)) ⊛ ‵ ftrue)
-        ⊛ ‵ (fsep (ShrSlice (named 0) (κs .0) u8 .own (a .0) (slice-vals (a .0))) (fsep (ShrSlice (named 1) (κs .1 .0) u64 .own (a .1 .0) (slice-vals (a .1 .0))) (fsep (ShrRef (named 2) (κs .1 .1 .0) P.the-row .own (a .1 .1 .0) (ptr-vals (a .1 .1 .0))) ftrue)))) ∷ []) ∵
+      ⊛ ‵ (fsep (ShrSlice (named 0) (κs .0) u8 .own (a .0) (slice-vals (a .0))) (fsep (ShrSlice (named 1) (κs .1 .0) u64 .own (a .1 .0) (slice-vals (a .1 .0))) (fsep (ShrRef (named 2) (κs .1 .1 .0) P.the-row .own (a .1 .1 .0) (ptr-vals (a .1 .1 .0))) ftrue)))) ∷ []) ∵
       enters ! C Λ code.function _ _ ((tt, (tt, (record { fits = are .0 .0 .1 .0 }, tt))), ((tt, (tt, (record { fits = are .1 .0 .0 .1 .0 }, tt))), ((tt, tt), tt))) (λ ls.
       move ! (2 ∷ []) $ split ! $ split ! $ move ! (1 ∷ []) $ split ! $ move ! (1 ∷ []) $ split ! $
       -- [the records' token; true; book's; frames'; what the parameters own; the locals; that they may be freed]
