@@ -4,11 +4,67 @@
 ghost use mathlib.Core.Path.{_≡_};
 ghost use mathlib.Core.List.{[]};
 ghost use Rattle.spec.specs.Book.{used, procAt};
-ghost use Rattle.spec.specs.Machine.{break, fork, end, copy-from-user, copy-to-user};
+ghost use Rattle.spec.specs.Machine.{start, replace, push, break, fork, end, copy-from-user, copy-to-user};
 ghost use Rattle.front.specs.Numbers.{stateOf, call};
 ghost use Rattle.holthrimi.specs.Tells.{Tells};
 use crate::answers::Told;
 use spec::Procs;
+
+#[no_mangle]
+pub extern "C" fn holthrimi_start(
+    frames: &mut [u8],
+    book: &mut [u64],
+    procs: &mut Procs,
+    number: u64,
+    image: &[u8],
+    name: &[u8],
+    bytes: &[u8],
+    lengths: &[u64],
+) -> Told
+    ensures { λ r. ⌜ Tells (stateOf (now (frames .entry)) (now (book .entry)) (now (procs .entry))) (call number (start (now (image .entry)) (now (name .entry)) (now (bytes .entry)) (now (lengths .entry)))) (stateOf (now (frames .exit)) (now (book .exit)) (now (procs .exit))) r [] ⌝ }
+{
+    let before = *procs;
+    let left = start::start(frames, book, before, number, image, name, bytes, lengths);
+    *procs = left.procs;
+    crate::answers::tell(left.answer)
+}
+
+#[no_mangle]
+pub extern "C" fn holthrimi_replace(
+    frames: &mut [u8],
+    book: &mut [u64],
+    procs: &mut Procs,
+    number: u64,
+    image: &[u8],
+    name: &[u8],
+    argv: u64,
+) -> Told
+    ensures { λ r. ⌜ Tells (stateOf (now (frames .entry)) (now (book .entry)) (now (procs .entry))) (call number (replace (now (image .entry)) (now (name .entry)) argv)) (stateOf (now (frames .exit)) (now (book .exit)) (now (procs .exit))) r [] ⌝ }
+{
+    let before = *procs;
+    let left = replace::replace(frames, book, before, number, image, name, argv);
+    *procs = left.procs;
+    crate::answers::tell(left.answer)
+}
+
+#[no_mangle]
+pub extern "C" fn holthrimi_push(
+    frames: &mut [u8],
+    book: &mut [u64],
+    procs: &mut Procs,
+    number: u64,
+    pc: u64,
+    top: u64,
+    bytes: &[u8],
+    lengths: &[u64],
+) -> Told
+    ensures { λ r. ⌜ Tells (stateOf (now (frames .entry)) (now (book .entry)) (now (procs .entry))) (call number (push pc top (now (bytes .entry)) (now (lengths .entry)))) (stateOf (now (frames .exit)) (now (book .exit)) (now (procs .exit))) r [] ⌝ }
+{
+    let before = *procs;
+    let left = push::push(frames, book, before, number, pc, top, bytes, lengths);
+    *procs = left.procs;
+    crate::answers::tell(left.answer)
+}
 
 #[no_mangle]
 pub extern "C" fn holthrimi_break(
