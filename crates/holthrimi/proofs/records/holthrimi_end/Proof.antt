@@ -22,9 +22,9 @@ use Rattle.spec.specs.Machine.{end}
 use Rattle.spec.proofs.Procs as P
 use Rattle.spec.proofs.Procs.Laws as P′
 use Rattle.front.specs.Numbers.{call}
-use Rattle.calls.proofs.end as work
-use Rattle.calls.proofs.end.Symbol as work-def
-use Rattle.calls.proofs.end.Met as work-thm
+use Rattle.end.proofs.end as work
+use Rattle.end.proofs.end.Symbol as work-def
+use Rattle.end.proofs.end.Met as work-thm
 use Rattle.holthrimi.proofs.Locals.{enters}
 use Rattle.holthrimi.proofs.Kept.{Setting, setting, walks, relent, arg, exported}
 use Rattle.holthrimi.proofs.records.holthrimi_end.Key.{name as #f}
@@ -55,4 +55,4 @@ unfolding code.routine
 holthrimi-end-spec 𝓤 H 𝓜 𝓖 𝓡 =
     let Z : Setting 𝓤 H = setting 𝓤 H 𝓜 𝓖 𝓡 code.env code.calls-holthrimi·answers·tell in
     entered 𝓤 H (tripleOf 𝓤 H (𝓖 .A) f.signature (f.spec 𝓤 H (𝓖 .A) (𝓜 .mem) (𝓡 .run))) (Z .C) (Z .Λ) #f code.function (code.unfolded 𝓤 H 𝓜 𝓡)
-    (meets 𝓤 H Z (cited 𝓤 H (Work 𝓤 H Z) 𝓜 𝓡 code.env work-def.name work-def.routine code.calls-calls·end (work-thm.met 𝓤 H 𝓜 𝓖 𝓡)))
+    (meets 𝓤 H Z (cited 𝓤 H (Work 𝓤 H Z) 𝓜 𝓡 code.env work-def.name work-def.routine code.calls-end·end (work-thm.met 𝓤 H 𝓜 𝓖 𝓡)))
