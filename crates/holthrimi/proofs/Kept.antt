@@ -54,17 +54,17 @@ use Rattle.spec.proofs.Answer.Laws as N′
 use Rattle.front.specs.declared.left.Left.{Left}
 use Rattle.front.proofs.left.Left as L
 use Rattle.front.proofs.left.Left.Laws as L′
-use Rattle.holthrimi.specs.declared.answers.Told.{Told}
+use Rattle.told.specs.declared.Told.{Told}
 use Rattle.spec.specs.Machine.{Call, Reply}
 use Rattle.spec.specs.World.{State, Does}
 use Rattle.front.specs.Numbers.{stateOf}
-use Rattle.holthrimi.specs.Tells.{toldOf, Tells}
-use Rattle.holthrimi.proofs.answers.Told as O
-use Rattle.holthrimi.proofs.answers.Told.Laws as O′
-use Rattle.holthrimi.proofs.answers.tell as tell
-use Rattle.holthrimi.proofs.answers.tell.Symbol as tell-def
-use Rattle.holthrimi.proofs.answers.tell.Symbol.{name as #tell}
-use Rattle.holthrimi.proofs.answers.tell.Met as tell-thm
+use Rattle.told.specs.Tells.{toldOf, Tells}
+use Rattle.told.proofs.Told as O
+use Rattle.told.proofs.Told.Laws as O′
+use Rattle.told.proofs.tell as tell
+use Rattle.told.proofs.tell.Symbol as tell-def
+use Rattle.told.proofs.tell.Symbol.{name as #tell}
+use Rattle.told.proofs.tell.Met as tell-thm
 use Rattle.holthrimi.proofs.Locals.{Cell, empty, holds, with, cell, At, nowhere, locals, dead, peek, peek-in, fill, leaves, Whole}
 
 -- a slice in local i can be lent on: its pointer goes to local t, and pointer and count to local s

@@ -40,11 +40,11 @@ use Rattle.spec.specs.declared.Answer.{Answer}
 use Rattle.spec.proofs.Answer as N
 use Rattle.spec.proofs.Answer.Laws as N′
 use Rattle.front.specs.Numbers.{stateOf}
-use Rattle.holthrimi.specs.declared.answers.Told.{Told}
-use Rattle.holthrimi.specs.Tells.{toldOf, Tells}
-use Rattle.holthrimi.proofs.answers.Told as O
-use Rattle.holthrimi.proofs.answers.Told.Laws as O′
-use Rattle.holthrimi.proofs.answers.tell.Symbol.{name as #tell}
+use Rattle.told.specs.declared.Told.{Told}
+use Rattle.told.specs.Tells.{toldOf, Tells}
+use Rattle.told.proofs.Told as O
+use Rattle.told.proofs.Told.Laws as O′
+use Rattle.told.proofs.tell.Symbol.{name as #tell}
 use Rattle.holthrimi.proofs.Locals.{Cell, empty, holds, with, At, locals, dead, peek, fill, Whole}
 use Rattle.holthrimi.proofs.Kept.{Setting, tells, told}
 

@@ -1,3 +1,2 @@
--- Answers as C sees them, and what is promised of the exported functions.
-pub mod Tells
+-- What the exported functions that are no calls answer.
 pub mod Rules

@@ -5,9 +5,9 @@ ghost use mathlib.Core.Path.{_≡_};
 ghost use mathlib.Core.List.{[]};
 ghost use Rattle.spec.specs.Machine.{user-range-ok, try-copy-str-from-user};
 ghost use Rattle.front.specs.Numbers.{stateOf, call};
-ghost use Rattle.holthrimi.specs.Tells.{Tells};
-use crate::answers::Told;
+ghost use Rattle.told.specs.Tells.{Tells};
 use spec::Procs;
+use told::Told;
 
 #[no_mangle]
 pub extern "C" fn holthrimi_user_range_ok(
@@ -23,7 +23,7 @@ pub extern "C" fn holthrimi_user_range_ok(
 {
     let records = *procs;
     let answer = access::user_range_ok(frames, book, records, number, addr, len, write);
-    crate::answers::tell(answer)
+    told::tell(answer)
 }
 
 #[no_mangle]
@@ -39,5 +39,5 @@ pub extern "C" fn holthrimi_try_copy_str_from_user(
 {
     let records = *procs;
     let answer = access::try_copy_str_from_user(frames, book, records, number, dst, src);
-    crate::answers::tell(answer)
+    told::tell(answer)
 }

@@ -6,9 +6,9 @@ ghost use mathlib.Core.List.{[]};
 ghost use Rattle.spec.specs.Book.{used, procAt};
 ghost use Rattle.spec.specs.Machine.{start, replace, push, break, fork, end, copy-from-user, copy-to-user};
 ghost use Rattle.front.specs.Numbers.{stateOf, call};
-ghost use Rattle.holthrimi.specs.Tells.{Tells};
-use crate::answers::Told;
+ghost use Rattle.told.specs.Tells.{Tells};
 use spec::Procs;
+use told::Told;
 
 #[no_mangle]
 pub extern "C" fn holthrimi_start(
@@ -26,7 +26,7 @@ pub extern "C" fn holthrimi_start(
     let before = *procs;
     let left = start::start(frames, book, before, number, image, name, bytes, lengths);
     *procs = left.procs;
-    crate::answers::tell(left.answer)
+    told::tell(left.answer)
 }
 
 #[no_mangle]
@@ -44,7 +44,7 @@ pub extern "C" fn holthrimi_replace(
     let before = *procs;
     let left = replace::replace(frames, book, before, number, image, name, argv);
     *procs = left.procs;
-    crate::answers::tell(left.answer)
+    told::tell(left.answer)
 }
 
 #[no_mangle]
@@ -63,7 +63,7 @@ pub extern "C" fn holthrimi_push(
     let before = *procs;
     let left = push::push(frames, book, before, number, pc, top, bytes, lengths);
     *procs = left.procs;
-    crate::answers::tell(left.answer)
+    told::tell(left.answer)
 }
 
 #[no_mangle]
@@ -79,7 +79,7 @@ pub extern "C" fn holthrimi_break(
     let before = *procs;
     let left = brk::brk(frames, book, before, number, addr);
     *procs = left.procs;
-    crate::answers::tell(left.answer)
+    told::tell(left.answer)
 }
 
 // The child's segments are its parent's record's.
@@ -96,7 +96,7 @@ pub extern "C" fn holthrimi_fork(
     let before = *procs;
     let left = fork::fork(frames, book, before, number, child);
     *procs = left.procs;
-    crate::answers::tell(left.answer)
+    told::tell(left.answer)
 }
 
 #[no_mangle]
@@ -111,7 +111,7 @@ pub extern "C" fn holthrimi_end(
     let before = *procs;
     let left = end::end(frames, book, before, number);
     *procs = left.procs;
-    crate::answers::tell(left.answer)
+    told::tell(left.answer)
 }
 
 #[no_mangle]
@@ -128,7 +128,7 @@ pub extern "C" fn holthrimi_copy_from_user(
     let before = *procs;
     let left = access::copy_from_user(frames, book, before, number, dst, src);
     *procs = left.procs;
-    crate::answers::tell(left.answer)
+    told::tell(left.answer)
 }
 
 #[no_mangle]
@@ -145,5 +145,5 @@ pub extern "C" fn holthrimi_copy_to_user(
     let before = *procs;
     let left = access::copy_to_user(frames, book, before, number, dst, bytes);
     *procs = left.procs;
-    crate::answers::tell(left.answer)
+    told::tell(left.answer)
 }

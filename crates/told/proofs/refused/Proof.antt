@@ -1,7 +1,7 @@
 -- `refused` meets its contract.
 use borrow.Author.Needs.{needs}
-use Rattle.holthrimi.proofs.answers.refused.Statement.{statement}
-use Rattle.holthrimi.proofs.answers.refused.Tie as tie
+use Rattle.told.proofs.refused.Statement.{statement}
+use Rattle.told.proofs.refused.Tie as tie
 
 zero-regs-requires : tie.Need-zero-regs-requires
 zero-regs-requires c κs = search needs

@@ -6,7 +6,7 @@ use mathlib.Core.List.{List}
 use Rattle.spec.specs.Machine.{Outcome, accepted, refused, ended, outcomeOf, numberOf, regsOf, valueOf, Call}
 use Rattle.spec.specs.World.{State, after, answer}
 use Rattle.spec.specs.declared.Answer.{Answer}
-use Rattle.holthrimi.specs.declared.answers.Told.{Told}
+use Rattle.told.specs.declared.Told.{Told}
 
 -- 0 accepted, 1 refused, 2 ended
 abbrev pub kindOf : Outcome → ℕ

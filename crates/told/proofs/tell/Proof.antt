@@ -1,9 +1,9 @@
 -- `tell` meets its contract.
 use mathlib.Core.Path.{ap}
 use borrow.Author.Needs.{needs}
-use Rattle.holthrimi.specs.Tells.{toldOf}
-use Rattle.holthrimi.proofs.answers.tell.Statement.{statement}
-use Rattle.holthrimi.proofs.answers.tell.Tie as tie
+use Rattle.told.specs.Tells.{toldOf}
+use Rattle.told.proofs.tell.Statement.{statement}
+use Rattle.told.proofs.tell.Tie as tie
 
 enum-known-a : tie.Need-enum-known-a
 enum-known-a c = search needs

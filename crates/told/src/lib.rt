@@ -1,8 +1,8 @@
-// An answer as C sees it.
+// Answers as C sees them: one struct of numbers, where the calls have an enum.
 
 ghost use mathlib.Core.Path.{_≡_};
 ghost use Rattle.spec.specs.Machine.{zeroRegs};
-ghost use Rattle.holthrimi.specs.Tells.{toldOf};
+ghost use Rattle.told.specs.Tells.{toldOf};
 use spec::Answer;
 use spec::UserRegs;
 
