@@ -78,12 +78,12 @@ fn lay(before: Laid, g: Segment) -> Fit
 }
 
 // The layout with the segment of one more program header, if it has one.
-fn lay_header(image: &[u8], at: usize, before: Laid) -> Fit
-    requires { ⌜ at + 56 ≤ length (now image) ⌝ }
-    requires { ⌜ CheckedLoad (length (now image)) (loadOf (phdrAt (now image) at)) ⌝ }
-    ensures { λ r. ⌜ r ≡ fitOf before (loadOf (phdrAt (now (image .entry)) at)) ⌝ }
+fn lay_header(image: &[u8], h: Elf, i: usize, before: Laid) -> Fit
+    requires { ⌜ (h .phoff + 56 * h .phnum ≤ length (now image)) × (i < h .phnum) ⌝ }
+    requires { ⌜ CheckedLoad (length (now image)) (loadOf (phdrAt (now image) (h .phoff + 56 * i))) ⌝ }
+    ensures { λ r. ⌜ r ≡ fitOf before (loadOf (phdrAt (now (image .entry)) (h .phoff + 56 * i))) ⌝ }
 {
-    let l = elf::segment_at(image, at);
+    let l = checked::segment_of(image, h, i);
     match l {
         Load::Skip => Fit::Fits(before),
         Load::Segment(g) => lay(before, g),
@@ -102,12 +102,11 @@ fn layout(image: &[u8], h: Elf) -> Fit
             end: spec::UTZERO,
         },
     };
-    let mut at = h.phoff;
-    let mut k = h.phnum;
-    while k > 0 {
-        let f = lay_header(image, at, seen);
-        at += elf::PHDR_SIZE;
-        k -= 1;
+    let n = h.phnum;
+    let mut k = 0;
+    while k < n {
+        let f = lay_header(image, h, k, seen);
+        k += 1;
         match f {
             Fit::Refused => {
                 return Fit::Refused;
@@ -166,13 +165,13 @@ fn push(before: Recorded, u: UserSegment) -> Recorded
 }
 
 // The recorded segments with that of one more program header, if it has one.
-fn push_header(image: &[u8], at: usize, bss: VirtRange, before: Recorded) -> Recorded
-    requires { ⌜ at + 56 ≤ length (now image) ⌝ }
-    requires { ⌜ CheckedLoad (length (now image)) (loadOf (phdrAt (now image) at)) ⌝ }
+fn push_header(image: &[u8], h: Elf, i: usize, bss: VirtRange, before: Recorded) -> Recorded
+    requires { ⌜ (h .phoff + 56 * h .phnum ≤ length (now image)) × (i < h .phnum) ⌝ }
+    requires { ⌜ CheckedLoad (length (now image)) (loadOf (phdrAt (now image) (h .phoff + 56 * i))) ⌝ }
     requires { ⌜ (bss .start ≤ 2 ^ 64 - 4096) × (before .count < 2 ^ 63) ⌝ }
-    ensures { λ r. ⌜ r ≡ recordedWith bss before (loadOf (phdrAt (now (image .entry)) at)) ⌝ }
+    ensures { λ r. ⌜ r ≡ recordedWith bss before (loadOf (phdrAt (now (image .entry)) (h .phoff + 56 * i))) ⌝ }
 {
-    let l = elf::segment_at(image, at);
+    let l = checked::segment_of(image, h, i);
     match l {
         Load::Skip => before,
         Load::Segment(g) => push(before, user_segment(bss, g)),
@@ -191,12 +190,11 @@ fn segments(image: &[u8], h: Elf, bss: VirtRange) -> Recorded
     };
     let segments = [zero; 16];
     let mut seen = Recorded { segments, count: 0 };
-    let mut at = h.phoff;
-    let mut k = h.phnum;
-    while k > 0 {
-        seen = push_header(image, at, bss, seen);
-        at += elf::PHDR_SIZE;
-        k -= 1;
+    let n = h.phnum;
+    let mut k = 0;
+    while k < n {
+        seen = push_header(image, h, k, bss, seen);
+        k += 1;
     }
     seen
 }
