@@ -7,7 +7,7 @@ use lib.ListN.{length, getD}
 use Rattle.spec.specs.declared.UserSegment.{UserSegment}
 use Rattle.spec.specs.declared.Proc.{Proc}
 use Rattle.spec.proofs.UserSegment as S
-use Rattle.sound.proofs.Walk.{length-mapped}
+use Rattle.records.proofs.Walk.{length-mapped}
 use Rattle.forks.proofs.Listed.{holds-past, holds-here, ends-past, ends-here}
 use borrow.Author.Needs.{needs}
 use Rattle.forks.proofs.list.ends.Statement.{statement}
