@@ -52,9 +52,11 @@ copied-up-to m number child gs fits small other can zero h = (m, copied-none m n
 copied-up-to m number child gs fits small other can (suc i) h =
     let r = copied-up-to m number child gs fits small other can i (omega (arith, h)) in
     let s : i + 1 ≡ suc i = omega arith in
-    let t = copiesOf (r .0) number child (getD gs i zeroSegment ∷ []) in
-    (t, subst (Copied m t number child) (sym (take-more gs i h) ∙ ap (λ (k : ℕ). take k gs) s)
-    (copied-more m (r .0) t number child (take i gs) (getD gs i zeroSegment) fits small other (r .1) (as-copyable (m .book) number _ (can i h)) refl))
+    let t = copiesOf (r .0) number child (getD gs i zeroSegment ∷ []) in (
+      t,
+      subst (Copied m t number child) (sym (take-more gs i h) ∙ ap (λ (k : ℕ). take k gs) s)
+          (copied-more m (r .0) t number child (take i gs) (getD gs i zeroSegment) fits small other (r .1) (as-copyable (m .book) number _ (can i h)) refl),
+    )
 
 pub copied-all : (m t : Store) (number child : ℕ) (gs : List UserSegment) → Fits m → child < 256 → (number ≡ child → ⊥) → ((i : ℕ) → i < length gs → Copyable (m .book) number (getD gs i zeroSegment))
     → t ≡ copiesOf m number child gs → Copied m t number child gs

@@ -12,7 +12,13 @@ use spec::UserSegment;
 
 // Copies the pages of the lent segments of process `number` for `child`, as `copy_segments`: every page now, segments in their
 // order. Callers have counted the free frames. No frame from the answer on is free.
-pub fn copy_segments(frames: &mut [u8], book: &mut [u64], number: u64, child: u64, segments: &[UserSegment]) -> usize
+pub fn copy_segments(
+    frames: &mut [u8],
+    book: &mut [u64],
+    number: u64,
+    child: u64,
+    segments: &[UserSegment],
+) -> usize
     requires { ⌜ (length (now frames) ≡ 4096 * length (now book)) × (1 ≤ number) × (number < 256) × (1 ≤ child) × (child < 256) × (number ≡ child → ⊥) ⌝ }
     requires { ⌜ ((i : ℕ) → i < length (now segments) → Copyable (now book) number (getD (now segments) i zeroSegment)) ⌝ }
     ensures { λ _. ⌜ store (now (frames .exit)) (now (book .exit)) ≡ place (store (now (frames .entry)) (now (book .entry))) child (pagesOf (λ a. frameBytes (now (frames .entry)) (frameOf (now (book .entry)) number a)) (now (segments .entry))) ⌝ }

@@ -23,14 +23,13 @@ ghost use Rattle.pagealloc.specs.Lent.{Passed};
 ghost use Rattle.front.specs.Numbers.{stateOf, call, forkError};
 ghost use Rattle.forks.specs.Lent.{Copyable};
 ghost use Rattle.forks.specs.Fork.{recordOf, forkNumber};
+pub use copy::copy_segments;
 use front::left::Left;
+pub use list::same_list;
 use spec::Answer;
 use spec::Proc;
 use spec::Procs;
 use spec::UserSegment;
-
-pub use copy::copy_segments;
-pub use list::same_list;
 
 // The record of a process; a number outside 1 to 16 has none.
 fn recorded(procs: Procs, number: u64) -> Proc

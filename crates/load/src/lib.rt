@@ -43,15 +43,7 @@ fn load_header(
             let recorded = exec::user_segment(bss, g);
             let vaddr = g.vaddr;
             let file = checked::file_of(image, h, g);
-            pagealloc::place::load_segment(
-                frames,
-                book,
-                top,
-                owner,
-                recorded,
-                vaddr,
-                file,
-            )
+            pagealloc::place::load_segment(frames, book, top, owner, recorded, vaddr, file)
         }
     }
 }

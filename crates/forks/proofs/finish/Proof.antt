@@ -53,9 +53,10 @@ returns : tie.Need-returns
 returns c =
     let s = c .before .before .before .before .before .copy-segment in
     let b = c .before .before .before .before .before .before .before .before in
-    let a = b .before .before .before .before .before .args in
-    (s .ensures .0 ∙ ap (λ (g : UserSegment). copiesOf (store (now (a .frames)) (now (a .book))) (a .number) (a .child) (g ∷ [])) (bss-is b),
-    ap (λ (ps : Procs). done ps) (c .with-proc .ensures ∙ ap (setProc (a .procs) (a .child)) (b .before .before .proc-at .ensures)))
+    let a = b .before .before .before .before .before .args in (
+      s .ensures .0 ∙ ap (λ (g : UserSegment). copiesOf (store (now (a .frames)) (now (a .book))) (a .number) (a .child) (g ∷ [])) (bss-is b),
+      ap (λ (ps : Procs). done ps) (c .with-proc .ensures ∙ ap (setProc (a .procs) (a .child)) (b .before .before .proc-at .ensures)),
+    )
 
 pub finish-spec : {M : Type 1} → statement M
 finish-spec = tie.close (tie.spec proc-at-requires bss-segment-requires copy-segment-requires with-proc-requires same-length same-length-2 returns)

@@ -400,23 +400,23 @@ module _ {M : Type 1} (𝓤 : URA M) (H : Heap 𝓤) (A : Atoms 𝓤) (W : Given
         -- there is none: `forked` takes frames and book
         then-forked : (e : ℕ) (fits-e : e < 2 ^ 64) (is-first : e ≡ forkNumber state number child alike) → e ≡ 0 → Sq W (Tested (mp p isP is-record) alike e) (runs C Λ E mir.t-10 (atRet E Post))
         then-forked e fits-e is-first z =
-          assigns ! (addr ! (from ! (fld ! refl (hop ! (look-in ! 40 (sub ! 0 refl (whole !))) (stop !))))) (from ! (stop !)) (init ! 12 refl (tt, tt)) $
-          assigns ! (agg ! (and-then ! (load ! (from ! (stop !)) (look ! 12 refl)) (and-then ! (load ! (from ! (fld ! refl (stop !))) (look-in ! 40 (sub ! 1 refl (whole !)))) (no-more !)))) (from ! (stop !)) (init ! 10 refl (tt, (tt, (record { fits = room₀ .0 }, tt)))) $
-          assigns ! (addr ! (from ! (fld ! refl (hop ! (look-in ! 38 (sub ! 0 refl (whole !))) (stop !))))) (from ! (stop !)) (init ! 8 refl (tt, tt)) $
-          assigns ! (agg ! (and-then ! (load ! (from ! (stop !)) (look ! 8 refl)) (and-then ! (load ! (from ! (fld ! refl (stop !))) (look-in ! 38 (sub ! 1 refl (whole !)))) (no-more !)))) (from ! (stop !)) (init ! 6 refl (tt, (tt, (record { fits = room₁ .0 }, tt)))) $
-          move ! (5 ∷ []) $ use1 W (‵ OwnS ⊛ ‵ OwnS) (shr-slice-copy 𝓤 H A W (named 2) κ₂ R .twice (sliceAt R b₂ o₂ γ₂ gs) (vs ∷ [])) $ split ! $ move ! (2 ∷ 5 ∷ 3 ∷ 6 ∷ 4 ∷ 0 ∷ []) $
-          group ! 6 $ use1 W (raw (Forked 𝓤 H A at-mem run .pre (to-forked p isP is-record alike is-alike e fits-e is-first))) (asks-forked p isP is-record alike is-alike e fits-e is-first z) $
-          calls-at ! fm (Forked 𝓤 H A at-mem run) known-forked (to-forked p isP is-record alike is-alike e fits-e is-first) (and-then ! (load ! (from ! (stop !)) (look ! 6 refl)) (and-then ! (load ! (from ! (stop !)) (look ! 2 refl)) (and-then ! (load ! (from ! (stop !)) (look ! 32 refl)) (and-then ! (load ! (from ! (stop !)) (look ! 30 refl)) (and-then ! (load ! (from ! (stop !)) (look ! 28 refl)) (and-then ! (load ! (from ! (stop !)) (look ! 26 refl)) (no-more !))))))) (λ u.
-          use1 W (later (some (λ (r : Left). ((‵ (flft κ₀ q₀) ⊛ (‵ (flft κ₁ q₁) ⊛ (‵ (flft κ₂ q₂) ⊛ ‵ ftrue))) ⊛ ‵ (Res .own r (u ∷ []))) ⊛ raw (ensured 𝓤 H A forked.ended (forked.clauses 𝓤 H A at-mem run) (κ₀, (κ₁, (κ₂, tt))) a tt r)))) (id⊢ 𝓤 _) $ await ! tt $ pick ! (λ r.
-          split ! $ move ! (1 ∷ []) $ use1 W (some (λ (ws : Lists). ‵ (lasts forked.ended (κ₀, (κ₁, (κ₂, tt))) a ws) ⊛ raw (fact 𝓤 (Ended p isP is-record alike is-alike e fits-e is-first ws r)))) (id⊢ 𝓤 _) $ pick ! (λ ws.
-          split ! $ move ! (1 ∷ []) $ heard ! (Ended p isP is-record alike is-alike e fits-e is-first ws r) (λ h.
-          fsplit ! $ fsplit ! $ move ! (1 ∷ []) $ feqL ! (λ e₀. move ! (1 ∷ []) $ fsplit ! $ fsplit ! $ move ! (1 ∷ []) $ feqL ! (λ e₁.
-          move ! (3 ∷ []) $ split ! $ move ! (1 ∷ []) $ peeks ! Res (Is Res) (shows 𝓤 H A Res) r (u ∷ []) (λ is.
-          -- [the result; the tokens; book's last list; …; frames' last list; segments; _18; …]
-          land ! (from ! (stop !)) (init ! 42 refl (LL.lawful Lf.the-type Lf′.the-laws 𝓤 H A W .typed r _ is .0)) $ returns ! (look ! 42 refl) $
-          forget ! 6 refl $ forget ! 8 refl $ forget ! 10 refl $ forget ! 12 refl $ forget ! 14 refl $ forget ! 16 refl $ forget ! 18 refl $ forget ! 20 refl $ forget ! 22 refl $ forget ! 24 refl $ forget ! 26 refl $ forget ! 28 refl $ forget ! 30 refl $ forget ! 32 refl $ forget ! 34 refl $ forget ! 36 refl $ forget ! 38 refl $ forget ! 40 refl $ forget ! 42 refl $
-          move ! (42 ∷ 43 ∷ []) $ free1 ! $ move ! (40 ∷ 41 ∷ []) $ free1 ! $ move ! (38 ∷ 39 ∷ []) $ free1 ! $ move ! (36 ∷ 37 ∷ []) $ free1 ! $ move ! (34 ∷ 35 ∷ []) $ free1 ! $ move ! (32 ∷ 33 ∷ []) $ free1 ! $ move ! (30 ∷ 31 ∷ []) $ free1 ! $ move ! (28 ∷ 29 ∷ []) $ free1 ! $ move ! (26 ∷ 27 ∷ []) $ free1 ! $ move ! (24 ∷ 25 ∷ []) $ free1 ! $ move ! (22 ∷ 23 ∷ []) $ free1 ! $ move ! (20 ∷ 21 ∷ []) $ free1 ! $ move ! (18 ∷ 19 ∷ []) $ free1 ! $ move ! (16 ∷ 17 ∷ []) $ free1 ! $ move ! (14 ∷ 15 ∷ []) $ free1 ! $ move ! (12 ∷ 13 ∷ []) $ free1 ! $ move ! (10 ∷ 11 ∷ []) $ free1 ! $ move ! (8 ∷ 9 ∷ []) $ free1 ! $ move ! (6 ∷ 7 ∷ []) $ free1 ! $ free0 ! $
-          keep ! (0 ∷ 1 ∷ 2 ∷ 4 ∷ 5 ∷ []) $ by ! (exits-done p isP is-record alike is-alike e fits-e is-first ws r u z e₀ e₁ h))))))))
+            assigns ! (addr ! (from ! (fld ! refl (hop ! (look-in ! 40 (sub ! 0 refl (whole !))) (stop !))))) (from ! (stop !)) (init ! 12 refl (tt, tt)) $
+            assigns ! (agg ! (and-then ! (load ! (from ! (stop !)) (look ! 12 refl)) (and-then ! (load ! (from ! (fld ! refl (stop !))) (look-in ! 40 (sub ! 1 refl (whole !)))) (no-more !)))) (from ! (stop !)) (init ! 10 refl (tt, (tt, (record { fits = room₀ .0 }, tt)))) $
+            assigns ! (addr ! (from ! (fld ! refl (hop ! (look-in ! 38 (sub ! 0 refl (whole !))) (stop !))))) (from ! (stop !)) (init ! 8 refl (tt, tt)) $
+            assigns ! (agg ! (and-then ! (load ! (from ! (stop !)) (look ! 8 refl)) (and-then ! (load ! (from ! (fld ! refl (stop !))) (look-in ! 38 (sub ! 1 refl (whole !)))) (no-more !)))) (from ! (stop !)) (init ! 6 refl (tt, (tt, (record { fits = room₁ .0 }, tt)))) $
+            move ! (5 ∷ []) $ use1 W (‵ OwnS ⊛ ‵ OwnS) (shr-slice-copy 𝓤 H A W (named 2) κ₂ R .twice (sliceAt R b₂ o₂ γ₂ gs) (vs ∷ [])) $ split ! $ move ! (2 ∷ 5 ∷ 3 ∷ 6 ∷ 4 ∷ 0 ∷ []) $
+            group ! 6 $ use1 W (raw (Forked 𝓤 H A at-mem run .pre (to-forked p isP is-record alike is-alike e fits-e is-first))) (asks-forked p isP is-record alike is-alike e fits-e is-first z) $
+            calls-at ! fm (Forked 𝓤 H A at-mem run) known-forked (to-forked p isP is-record alike is-alike e fits-e is-first) (and-then ! (load ! (from ! (stop !)) (look ! 6 refl)) (and-then ! (load ! (from ! (stop !)) (look ! 2 refl)) (and-then ! (load ! (from ! (stop !)) (look ! 32 refl)) (and-then ! (load ! (from ! (stop !)) (look ! 30 refl)) (and-then ! (load ! (from ! (stop !)) (look ! 28 refl)) (and-then ! (load ! (from ! (stop !)) (look ! 26 refl)) (no-more !))))))) (λ u.
+            use1 W (later (some (λ (r : Left). ((‵ (flft κ₀ q₀) ⊛ (‵ (flft κ₁ q₁) ⊛ (‵ (flft κ₂ q₂) ⊛ ‵ ftrue))) ⊛ ‵ (Res .own r (u ∷ []))) ⊛ raw (ensured 𝓤 H A forked.ended (forked.clauses 𝓤 H A at-mem run) (κ₀, (κ₁, (κ₂, tt))) a tt r)))) (id⊢ 𝓤 _) $ await ! tt $ pick ! (λ r.
+            split ! $ move ! (1 ∷ []) $ use1 W (some (λ (ws : Lists). ‵ (lasts forked.ended (κ₀, (κ₁, (κ₂, tt))) a ws) ⊛ raw (fact 𝓤 (Ended p isP is-record alike is-alike e fits-e is-first ws r)))) (id⊢ 𝓤 _) $ pick ! (λ ws.
+            split ! $ move ! (1 ∷ []) $ heard ! (Ended p isP is-record alike is-alike e fits-e is-first ws r) (λ h.
+            fsplit ! $ fsplit ! $ move ! (1 ∷ []) $ feqL ! (λ e₀. move ! (1 ∷ []) $ fsplit ! $ fsplit ! $ move ! (1 ∷ []) $ feqL ! (λ e₁.
+            move ! (3 ∷ []) $ split ! $ move ! (1 ∷ []) $ peeks ! Res (Is Res) (shows 𝓤 H A Res) r (u ∷ []) (λ is.
+            -- [the result; the tokens; book's last list; …; frames' last list; segments; _18; …]
+            land ! (from ! (stop !)) (init ! 42 refl (LL.lawful Lf.the-type Lf′.the-laws 𝓤 H A W .typed r _ is .0)) $ returns ! (look ! 42 refl) $
+            forget ! 6 refl $ forget ! 8 refl $ forget ! 10 refl $ forget ! 12 refl $ forget ! 14 refl $ forget ! 16 refl $ forget ! 18 refl $ forget ! 20 refl $ forget ! 22 refl $ forget ! 24 refl $ forget ! 26 refl $ forget ! 28 refl $ forget ! 30 refl $ forget ! 32 refl $ forget ! 34 refl $ forget ! 36 refl $ forget ! 38 refl $ forget ! 40 refl $ forget ! 42 refl $
+            move ! (42 ∷ 43 ∷ []) $ free1 ! $ move ! (40 ∷ 41 ∷ []) $ free1 ! $ move ! (38 ∷ 39 ∷ []) $ free1 ! $ move ! (36 ∷ 37 ∷ []) $ free1 ! $ move ! (34 ∷ 35 ∷ []) $ free1 ! $ move ! (32 ∷ 33 ∷ []) $ free1 ! $ move ! (30 ∷ 31 ∷ []) $ free1 ! $ move ! (28 ∷ 29 ∷ []) $ free1 ! $ move ! (26 ∷ 27 ∷ []) $ free1 ! $ move ! (24 ∷ 25 ∷ []) $ free1 ! $ move ! (22 ∷ 23 ∷ []) $ free1 ! $ move ! (20 ∷ 21 ∷ []) $ free1 ! $ move ! (18 ∷ 19 ∷ []) $ free1 ! $ move ! (16 ∷ 17 ∷ []) $ free1 ! $ move ! (14 ∷ 15 ∷ []) $ free1 ! $ move ! (12 ∷ 13 ∷ []) $ free1 ! $ move ! (10 ∷ 11 ∷ []) $ free1 ! $ move ! (8 ∷ 9 ∷ []) $ free1 ! $ move ! (6 ∷ 7 ∷ []) $ free1 ! $ free0 ! $
+            keep ! (0 ∷ 1 ∷ 2 ∷ 4 ∷ 5 ∷ []) $ by ! (exits-done p isP is-record alike is-alike e fits-e is-first ws r u z e₀ e₁ h))))))))
 
         -- the number is tested
         then-tested : (e : ℕ) (fits-e : e < 2 ^ 64) (is-first : e ≡ forkNumber state number child alike) → Sq W (Numbered (mp p isP is-record) alike e) (runs C Λ E mir.t-8 (atRet E Post))
@@ -427,22 +427,22 @@ module _ {M : Type 1} (𝓤 : URA M) (H : Heap 𝓤) (A : Atoms 𝓤) (W : Given
         -- frames and book are shared for `fork_number`
         then-numbered : Sq W (Listed (mp p isP is-record) alike) (runs C Λ E mir.t-3 (atRet E Post))
         then-numbered =
-          assigns ! (addr ! (from ! (fld ! refl (hop ! (look-in ! 40 (sub ! 0 refl (whole !))) (stop !))))) (from ! (stop !)) (init ! 22 refl (tt, tt)) $
-          assigns ! (agg ! (and-then ! (load ! (from ! (stop !)) (look ! 22 refl)) (and-then ! (load ! (from ! (fld ! refl (stop !))) (look-in ! 40 (sub ! 1 refl (whole !)))) (no-more !)))) (from ! (stop !)) (init ! 20 refl (tt, (tt, (record { fits = room₀ .0 }, tt)))) $
-          assigns ! (addr ! (from ! (fld ! refl (hop ! (look-in ! 38 (sub ! 0 refl (whole !))) (stop !))))) (from ! (stop !)) (init ! 18 refl (tt, tt)) $
-          assigns ! (agg ! (and-then ! (load ! (from ! (stop !)) (look ! 18 refl)) (and-then ! (load ! (from ! (fld ! refl (stop !))) (look-in ! 38 (sub ! 1 refl (whole !)))) (no-more !)))) (from ! (stop !)) (init ! 16 refl (tt, (tt, (record { fits = room₁ .0 }, tt)))) $
-          move ! (3 ∷ 0 ∷ []) $ share-slice u8 (named 0) (named 0) κ₀ q₀ γ₀ b₀ o₀ frames ! tt (λ ν₀ δ₀. move ! (5 ∷ 3 ∷ []) $ share-slice u64 (named 1) (named 1) κ₁ q₁ γ₁ b₁ o₁ book ! tt (λ ν₁ δ₁.
-          move ! (3 ∷ 4 ∷ 0 ∷ 1 ∷ []) $ group ! 4 $ use1 W (raw (Number 𝓤 H A at-mem run .pre (to-number p isP is-record alike is-alike ν₀ δ₀ ν₁ δ₁))) (asks-number p isP is-record alike is-alike ν₀ δ₀ ν₁ δ₁) $
-          -- [what `fork_number` asks; what is kept of book and of frames; κ₂'s token; segments; _18; …]
-          calls-at ! fm (Number 𝓤 H A at-mem run) known-number (to-number p isP is-record alike is-alike ν₀ δ₀ ν₁ δ₁) (and-then ! (load ! (from ! (stop !)) (look ! 19 refl)) (and-then ! (load ! (from ! (stop !)) (look ! 15 refl)) (and-then ! (load ! (from ! (stop !)) (look ! 35 refl)) (and-then ! (load ! (from ! (stop !)) (look ! 33 refl)) (and-then ! (load ! (from ! (stop !)) (look ! 31 refl)) (and-then ! (load ! (from ! (stop !)) (look ! 25 refl)) (no-more !))))))) (λ u.
-          use1 W (later (some (λ (e : ℕ). ((‵ (flft (ν₀ ∷ []) fullShare) ⊛ (‵ (flft (ν₁ ∷ []) fullShare) ⊛ ‵ ftrue)) ⊛ ‵ (u64 .own e (u ∷ []))) ⊛ raw (ensured 𝓤 H A fork-number.ended (fork-number.clauses 𝓤 H A at-mem run) (ν₀ ∷ [], (ν₁ ∷ [], tt)) (given-number p isP is-record alike is-alike δ₀ δ₁) tt e)))) (id⊢ 𝓤 _) $ await ! tt $ pick ! (λ e.
-          split ! $ move ! (1 ∷ []) $ use1 W (raw (fact 𝓤 (e ≡ forkNumber state number child alike))) (number-said p isP is-record alike is-alike δ₀ δ₁ ν₀ ν₁ e) $ heard ! (e ≡ forkNumber state number child alike) (λ h. split ! $ move ! (1 ∷ []) $
-          peeks ! u64 (Is u64) (shows 𝓤 H A u64) e (u ∷ []) (λ is.
-          land ! (from ! (stop !)) (init ! 24 refl (uint-lawful 𝓤 H A W w64 .typed e _ is .0)) $ rewrite ! 24 (λ (w : Val). ‵ (fat fullShare word l₉ 0 w)) (ap only (is .0)) refl $ drop ! $
-          -- frames and book are back
-          split ! $ move ! (0 ∷ 3 ∷ []) $ slice-unshared u8 (named 0) (named 0) κ₀ q₀ γ₀ b₀ o₀ frames ! tt ν₀ $
-          move ! (2 ∷ []) $ split ! $ move ! (0 ∷ 4 ∷ []) $ slice-unshared u64 (named 1) (named 1) κ₁ q₁ γ₁ b₁ o₁ book ! tt ν₁ $
-          move ! (4 ∷ 1 ∷ 5 ∷ 3 ∷ 0 ∷ 6 ∷ []) $ move ! (6 ∷ []) $ drop ! $ then-tested e (is .1) h))))))
+            assigns ! (addr ! (from ! (fld ! refl (hop ! (look-in ! 40 (sub ! 0 refl (whole !))) (stop !))))) (from ! (stop !)) (init ! 22 refl (tt, tt)) $
+            assigns ! (agg ! (and-then ! (load ! (from ! (stop !)) (look ! 22 refl)) (and-then ! (load ! (from ! (fld ! refl (stop !))) (look-in ! 40 (sub ! 1 refl (whole !)))) (no-more !)))) (from ! (stop !)) (init ! 20 refl (tt, (tt, (record { fits = room₀ .0 }, tt)))) $
+            assigns ! (addr ! (from ! (fld ! refl (hop ! (look-in ! 38 (sub ! 0 refl (whole !))) (stop !))))) (from ! (stop !)) (init ! 18 refl (tt, tt)) $
+            assigns ! (agg ! (and-then ! (load ! (from ! (stop !)) (look ! 18 refl)) (and-then ! (load ! (from ! (fld ! refl (stop !))) (look-in ! 38 (sub ! 1 refl (whole !)))) (no-more !)))) (from ! (stop !)) (init ! 16 refl (tt, (tt, (record { fits = room₁ .0 }, tt)))) $
+            move ! (3 ∷ 0 ∷ []) $ share-slice u8 (named 0) (named 0) κ₀ q₀ γ₀ b₀ o₀ frames ! tt (λ ν₀ δ₀. move ! (5 ∷ 3 ∷ []) $ share-slice u64 (named 1) (named 1) κ₁ q₁ γ₁ b₁ o₁ book ! tt (λ ν₁ δ₁.
+            move ! (3 ∷ 4 ∷ 0 ∷ 1 ∷ []) $ group ! 4 $ use1 W (raw (Number 𝓤 H A at-mem run .pre (to-number p isP is-record alike is-alike ν₀ δ₀ ν₁ δ₁))) (asks-number p isP is-record alike is-alike ν₀ δ₀ ν₁ δ₁) $
+            -- [what `fork_number` asks; what is kept of book and of frames; κ₂'s token; segments; _18; …]
+            calls-at ! fm (Number 𝓤 H A at-mem run) known-number (to-number p isP is-record alike is-alike ν₀ δ₀ ν₁ δ₁) (and-then ! (load ! (from ! (stop !)) (look ! 19 refl)) (and-then ! (load ! (from ! (stop !)) (look ! 15 refl)) (and-then ! (load ! (from ! (stop !)) (look ! 35 refl)) (and-then ! (load ! (from ! (stop !)) (look ! 33 refl)) (and-then ! (load ! (from ! (stop !)) (look ! 31 refl)) (and-then ! (load ! (from ! (stop !)) (look ! 25 refl)) (no-more !))))))) (λ u.
+            use1 W (later (some (λ (e : ℕ). ((‵ (flft (ν₀ ∷ []) fullShare) ⊛ (‵ (flft (ν₁ ∷ []) fullShare) ⊛ ‵ ftrue)) ⊛ ‵ (u64 .own e (u ∷ []))) ⊛ raw (ensured 𝓤 H A fork-number.ended (fork-number.clauses 𝓤 H A at-mem run) (ν₀ ∷ [], (ν₁ ∷ [], tt)) (given-number p isP is-record alike is-alike δ₀ δ₁) tt e)))) (id⊢ 𝓤 _) $ await ! tt $ pick ! (λ e.
+            split ! $ move ! (1 ∷ []) $ use1 W (raw (fact 𝓤 (e ≡ forkNumber state number child alike))) (number-said p isP is-record alike is-alike δ₀ δ₁ ν₀ ν₁ e) $ heard ! (e ≡ forkNumber state number child alike) (λ h. split ! $ move ! (1 ∷ []) $
+            peeks ! u64 (Is u64) (shows 𝓤 H A u64) e (u ∷ []) (λ is.
+            land ! (from ! (stop !)) (init ! 24 refl (uint-lawful 𝓤 H A W w64 .typed e _ is .0)) $ rewrite ! 24 (λ (w : Val). ‵ (fat fullShare word l₉ 0 w)) (ap only (is .0)) refl $ drop ! $
+            -- frames and book are back
+            split ! $ move ! (0 ∷ 3 ∷ []) $ slice-unshared u8 (named 0) (named 0) κ₀ q₀ γ₀ b₀ o₀ frames ! tt ν₀ $
+            move ! (2 ∷ []) $ split ! $ move ! (0 ∷ 4 ∷ []) $ slice-unshared u64 (named 1) (named 1) κ₁ q₁ γ₁ b₁ o₁ book ! tt ν₁ $
+            move ! (4 ∷ 1 ∷ 5 ∷ 3 ∷ 0 ∷ 6 ∷ []) $ move ! (6 ∷ []) $ drop ! $ then-tested e (is .1) h))))))
 
       -- once the record is known
       abbrev Known : Val → List (Item 𝓤)
