@@ -1,9 +1,10 @@
-// Loading a program, as r9's exec.rs: where an image's segments and its bss go, which pages a start takes and which file bytes they hold,
-// and whether arguments fit a stack. Nothing here touches memory: a call maps what is planned here.
+// The layout of a program, as r9's exec.rs: where an image's segments and its bss go, and how many pages a start takes. Nothing here
+// touches memory: a call maps what is planned here.
+
 ghost use mathlib.Core.Path.{_≡_};
 ghost use mathlib.Core.Bool.{Bool, true, false};
 ghost use mathlib.Core.List.{List, [], _∷_, _++_};
-ghost use Prim.Native.Nat.{min, max, _+_, _-_, _*_, _/_, _%_, _^_, _≤_, _<_};
+ghost use Prim.Native.Nat.{_+_, _-_, _*_, _/_, _%_, _^_, _≤_, _<_};
 ghost use lib.ListN.{length, take, getD, replicate};
 ghost use Rattle.spec.specs.Numbers.{utzero, limit};
 ghost use Rattle.spec.specs.Book.{range, pageCount, bssSegment};
@@ -12,7 +13,7 @@ ghost use Rattle.spec.specs.Elf.{phdrAt};
 ghost use Rattle.spec.specs.Exec.{layoutOk, imageBss};
 ghost use Rattle.elf.specs.Reader.{CheckedLoad, loadOf, said, parsed};
 ghost use Rattle.elf.specs.declared.Parsed;
-ghost use Rattle.exec.specs.Plan.{fitOf, nothing, fits, pagesIn, kept, pushed, recordedWith, recorded, refusedPlan, planOf, partOf};
+ghost use Rattle.exec.specs.Plan.{fitOf, nothing, fits, pagesIn, kept, pushed, recordedWith, recorded, refusedPlan, planOf};
 use elf::Elf;
 use elf::Load;
 use elf::Parsed;
@@ -306,52 +307,5 @@ pub fn plan_of(image: &[u8]) -> Plan
     match p {
         Parsed::Refused(e) => refused(spec::EBADEXEC, elf::error_number(e)),
         Parsed::Elf(h) => plan_parsed(image, h),
-    }
-}
-
-// Which file bytes a page holds: `count` bytes of the image from `offset` on, at place `at` of the page.
-pub struct Part {
-    pub at: usize,
-    pub offset: usize,
-    pub count: usize,
-}
-
-fn max(a: u64, b: u64) -> u64
-    ensures { λ r. ⌜ r ≡ max a b ⌝ }
-{
-    if a < b {
-        return b;
-    }
-    a
-}
-
-fn min(a: u64, b: u64) -> u64
-    ensures { λ r. ⌜ r ≡ min a b ⌝ }
-{
-    if a < b {
-        return a;
-    }
-    b
-}
-
-// The file bytes of a segment in the page at `va`, as r9's load_segment finds them. The page holds zero elsewhere.
-pub fn file_part(g: Segment, va: u64) -> Part
-    requires { ⌜ (va + 4096 < 2 ^ 64) × (g .vaddr + g .filesz < 2 ^ 64) ⌝ }
-    requires { ⌜ g .offset + g .filesz < 2 ^ 64 ⌝ }
-    ensures { λ r. ⌜ r ≡ partOf g va ⌝ }
-{
-    let low = max(va, g.vaddr);
-    let high = min(va + spec::PAGE_SIZE_4K, g.vaddr + g.filesz as u64);
-    if low >= high {
-        return Part {
-            at: 0,
-            offset: 0,
-            count: 0,
-        };
-    }
-    Part {
-        at: (low - va) as usize,
-        offset: g.offset + (low - g.vaddr) as usize,
-        count: (high - low) as usize,
     }
 }

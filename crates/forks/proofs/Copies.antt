@@ -8,10 +8,11 @@ use lib.Seq.{take-all}
 use Rattle.spec.specs.Book.{frameOf, zeroSegment}
 use Rattle.spec.specs.Frames.{Store, pagesOf, place, frameBytes}
 use Rattle.spec.specs.declared.UserSegment.{UserSegment}
-use Rattle.pagealloc.specs.Lent.{store, Passed, Mapped}
+use Rattle.book.specs.Lent.{store}
+use Rattle.pagealloc.specs.Lent.{Passed, Mapped}
 use Rattle.front.proofs.Own.{take-more}
-use Rattle.calls.proofs.Forked.{mapped-still, Copied, copied-none, copied-more}
-use Rattle.calls.proofs.Forked as by-value
+use Rattle.fork.proofs.Forked.{mapped-still, Copied, copied-none, copied-more}
+use Rattle.fork.proofs.Forked as by-value
 use Rattle.forks.specs.Lent.{Copyable}
 
 -- the same facts, as the version by value has them

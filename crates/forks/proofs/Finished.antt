@@ -19,15 +19,16 @@ use Rattle.spec.proofs.Bools.{both, split, clash, within-means}
 use Rattle.laws.proofs.Lists.{Each}
 use Rattle.laws.proofs.Frame.{Fits}
 use Rattle.laws.proofs.Record.{Whole, same-is}
-use Rattle.pagealloc.specs.Lent.{store, Passed}
+use Rattle.book.specs.Lent.{store}
+use Rattle.pagealloc.specs.Lent.{Passed}
 use Rattle.front.specs.Numbers.{stateOf, forkError}
 use Rattle.front.specs.declared.left.Left.{Left}
 use Rattle.front.proofs.First.{Forks, fork-none, fork-other, sizes-words}
 use Rattle.front.proofs.Living.{passed-sound, living-shape}
 use Rattle.front.proofs.Own.{take-more}
 use Rattle.front.proofs.States.{state-is}
-use Rattle.calls.proofs.Forked.{mapped-still, Copied, copied-none, copied-more, each-at, copyable-segments, copyable-bss}
-use Rattle.calls.proofs.Forked as by-value
+use Rattle.fork.proofs.Forked.{mapped-still, Copied, copied-none, copied-more, each-at, copyable-segments, copyable-bss}
+use Rattle.fork.proofs.Forked as by-value
 use Rattle.forks.specs.Lent.{Copyable}
 use Rattle.forks.proofs.Copies.{as-copyable, of-copyable, copiesOf, Numbers}
 

@@ -5,7 +5,8 @@ ghost use Prim.Native.Nat.{ℕ, _*_, _≤_, _<_};
 ghost use lib.ListN.{length, getD};
 ghost use Rattle.spec.specs.Book.{frameOf, zeroSegment};
 ghost use Rattle.spec.specs.Frames.{pagesOf, place, frameBytes};
-ghost use Rattle.pagealloc.specs.Lent.{store, Passed};
+ghost use Rattle.book.specs.Lent.{store};
+ghost use Rattle.pagealloc.specs.Lent.{Passed};
 ghost use Rattle.forks.specs.Lent.{Copyable};
 use spec::UserSegment;
 

@@ -18,7 +18,8 @@ ghost use Rattle.spec.specs.Frames.{pagesOf, place, frameBytes};
 ghost use Rattle.spec.specs.Machine.{fork, plainly};
 ghost use Rattle.spec.specs.World.{setProc, copy, Does};
 ghost use Rattle.spec.specs.declared.Answer.the-variants.{Done, Refused};
-ghost use Rattle.pagealloc.specs.Lent.{store, Passed};
+ghost use Rattle.book.specs.Lent.{store};
+ghost use Rattle.pagealloc.specs.Lent.{Passed};
 ghost use Rattle.front.specs.Numbers.{stateOf, call, forkError};
 ghost use Rattle.forks.specs.Lent.{Copyable};
 ghost use Rattle.forks.specs.Fork.{recordOf, forkNumber};
@@ -59,7 +60,7 @@ fn fork_number(
         return e;
     }
     let p = front::record::proc_at(procs, number);
-    let free = pagealloc::book::free_count(book) as u64;
+    let free = book::free_count(book) as u64;
     if front::pages::own_pages(p) > free {
         return spec::ENOVMEM;
     }

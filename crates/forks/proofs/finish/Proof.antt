@@ -11,7 +11,7 @@ use Rattle.spec.specs.declared.Proc.{Proc}
 use Rattle.spec.specs.declared.Procs.{Procs}
 use Rattle.spec.specs.declared.Answer.the-variants.{Done}
 use Rattle.spec.proofs.Bools.{within-means}
-use Rattle.pagealloc.specs.Lent.{store}
+use Rattle.book.specs.Lent.{store}
 use Rattle.front.specs.declared.left.Left.{Left}
 use Rattle.forks.specs.Lent.{Copyable}
 use Rattle.forks.proofs.Copies.{copiesOf}

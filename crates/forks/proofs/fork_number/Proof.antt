@@ -11,7 +11,7 @@ use Rattle.spec.specs.World.{State}
 use Rattle.spec.specs.declared.UserSegment.{UserSegment}
 use Rattle.spec.specs.declared.Proc.{Proc}
 use Rattle.laws.proofs.Record.{Whole}
-use Rattle.sound.proofs.Whole.{whole-procs}
+use Rattle.records.proofs.Whole.{whole-procs}
 use Rattle.front.specs.Numbers.{stateOf}
 use Rattle.front.proofs.First.{Forks, fork-none}
 use Rattle.front.proofs.Living.{living-shape}

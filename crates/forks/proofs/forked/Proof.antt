@@ -50,8 +50,9 @@ use Rattle.spec.proofs.UserSegment as S
 use Rattle.spec.proofs.Procs as Ps
 use Rattle.spec.proofs.Procs.Laws as Ps′
 use Rattle.laws.proofs.Record.{Whole}
-use Rattle.pagealloc.specs.Lent.{store as storeOf, Passed}
-use Rattle.sound.proofs.Whole.{whole-procs}
+use Rattle.book.specs.Lent.{store as storeOf}
+use Rattle.pagealloc.specs.Lent.{Passed}
+use Rattle.records.proofs.Whole.{whole-procs}
 use Rattle.front.specs.Numbers.{stateOf, forkError}
 use Rattle.front.specs.declared.left.Left.{Left}
 use Rattle.front.proofs.left.Left as Lf

@@ -9,7 +9,7 @@ use borrow.Author.Needs.{needs}
 use Rattle.spec.specs.Numbers.{limit, pageBytes}
 use Rattle.spec.specs.Frames.{Store, pagesOf, place}
 use Rattle.elf.specs.Reader.{Checked}
-use Rattle.pagealloc.specs.Lent.{store}
+use Rattle.book.specs.Lent.{store}
 use Rattle.pagealloc.specs.Contents.{fileAt}
 use Rattle.load.proofs.Headers.{checked-of, laid-of, whole, place-skip, load-taken}
 use Rattle.load.proofs.load_header.Statement.{statement}

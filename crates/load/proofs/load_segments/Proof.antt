@@ -16,7 +16,8 @@ use Rattle.elf.proofs.Walk.{segs, segs-none, segs-some}
 use Rattle.elf.proofs.Ahead.{Ahead, ahead-all, ahead-here, ahead-next, all-segs}
 use Rattle.checked.proofs.Indexed.{at-first, at-next}
 use Rattle.laws.proofs.Place.{place-append}
-use Rattle.pagealloc.specs.Lent.{store, Passed}
+use Rattle.book.specs.Lent.{store}
+use Rattle.pagealloc.specs.Lent.{Passed}
 use Rattle.load.specs.Pages.{segmentPages, loadPages}
 use Rattle.load.proofs.Headers.{front-pages, front-laid, place-done}
 use Rattle.load.proofs.load_segments.Statement.{statement}

@@ -50,7 +50,8 @@ use Rattle.spec.specs.Book.{zeroSegment}
 use Rattle.spec.specs.declared.UserSegment.{UserSegment}
 use Rattle.spec.proofs.UserSegment as S
 use Rattle.spec.proofs.UserSegment.Laws as S′
-use Rattle.pagealloc.specs.Lent.{store as storeOf, Passed}
+use Rattle.book.specs.Lent.{store as storeOf}
+use Rattle.pagealloc.specs.Lent.{Passed}
 use Rattle.pagealloc.proofs.place.copy_segment as one
 use Rattle.pagealloc.proofs.place.copy_segment.Symbol as one-def
 use Rattle.pagealloc.proofs.place.copy_segment.Symbol.{name as #copy-segment}

@@ -2,7 +2,7 @@ use mathlib.Core.Path.{_≡_}
 use Prim.Native.Nat.{_-_}
 use native.Mathlib.Omega.{arith}
 use lib.ListN.{length}
-use Rattle.sound.proofs.Walk.{length-mapped}
+use Rattle.records.proofs.Walk.{length-mapped}
 use Rattle.forks.proofs.Listed.{ends-past, ends-here}
 use borrow.Author.Needs.{needs}
 use Rattle.forks.proofs.list.ends.Statement.{statement}
