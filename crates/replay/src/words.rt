@@ -1,0 +1,89 @@
+// What words of a line say: numbers, and bytes, of a file too.
+use script::Form;
+use script::Number;
+
+// How many bytes were taken, or that there are none to take.
+pub enum Taken {
+    Size(usize),
+    Bad,
+}
+
+// Word k of a line as a number.
+pub fn number(line: &[u8], k: usize) -> Number {
+    script::decimal(script::word(line, k))
+}
+
+// Makes every byte `b`.
+pub fn fill(bytes: &mut [u8], b: u8) {
+    let mut i = 0;
+    while i < bytes.len() {
+        bytes[i] = b;
+        i += 1;
+    }
+}
+
+// Puts bytes at the start of `dst`, as many as it holds, and answers how many.
+pub fn first(dst: &mut [u8], bytes: &[u8]) -> usize {
+    let mut i = 0;
+    while (i < bytes.len()) & (i < dst.len()) {
+        dst[i] = bytes[i];
+        i += 1;
+    }
+    i
+}
+
+// Puts bytes at the start of `dst`.
+fn quoted(dst: &mut [u8], bytes: &[u8]) -> Taken {
+    if dst.len() < bytes.len() {
+        return Taken::Bad;
+    }
+    Taken::Size(first(dst, bytes))
+}
+
+// Puts the bytes that pairs of hex digits give.
+fn pairs(dst: &mut [u8], word: &[u8]) -> Taken {
+    if !script::unhex(dst, word) {
+        return Taken::Bad;
+    }
+    Taken::Size(word.len() / 2)
+}
+
+// Reads a file to its end. It must be shorter than `dst`.
+fn read_file(fd: i32, dst: &mut [u8]) -> Taken {
+    let mut n = 0;
+    while n < dst.len() {
+        let got = libc::read(fd, &mut dst[n..]);
+        if got < 0 {
+            return Taken::Bad;
+        }
+        let more = io::count(got, &dst[n..]);
+        if more == 0 {
+            return Taken::Size(n);
+        }
+        n += more;
+    }
+    Taken::Bad
+}
+
+// Puts the bytes of the file at `path`.
+fn file(dst: &mut [u8], path: &[u8]) -> Taken {
+    let fd = os::open_read(path);
+    if fd < 0 {
+        return Taken::Bad;
+    }
+    let t = read_file(fd, dst);
+    libc::close(fd);
+    t
+}
+
+// Puts the bytes that a word gives at the start of `dst`.
+pub fn bytes(dst: &mut [u8], word: &[u8]) -> Taken {
+    let form = script::form_of(word);
+    match form {
+        Form::Nothing => Taken::Size(0),
+        Form::Quoted => quoted(dst, script::behind(word)),
+        Form::File => file(dst, script::behind(word)),
+        Form::Pairs => pairs(dst, word),
+        Form::Bad => Taken::Bad,
+    }
+}
