@@ -1,20 +1,24 @@
 -- The lines of a process's table.
 -- Assumes nothing.
 use Prim.Native.Nat.{ℕ, _+_, _-_}
-use mathlib.Core.Bool.{Bool, _&&_}
+use mathlib.Core.Bool.{_&&_}
 use mathlib.Core.List.{List, [], _∷_, _++_}
-use Rattle.spec.specs.Tests.{_is_, _below_, _above_, _⇒_else_, all, ascii}
+use Rattle.spec.specs.Tests.{_is_, _below_, _above_, _⇒_else_, ascii}
 use Rattle.spec.specs.Book.{pageOf, ownerOf}
 use Rattle.spec.specs.declared.VirtRange.{VirtRange}
 use Rattle.spec.specs.declared.Found.{Found}
 use Rattle.spec.specs.declared.Found.the-variants.{At, Nothing}
-use Rattle.text.specs.Text.{numberText, fieldText}
+use Rattle.text.specs.Text.{fieldText}
 use Rattle.replies.specs.Lines.{namedText}
 
--- a name without the zeros at its end
+-- a name without the zeros at its end: a zero stays where something follows it
+abbrev pub keep : ℕ → List ℕ → List ℕ
+keep b [] = b is 0 ⇒ [] else b ∷ []
+keep b (x ∷ xs) = b ∷ x ∷ xs
+
 abbrev pub stripped : List ℕ → List ℕ
 stripped [] = []
-stripped (b ∷ bs) = all (λ x. x is 0) (b ∷ bs) ⇒ [] else b ∷ stripped bs
+stripped (b ∷ bs) = keep b (stripped bs)
 
 -- a byte of a name as it is shown: a dot for what is no sign
 abbrev pub signOf : ℕ → ℕ

@@ -35,6 +35,7 @@ fn sign(b: u8) -> u8
 fn put_signs(out: &mut [u8], at: usize, name: [u8; 28], n: usize) -> usize
     requires { ⌜ (n ≤ 28) × (at + n ≤ length (now out)) ⌝ }
     ensures { λ r. ⌜ Puts (now (out .entry)) at (signsText (take n name)) (now (out .exit)) r ⌝ }
+    ensures { λ r. ⌜ r ≡ at + n ⌝ }
 {
     let mut end = at;
     let mut i = 0;
