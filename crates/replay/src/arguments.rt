@@ -60,7 +60,13 @@ fn add(bytes: &mut [u8], lengths: &mut [u64], a: Arguments, arg: &[u8]) -> Argum
 }
 
 // Adds the argument that a word gives.
-fn add_word(space: &mut [u8], bytes: &mut [u8], lengths: &mut [u64], a: Arguments, word: &[u8]) -> Arguments {
+fn add_word(
+    space: &mut [u8],
+    bytes: &mut [u8],
+    lengths: &mut [u64],
+    a: Arguments,
+    word: &[u8],
+) -> Arguments {
     let t = crate::words::bytes(space, word);
     match t {
         Taken::Size(n) => add(bytes, lengths, a, &space[..n]),
@@ -75,7 +81,13 @@ fn add_word(space: &mut [u8], bytes: &mut [u8], lengths: &mut [u64], a: Argument
 }
 
 // Takes the words behind the first k as arguments.
-fn take(space: &mut [u8], bytes: &mut [u8], lengths: &mut [u64], line: &[u8], k: usize) -> Arguments {
+fn take(
+    space: &mut [u8],
+    bytes: &mut [u8],
+    lengths: &mut [u64],
+    line: &[u8],
+    k: usize,
+) -> Arguments {
     let mut a = Arguments {
         count: 0,
         size: 0,
@@ -94,7 +106,13 @@ fn take(space: &mut [u8], bytes: &mut [u8], lengths: &mut [u64], line: &[u8], k:
 }
 
 // Takes the words behind the first k as arguments. Of those that don't fit it leaves one that doesn't either, with a NUL if one has.
-pub fn arguments(space: &mut [u8], bytes: &mut [u8], lengths: &mut [u64], line: &[u8], k: usize) -> Arguments {
+pub fn arguments(
+    space: &mut [u8],
+    bytes: &mut [u8],
+    lengths: &mut [u64],
+    line: &[u8],
+    k: usize,
+) -> Arguments {
     let a = take(space, bytes, lengths, line, k);
     if !a.over {
         return a;

@@ -136,7 +136,13 @@ pub fn range(frames: &mut [u8], book: &mut [u64], procs: Procs, line: &[u8]) -> 
 }
 
 // from NUMBER ADDRESS LENGTH
-pub fn from(frames: &mut [u8], book: &mut [u64], space: &mut [u8], procs: Procs, line: &[u8]) -> Procs {
+pub fn from(
+    frames: &mut [u8],
+    book: &mut [u64],
+    space: &mut [u8],
+    procs: Procs,
+    line: &[u8],
+) -> Procs {
     let Number::Is(number) = crate::words::number(line, 1) else {
         return bad(procs);
     };
@@ -158,7 +164,13 @@ pub fn from(frames: &mut [u8], book: &mut [u64], space: &mut [u8], procs: Procs,
 }
 
 // to NUMBER ADDRESS BYTES
-pub fn to(frames: &mut [u8], book: &mut [u64], space: &mut [u8], procs: Procs, line: &[u8]) -> Procs {
+pub fn to(
+    frames: &mut [u8],
+    book: &mut [u64],
+    space: &mut [u8],
+    procs: Procs,
+    line: &[u8],
+) -> Procs {
     let Number::Is(number) = crate::words::number(line, 1) else {
         return bad(procs);
     };
@@ -175,7 +187,13 @@ pub fn to(frames: &mut [u8], book: &mut [u64], space: &mut [u8], procs: Procs, l
 }
 
 // string NUMBER ADDRESS LENGTH
-pub fn string(frames: &mut [u8], book: &mut [u64], space: &mut [u8], procs: Procs, line: &[u8]) -> Procs {
+pub fn string(
+    frames: &mut [u8],
+    book: &mut [u64],
+    space: &mut [u8],
+    procs: Procs,
+    line: &[u8],
+) -> Procs {
     let Number::Is(number) = crate::words::number(line, 1) else {
         return bad(procs);
     };

@@ -141,7 +141,11 @@ pub fn map(book: &mut [u64], w: World, line: &[u8]) -> World {
         crate::say::refused(spec::DEAD);
         return w;
     }
-    crate::shown::table(&book[..count], number, front::record::proc_at(procs, number));
+    crate::shown::table(
+        &book[..count],
+        number,
+        front::record::proc_at(procs, number),
+    );
     w
 }
 
@@ -181,12 +185,26 @@ fn lent_call(
 }
 
 // Any other line.
-pub fn call(frames: &mut [u8], book: &mut [u64], space: &mut [u8], w: World, kind: Line, line: &[u8]) -> World {
+pub fn call(
+    frames: &mut [u8],
+    book: &mut [u64],
+    space: &mut [u8],
+    w: World,
+    kind: Line,
+    line: &[u8],
+) -> World {
     let procs = w.procs;
     let count = w.count;
     let bytes = w.bytes;
     let words = w.words;
-    let after = lent_call(&mut frames[..bytes], &mut book[..words], space, procs, kind, line);
+    let after = lent_call(
+        &mut frames[..bytes],
+        &mut book[..words],
+        space,
+        procs,
+        kind,
+        line,
+    );
     World {
         procs: after,
         count: count,

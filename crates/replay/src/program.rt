@@ -9,7 +9,13 @@ fn bad(procs: Procs) -> Procs {
 }
 
 // start NUMBER NAME IMAGE [ARG ..]
-pub fn start(frames: &mut [u8], book: &mut [u64], space: &mut [u8], procs: Procs, line: &[u8]) -> Procs {
+pub fn start(
+    frames: &mut [u8],
+    book: &mut [u64],
+    space: &mut [u8],
+    procs: Procs,
+    line: &[u8],
+) -> Procs {
     let Number::Is(number) = crate::words::number(line, 1) else {
         return bad(procs);
     };
@@ -44,7 +50,13 @@ pub fn start(frames: &mut [u8], book: &mut [u64], space: &mut [u8], procs: Procs
 }
 
 // replace NUMBER NAME IMAGE ARGV
-pub fn replace(frames: &mut [u8], book: &mut [u64], space: &mut [u8], procs: Procs, line: &[u8]) -> Procs {
+pub fn replace(
+    frames: &mut [u8],
+    book: &mut [u64],
+    space: &mut [u8],
+    procs: Procs,
+    line: &[u8],
+) -> Procs {
     let Number::Is(number) = crate::words::number(line, 1) else {
         return bad(procs);
     };
@@ -65,7 +77,13 @@ pub fn replace(frames: &mut [u8], book: &mut [u64], space: &mut [u8], procs: Pro
 }
 
 // push NUMBER PC TOP [ARG ..]
-pub fn push(frames: &mut [u8], book: &mut [u64], space: &mut [u8], procs: Procs, line: &[u8]) -> Procs {
+pub fn push(
+    frames: &mut [u8],
+    book: &mut [u64],
+    space: &mut [u8],
+    procs: Procs,
+    line: &[u8],
+) -> Procs {
     let Number::Is(number) = crate::words::number(line, 1) else {
         return bad(procs);
     };
