@@ -1,14 +1,22 @@
-// The lines of the other calls.
+// The lines of calls on a living process.
+ghost use Prim.Native.Nat.{_≤_};
+ghost use lib.ListN.{length};
 use crate::words::Taken;
 use front::left::Left;
 use script::Number;
-use spec::Answer;
 use spec::Procs;
-use spec::UserSegment;
 
-fn bad(procs: Procs) -> Procs {
+// Answers a line that is no call, with the records as they are.
+pub fn bad(procs: Procs) -> Procs {
     crate::say::bad_line();
     procs
+}
+
+// Answers what a call says, and gives the records that it leaves.
+pub fn said(left: Left) -> Procs {
+    let says = left.answer;
+    crate::say::answer(says);
+    left.procs
 }
 
 // What every byte of a lent buffer first is.
@@ -25,10 +33,7 @@ pub fn brk(frames: &mut [u8], book: &mut [u64], procs: Procs, line: &[u8]) -> Pr
     let Number::Is(addr) = crate::words::number(line, 2) else {
         return bad(procs);
     };
-    let left = calls::brk(frames, book, procs, number, addr);
-    let says = left.answer;
-    crate::say::answer(says);
-    left.procs
+    said(calls::brk(frames, book, procs, number, addr))
 }
 
 // end NUMBER
@@ -36,61 +41,7 @@ pub fn end(frames: &mut [u8], book: &mut [u64], procs: Procs, line: &[u8]) -> Pr
     let Number::Is(number) = crate::words::number(line, 1) else {
         return bad(procs);
     };
-    let left = calls::end(frames, book, procs, number);
-    let says = left.answer;
-    crate::say::answer(says);
-    left.procs
-}
-
-// Whether a list of segments, three numbers each, has this one at place i.
-fn has(list: &[u64], i: usize, s: UserSegment) -> bool {
-    (list[3 * i] == s.range.start) & (list[3 * i + 1] == s.range.end) & (list[3 * i + 2] == s.perm)
-}
-
-fn unused(s: UserSegment) -> bool {
-    (s.range.start == 0) & (s.range.end == 0) & (s.perm == 0)
-}
-
-// Whether a list of segments is a record's, those before the unused places.
-fn is_recorded(list: &[u64], segments: [UserSegment; 16]) -> bool {
-    let n = list.len() / 3;
-    let mut i = 0;
-    while i < 16 {
-        let s = segments[i];
-        if i == n {
-            return unused(s);
-        }
-        if unused(s) {
-            return false;
-        }
-        if !has(list, i, s) {
-            return false;
-        }
-        i += 1;
-    }
-    n == 16
-}
-
-// Fork with a lent list of segments: one that is unlike the record's is 2, which comes behind 1 and a torn book and before all else.
-fn fork_list(
-    frames: &mut [u8],
-    book: &mut [u64],
-    procs: Procs,
-    number: u64,
-    child: u64,
-    list: &[u64],
-) -> Left {
-    if front::numbers::number_error(frames, book, procs, number, true) == 0 {
-        let p = front::record::proc_at(procs, number);
-        let segments = p.segments;
-        if !is_recorded(list, segments) {
-            return Left {
-                procs: procs,
-                answer: Answer::Refused(spec::TORN),
-            };
-        }
-    }
-    calls::fork(frames, book, procs, number, child)
+    said(calls::end(frames, book, procs, number))
 }
 
 // fork PARENT CHILD [START END PERM ..]
@@ -106,14 +57,10 @@ pub fn fork(frames: &mut [u8], book: &mut [u64], procs: Procs, line: &[u8]) -> P
     let Taken::Size(n) = crate::arguments::numbers(&mut list, line) else {
         return bad(procs);
     };
-    let left = if n == 0 {
-        calls::fork(frames, book, procs, number, child)
-    } else {
-        fork_list(frames, book, procs, number, child, &list[..n])
-    };
-    let says = left.answer;
-    crate::say::answer(says);
-    left.procs
+    if n == 0 {
+        return said(calls::fork(frames, book, procs, number, child));
+    }
+    said(crate::lists::fork_list(frames, book, procs, number, child, &list[..n]))
 }
 
 // range NUMBER ADDRESS LENGTH r|w
@@ -142,7 +89,9 @@ pub fn from(
     space: &mut [u8],
     procs: Procs,
     line: &[u8],
-) -> Procs {
+) -> Procs
+    requires { ⌜ 65536 ≤ length (now space) ⌝ }
+{
     let Number::Is(number) = crate::words::number(line, 1) else {
         return bad(procs);
     };
@@ -180,10 +129,7 @@ pub fn to(
     let Taken::Size(n) = crate::words::bytes(space, script::word(line, 3)) else {
         return bad(procs);
     };
-    let left = calls::copy_to_user(frames, book, procs, number, dst, &space[..n]);
-    let says = left.answer;
-    crate::say::answer(says);
-    left.procs
+    said(calls::copy_to_user(frames, book, procs, number, dst, &space[..n]))
 }
 
 // string NUMBER ADDRESS LENGTH
@@ -193,7 +139,9 @@ pub fn string(
     space: &mut [u8],
     procs: Procs,
     line: &[u8],
-) -> Procs {
+) -> Procs
+    requires { ⌜ 65536 ≤ length (now space) ⌝ }
+{
     let Number::Is(number) = crate::words::number(line, 1) else {
         return bad(procs);
     };

@@ -1,4 +1,8 @@
 // The lines of frames and book, and what a call is lent of them.
+ghost use mathlib.Core.Path.{_≡_};
+ghost use Prim.Native.Nat.{_≤_, _<_};
+ghost use lib.ListN.{length};
+ghost use Rattle.replay.specs.Rooms.{Lends};
 use script::Line;
 use script::Number;
 use spec::Procs;
@@ -11,6 +15,9 @@ pub struct World {
     pub words: usize,
 }
 
+// The most frames that there are: one more than a book may have, to try number 1.
+const MOST: u64 = 1025;
+
 // The records of no process.
 fn no_procs() -> Procs {
     let p = front::record::zero_proc();
@@ -19,7 +26,9 @@ fn no_procs() -> Procs {
 }
 
 // No frames.
-pub fn nothing() -> World {
+pub fn nothing() -> World
+    ensures { λ r. ⌜ Lends r ⌝ }
+{
     World {
         procs: no_procs(),
         count: 0,
@@ -28,7 +37,9 @@ pub fn nothing() -> World {
     }
 }
 
-fn bad(w: World) -> World {
+fn bad(w: World) -> World
+    ensures { λ r. ⌜ r ≡ w ⌝ }
+{
     crate::say::bad_line();
     w
 }
@@ -51,14 +62,19 @@ fn fill_of(line: &[u8]) -> Number {
 }
 
 // frames N [FILL]
-pub fn frames(frames: &mut [u8], book: &mut [u64], w: World, line: &[u8]) -> World {
+pub fn frames(frames: &mut [u8], book: &mut [u64], w: World, line: &[u8]) -> World
+    requires { ⌜ length (now frames) ≡ 4198400 ⌝ }
+    requires { ⌜ length (now book) ≡ 1025 ⌝ }
+    requires { ⌜ Lends w ⌝ }
+    ensures { λ r. ⌜ Lends r ⌝ }
+{
     let Number::Is(n) = crate::words::number(line, 1) else {
         return bad(w);
     };
     let Number::Is(fill) = fill_of(line) else {
         return bad(w);
     };
-    if (n > book.len() as u64) | (fill > 255) {
+    if (n > MOST) | (fill > 255) {
         return bad(w);
     }
     let count = n as usize;
@@ -75,7 +91,10 @@ pub fn frames(frames: &mut [u8], book: &mut [u64], w: World, line: &[u8]) -> Wor
 }
 
 // lend BYTES WORDS
-pub fn lend(w: World, line: &[u8]) -> World {
+pub fn lend(w: World, line: &[u8]) -> World
+    requires { ⌜ Lends w ⌝ }
+    ensures { λ r. ⌜ Lends r ⌝ }
+{
     let Number::Is(bytes) = crate::words::number(line, 1) else {
         return bad(w);
     };
@@ -97,7 +116,11 @@ pub fn lend(w: World, line: &[u8]) -> World {
 }
 
 // word I W
-pub fn word(book: &mut [u64], w: World, line: &[u8]) -> World {
+pub fn word(book: &mut [u64], w: World, line: &[u8]) -> World
+    requires { ⌜ length (now book) ≡ 1025 ⌝ }
+    requires { ⌜ Lends w ⌝ }
+    ensures { λ r. ⌜ Lends r ⌝ }
+{
     let Number::Is(i) = crate::words::number(line, 1) else {
         return bad(w);
     };
@@ -114,7 +137,12 @@ pub fn word(book: &mut [u64], w: World, line: &[u8]) -> World {
 }
 
 // sum
-pub fn sum(frames: &mut [u8], book: &mut [u64], w: World) -> World {
+pub fn sum(frames: &mut [u8], book: &mut [u64], w: World) -> World
+    requires { ⌜ length (now frames) ≡ 4198400 ⌝ }
+    requires { ⌜ length (now book) ≡ 1025 ⌝ }
+    requires { ⌜ Lends w ⌝ }
+    ensures { λ r. ⌜ Lends r ⌝ }
+{
     let count = w.count;
     let bytes = 4096 * count;
     let procs = w.procs;
@@ -127,7 +155,11 @@ pub fn sum(frames: &mut [u8], book: &mut [u64], w: World) -> World {
 }
 
 // map NUMBER
-pub fn map(book: &mut [u64], w: World, line: &[u8]) -> World {
+pub fn map(book: &mut [u64], w: World, line: &[u8]) -> World
+    requires { ⌜ length (now book) ≡ 1025 ⌝ }
+    requires { ⌜ Lends w ⌝ }
+    ensures { λ r. ⌜ Lends r ⌝ }
+{
     let Number::Is(number) = crate::words::number(line, 1) else {
         return bad(w);
     };
@@ -157,7 +189,9 @@ fn lent_call(
     procs: Procs,
     kind: Line,
     line: &[u8],
-) -> Procs {
+) -> Procs
+    requires { ⌜ 65536 ≤ length (now space) ⌝ }
+{
     match kind {
         Line::Start => crate::program::start(frames, book, space, procs, line),
         Line::Replace => crate::program::replace(frames, book, space, procs, line),
@@ -192,7 +226,13 @@ pub fn call(
     w: World,
     kind: Line,
     line: &[u8],
-) -> World {
+) -> World
+    requires { ⌜ length (now frames) ≡ 4198400 ⌝ }
+    requires { ⌜ length (now book) ≡ 1025 ⌝ }
+    requires { ⌜ 65536 ≤ length (now space) ⌝ }
+    requires { ⌜ Lends w ⌝ }
+    ensures { λ r. ⌜ Lends r ⌝ }
+{
     let procs = w.procs;
     let count = w.count;
     let bytes = w.bytes;

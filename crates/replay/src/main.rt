@@ -1,8 +1,14 @@
 // Replays a script of calls from standard input, one call a line, and answers each line: tests/compare/README.md has the form.
+ghost use mathlib.Core.Path.{_≡_};
+ghost use Prim.Native.Nat.{_≤_};
+ghost use lib.ListN.{length};
+ghost use Rattle.replay.specs.Rooms.{Lends, Within};
+
 mod arguments;
 mod called;
 mod input;
 mod lent;
+mod lists;
 mod program;
 mod say;
 mod shown;
@@ -21,7 +27,13 @@ struct Session {
 }
 
 // Runs a line, and answers it.
-fn answer(frames: &mut [u8], book: &mut [u64], space: &mut [u8], w: World, line: &[u8]) -> World {
+fn answer(frames: &mut [u8], book: &mut [u64], space: &mut [u8], w: World, line: &[u8]) -> World
+    requires { ⌜ length (now frames) ≡ 4198400 ⌝ }
+    requires { ⌜ length (now book) ≡ 1025 ⌝ }
+    requires { ⌜ 65536 ≤ length (now space) ⌝ }
+    requires { ⌜ Lends w ⌝ }
+    ensures { λ r. ⌜ Lends r ⌝ }
+{
     let kind = script::kind(line);
     match kind {
         Line::Blank => w,
@@ -42,12 +54,20 @@ fn turn(
     buffer: &mut [u8],
     line: &mut [u8],
     s: Session,
-) -> Session {
+) -> Session
+    requires { ⌜ length (now frames) ≡ 4198400 ⌝ }
+    requires { ⌜ length (now book) ≡ 1025 ⌝ }
+    requires { ⌜ 65536 ≤ length (now space) ⌝ }
+    requires { ⌜ Lends (s .world) × Within (s .input) (length (now buffer)) (length (now line)) ⌝ }
+    ensures { λ r. ⌜ Lends (r .world) × Within (r .input) (length (now (buffer .entry))) (length (now (line .entry))) ⌝ }
+{
     let world = s.world;
     let input = s.input;
     let next = input::take(buffer, line, input);
     let size = next.size;
     let whole = next.whole;
+    let at = next.at;
+    let end = next.end;
     let ended = next.ended;
     if !whole {
         return Session {
@@ -59,16 +79,20 @@ fn turn(
     let after = answer(frames, book, space, world, &line[..size]);
     Session {
         world: after,
-        input: input::next_line(next),
+        input: input::before_line(at, end, ended),
         ended: ended,
     }
 }
 
 // Takes turns until the input ends.
-fn run(frames: &mut [u8], book: &mut [u64], space: &mut [u8], buffer: &mut [u8], line: &mut [u8]) {
+fn run(frames: &mut [u8], book: &mut [u64], space: &mut [u8], buffer: &mut [u8], line: &mut [u8])
+    requires { ⌜ length (now frames) ≡ 4198400 ⌝ }
+    requires { ⌜ length (now book) ≡ 1025 ⌝ }
+    requires { ⌜ 65536 ≤ length (now space) ⌝ }
+{
     let mut s = Session {
         world: lent::nothing(),
-        input: input::start(),
+        input: input::before_line(0, 0, false),
         ended: false,
     };
     // A proved loop has to end, and nothing says that the input does: it has fewer bytes than this.

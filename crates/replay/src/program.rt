@@ -1,12 +1,9 @@
 // The lines of calls that have an image or arguments.
+use crate::called::bad;
+use crate::called::said;
 use crate::words::Taken;
 use script::Number;
 use spec::Procs;
-
-fn bad(procs: Procs) -> Procs {
-    crate::say::bad_line();
-    procs
-}
 
 // start NUMBER NAME IMAGE [ARG ..]
 pub fn start(
@@ -25,7 +22,7 @@ pub fn start(
     };
     let mut bytes = [0u8; 4096];
     let mut lengths = [0u64; 512];
-    let a = crate::arguments::arguments(space, &mut bytes, &mut lengths, line, 4);
+    let a = crate::arguments::take(space, &mut bytes, &mut lengths, line);
     let Taken::Size(m) = crate::words::bytes(space, script::word(line, 3)) else {
         return bad(procs);
     };
@@ -34,7 +31,7 @@ pub fn start(
     }
     let size = a.size;
     let count = a.count;
-    let left = crate::stand_in::start(
+    said(start::start(
         frames,
         book,
         procs,
@@ -43,10 +40,7 @@ pub fn start(
         &name[..n],
         &bytes[..size],
         &lengths[..count],
-    );
-    let says = left.answer;
-    crate::say::answer(says);
-    left.procs
+    ))
 }
 
 // replace NUMBER NAME IMAGE ARGV
@@ -70,10 +64,7 @@ pub fn replace(
     let Taken::Size(m) = crate::words::bytes(space, script::word(line, 3)) else {
         return bad(procs);
     };
-    let left = crate::stand_in::replace(frames, book, procs, number, &space[..m], &name[..n], argv);
-    let says = left.answer;
-    crate::say::answer(says);
-    left.procs
+    said(crate::stand_in::replace(frames, book, procs, number, &space[..m], &name[..n], argv))
 }
 
 // push NUMBER PC TOP [ARG ..]
@@ -95,13 +86,13 @@ pub fn push(
     };
     let mut bytes = [0u8; 4096];
     let mut lengths = [0u64; 512];
-    let a = crate::arguments::arguments(space, &mut bytes, &mut lengths, line, 4);
+    let a = crate::arguments::take(space, &mut bytes, &mut lengths, line);
     if a.bad {
         return bad(procs);
     }
     let size = a.size;
     let count = a.count;
-    let left = crate::stand_in::push(
+    said(push::push(
         frames,
         book,
         procs,
@@ -110,8 +101,5 @@ pub fn push(
         top,
         &bytes[..size],
         &lengths[..count],
-    );
-    let says = left.answer;
-    crate::say::answer(says);
-    left.procs
+    ))
 }

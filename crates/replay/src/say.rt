@@ -1,4 +1,6 @@
 // Answers, written to standard output a line at a time.
+ghost use Prim.Native.Nat.{_≤_};
+ghost use lib.ListN.{length};
 use libc::STDOUT_FILENO;
 use spec::Answer;
 use spec::Found;
@@ -42,7 +44,9 @@ pub fn yes_or_no(a: Answer) {
 }
 
 // The answer of a copy from user memory: its bytes, if they were copied.
-pub fn copied(a: Answer, bytes: &[u8]) {
+pub fn copied(a: Answer, bytes: &[u8])
+    requires { ⌜ length (now bytes) ≤ 65536 ⌝ }
+{
     match a {
         Answer::Done => ok_bytes(bytes),
         _ => answer(a),
@@ -50,21 +54,27 @@ pub fn copied(a: Answer, bytes: &[u8]) {
 }
 
 // A line of bytes.
-pub fn ok_bytes(bytes: &[u8]) {
+pub fn ok_bytes(bytes: &[u8])
+    requires { ⌜ length (now bytes) ≤ 65536 ⌝ }
+{
     let mut out = [0u8; LINE_SIZE];
     let n = replies::put_bytes(&mut out, b"ok ", bytes);
     io::write_all(STDOUT_FILENO, &out[..n]);
 }
 
 // A line of bytes with a number before them.
-fn sized(name: &[u8], number: u64, bytes: &[u8]) {
+fn sized(name: &[u8], number: u64, bytes: &[u8])
+    requires { ⌜ (length (now name) ≤ 8) × (length (now bytes) ≤ 65536) ⌝ }
+{
     let mut out = [0u8; LINE_SIZE];
     let n = replies::put_sized(&mut out, name, number, bytes);
     io::write_all(STDOUT_FILENO, &out[..n]);
 }
 
 // The answer of a string copy: its length, or 35, and the whole buffer as it is left.
-pub fn string(a: Answer, bytes: &[u8]) {
+pub fn string(a: Answer, bytes: &[u8])
+    requires { ⌜ length (now bytes) ≤ 65536 ⌝ }
+{
     match a {
         Answer::Value(v) => sized(b"ok ", v, bytes),
         Answer::Refused(number) => {
@@ -100,7 +110,9 @@ pub fn name(number: u64, text: [u8; 28]) {
 }
 
 // The line of a segment or the bss.
-pub fn part(kind: &[u8], r: VirtRange) {
+pub fn part(kind: &[u8], r: VirtRange)
+    requires { ⌜ length (now kind) ≤ 6 ⌝ }
+{
     let mut out = [0u8; 128];
     let n = replies::put_part(&mut out, kind, r);
     io::write_all(STDOUT_FILENO, &out[..n]);

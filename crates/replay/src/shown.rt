@@ -6,33 +6,33 @@ use spec::Proc;
 use spec::UserSegment;
 use spec::VirtRange;
 
-// The bss in words 1 and 2 of a line.
-enum Given {
-    Is(Bss),
+// The bss that two words of a line give.
+enum Words {
+    Give(Bss),
     Bad,
 }
 
-fn given(line: &[u8]) -> Given {
+fn bss_of(line: &[u8]) -> Words {
     let first = script::word(line, 1);
     let second = script::word(line, 2);
     if script::same(first, b"none") {
         if script::same(second, b"none") {
-            return Given::Is(Bss::Unset);
+            return Words::Give(Bss::Unset);
         }
-        return Given::Bad;
+        return Words::Bad;
     }
     let Number::Is(start) = script::decimal(first) else {
-        return Given::Bad;
+        return Words::Bad;
     };
     let Number::Is(end) = script::decimal(second) else {
-        return Given::Bad;
+        return Words::Bad;
     };
-    Given::Is(Bss::Set(mem::range(start, end)))
+    Words::Give(Bss::Set(mem::range(start, end)))
 }
 
 // rule START END FREE ADDRESS
 pub fn rule(line: &[u8]) {
-    let Given::Is(bss) = given(line) else {
+    let Words::Give(bss) = bss_of(line) else {
         crate::say::bad_line();
         return;
     };

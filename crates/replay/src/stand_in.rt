@@ -3,22 +3,6 @@ use front::left::Left;
 use spec::Answer;
 use spec::Procs;
 
-pub fn start(
-    frames: &mut [u8],
-    book: &mut [u64],
-    procs: Procs,
-    number: u64,
-    image: &[u8],
-    name: &[u8],
-    bytes: &[u8],
-    lengths: &[u64],
-) -> Left {
-    Left {
-        procs: procs,
-        answer: Answer::Refused(1),
-    }
-}
-
 pub fn replace(
     frames: &mut [u8],
     book: &mut [u64],
@@ -27,22 +11,6 @@ pub fn replace(
     image: &[u8],
     name: &[u8],
     argv: u64,
-) -> Left {
-    Left {
-        procs: procs,
-        answer: Answer::Refused(1),
-    }
-}
-
-pub fn push(
-    frames: &mut [u8],
-    book: &mut [u64],
-    procs: Procs,
-    number: u64,
-    pc: u64,
-    top: u64,
-    bytes: &[u8],
-    lengths: &[u64],
 ) -> Left {
     Left {
         procs: procs,

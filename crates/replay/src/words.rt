@@ -1,15 +1,24 @@
 // What words of a line say: numbers, and bytes, of a file too.
+ghost use mathlib.Core.Path.{_≡_};
+ghost use mathlib.Core.Option.{some};
+ghost use Prim.Native.Nat.{_≤_, min};
+ghost use lib.ListN.{length, take, drop};
+ghost use Rattle.script.specs.Words.{headOf, afterOf, decimalOf};
+ghost use Rattle.script.specs.Bytes.{formOf, pairsOf};
+ghost use Rattle.replay.specs.Given.{sizeOf, takenOf, bytesOf};
 use script::Form;
 use script::Number;
 
-// How many bytes were taken, or that there are none to take.
+// How many bytes were taken, or that a word gives none.
 pub enum Taken {
     Size(usize),
     Bad,
 }
 
 // Word k of a line as a number.
-pub fn number(line: &[u8], k: usize) -> Number {
+pub fn number(line: &[u8], k: usize) -> Number
+    ensures { λ r. ⌜ r ≡ decimalOf (headOf (afterOf k (now (line .entry)))) ⌝ }
+{
     script::decimal(script::word(line, k))
 }
 
@@ -23,7 +32,10 @@ pub fn fill(bytes: &mut [u8], b: u8) {
 }
 
 // Puts bytes at the start of `dst`, as many as it holds, and answers how many.
-pub fn first(dst: &mut [u8], bytes: &[u8]) -> usize {
+pub fn first(dst: &mut [u8], bytes: &[u8]) -> usize
+    ensures { λ r. ⌜ r ≡ min (length (now (bytes .entry))) (length (now (dst .entry))) ⌝ }
+    ensures { λ r. ⌜ take r (now (dst .exit)) ≡ take r (now (bytes .entry)) ⌝ }
+{
     let mut i = 0;
     while (i < bytes.len()) & (i < dst.len()) {
         dst[i] = bytes[i];
@@ -33,7 +45,10 @@ pub fn first(dst: &mut [u8], bytes: &[u8]) -> usize {
 }
 
 // Puts bytes at the start of `dst`.
-fn quoted(dst: &mut [u8], bytes: &[u8]) -> Taken {
+fn quoted(dst: &mut [u8], bytes: &[u8]) -> Taken
+    ensures { λ r. ⌜ sizeOf r ≤ length (now (dst .exit)) ⌝ }
+    ensures { λ r. ⌜ (length (now (bytes .entry)) ≤ length (now (dst .entry)) → takenOf r (now (dst .exit)) ≡ some (now (bytes .entry))) ⌝ }
+{
     if dst.len() < bytes.len() {
         return Taken::Bad;
     }
@@ -41,7 +56,10 @@ fn quoted(dst: &mut [u8], bytes: &[u8]) -> Taken {
 }
 
 // Puts the bytes that pairs of hex digits give.
-fn pairs(dst: &mut [u8], word: &[u8]) -> Taken {
+fn pairs(dst: &mut [u8], word: &[u8]) -> Taken
+    ensures { λ r. ⌜ sizeOf r ≤ length (now (dst .exit)) ⌝ }
+    ensures { λ r. ⌜ (length (now (word .entry)) ≤ length (now (dst .entry)) → takenOf r (now (dst .exit)) ≡ pairsOf (now (word .entry))) ⌝ }
+{
     if !script::unhex(dst, word) {
         return Taken::Bad;
     }
@@ -49,7 +67,9 @@ fn pairs(dst: &mut [u8], word: &[u8]) -> Taken {
 }
 
 // Reads a file to its end. It must be shorter than `dst`.
-fn read_file(fd: i32, dst: &mut [u8]) -> Taken {
+fn read_file(fd: i32, dst: &mut [u8]) -> Taken
+    ensures { λ r. ⌜ sizeOf r ≤ length (now (dst .exit)) ⌝ }
+{
     let mut n = 0;
     while n < dst.len() {
         let got = libc::read(fd, &mut dst[n..]);
@@ -66,7 +86,9 @@ fn read_file(fd: i32, dst: &mut [u8]) -> Taken {
 }
 
 // Puts the bytes of the file at `path`.
-fn file(dst: &mut [u8], path: &[u8]) -> Taken {
+fn file(dst: &mut [u8], path: &[u8]) -> Taken
+    ensures { λ r. ⌜ sizeOf r ≤ length (now (dst .exit)) ⌝ }
+{
     let fd = os::open_read(path);
     if fd < 0 {
         return Taken::Bad;
@@ -77,7 +99,10 @@ fn file(dst: &mut [u8], path: &[u8]) -> Taken {
 }
 
 // Puts the bytes that a word gives at the start of `dst`.
-pub fn bytes(dst: &mut [u8], word: &[u8]) -> Taken {
+pub fn bytes(dst: &mut [u8], word: &[u8]) -> Taken
+    ensures { λ r. ⌜ sizeOf r ≤ length (now (dst .exit)) ⌝ }
+    ensures { λ r. ⌜ ((formOf (now (word .entry)) ≡ Form.File → ⊥) → length (now (word .entry)) ≤ length (now (dst .entry)) → takenOf r (now (dst .exit)) ≡ bytesOf (now (word .entry))) ⌝ }
+{
     let form = script::form_of(word);
     match form {
         Form::Nothing => Taken::Size(0),
