@@ -3,7 +3,7 @@
 ghost use mathlib.Core.Path.{_≡_};
 ghost use Prim.Native.Nat.{_≤_};
 ghost use lib.ListN.{length, take};
-ghost use Rattle.spec.specs.Tests.{has, sum};
+ghost use Rattle.spec.specs.Tests.{sum};
 ghost use Rattle.replay.specs.Given.{sizeOf};
 ghost use Rattle.replay.specs.Rooms.{Fits};
 use crate::words::Taken;
@@ -30,20 +30,6 @@ pub fn name(space: &mut [u8], dst: &mut [u8], word: &[u8]) -> Taken
     Taken::Size(crate::words::first(dst, kstr::elem(&space[..n])))
 }
 
-// Whether there is a NUL.
-fn has_nul(bytes: &[u8]) -> bool
-    ensures { λ r. ⌜ r ≡ has 0 (now (bytes .entry)) ⌝ }
-{
-    let mut i = 0;
-    while i < bytes.len() {
-        if bytes[i] == 0 {
-            return true;
-        }
-        i += 1;
-    }
-    false
-}
-
 // Adds an argument, if there is room.
 fn add(bytes: &mut [u8], lengths: &mut [u64], a: Args, arg: &[u8]) -> Args
     requires { ⌜ Fits a (now bytes) (now lengths) ⌝ }
@@ -51,7 +37,7 @@ fn add(bytes: &mut [u8], lengths: &mut [u64], a: Args, arg: &[u8]) -> Args
 {
     let count = a.count;
     let size = a.size;
-    let nul = a.nul | has_nul(arg);
+    let nul = a.nul | args::has_nul(arg);
     if a.over | (count == lengths.len()) | (bytes.len() - size < arg.len()) {
         return Args {
             count: count,
@@ -132,7 +118,19 @@ pub fn take(space: &mut [u8], bytes: &mut [u8], lengths: &mut [u64], line: &[u8]
     }
 }
 
-// Takes the words behind the first three as numbers, as many as there is room for.
+// Puts a number at place n, if there is room, and answers the next place.
+fn add_number(dst: &mut [u64], n: usize, x: u64) -> usize
+    requires { ⌜ n ≤ length (now dst) ⌝ }
+    ensures { λ r. ⌜ r ≤ length (now (dst .exit)) ⌝ }
+{
+    if n == dst.len() {
+        return n;
+    }
+    dst[n] = x;
+    n + 1
+}
+
+// Takes the words of a line behind its first three as numbers, as many as there is room for.
 pub fn numbers(dst: &mut [u64], line: &[u8]) -> Taken
     ensures { λ r. ⌜ sizeOf r ≤ length (now (dst .exit)) ⌝ }
 {
@@ -143,10 +141,7 @@ pub fn numbers(dst: &mut [u64], line: &[u8]) -> Taken
         let Number::Is(x) = script::decimal(script::word_at(line, at)) else {
             return Taken::Bad;
         };
-        if n < dst.len() {
-            dst[n] = x;
-            n += 1;
-        }
+        n = add_number(dst, n, x);
         at = script::next(line, at);
         left -= 1;
     }

@@ -82,14 +82,26 @@ pub fn range(frames: &mut [u8], book: &mut [u64], procs: Procs, line: &[u8]) -> 
     procs
 }
 
-// from NUMBER ADDRESS LENGTH
-pub fn from(
+// Copies into a lent buffer, which is blank first.
+fn from_buffer(
     frames: &mut [u8],
     book: &mut [u64],
-    space: &mut [u8],
+    buffer: &mut [u8],
     procs: Procs,
-    line: &[u8],
+    number: u64,
+    src: u64,
 ) -> Procs
+    requires { ⌜ length (now buffer) ≤ 65536 ⌝ }
+{
+    crate::words::fill(buffer, BLANK);
+    let left = calls::copy_from_user(frames, book, procs, number, buffer, src);
+    let says = left.answer;
+    crate::say::copied(says, buffer);
+    left.procs
+}
+
+// from NUMBER ADDRESS LENGTH
+pub fn from(frames: &mut [u8], book: &mut [u64], space: &mut [u8], procs: Procs, line: &[u8]) -> Procs
     requires { ⌜ 65536 ≤ length (now space) ⌝ }
 {
     let Number::Is(number) = crate::words::number(line, 1) else {
@@ -105,11 +117,7 @@ pub fn from(
         return bad(procs);
     }
     let n = len as usize;
-    crate::words::fill(&mut space[..n], BLANK);
-    let left = calls::copy_from_user(frames, book, procs, number, &mut space[..n], src);
-    let says = left.answer;
-    crate::say::copied(says, &space[..n]);
-    left.procs
+    from_buffer(frames, book, &mut space[..n], procs, number, src)
 }
 
 // to NUMBER ADDRESS BYTES
@@ -132,14 +140,25 @@ pub fn to(
     said(calls::copy_to_user(frames, book, procs, number, dst, &space[..n]))
 }
 
-// string NUMBER ADDRESS LENGTH
-pub fn string(
+// Copies a string into a lent buffer, which is blank first.
+fn string_buffer(
     frames: &mut [u8],
     book: &mut [u64],
-    space: &mut [u8],
+    buffer: &mut [u8],
     procs: Procs,
-    line: &[u8],
+    number: u64,
+    src: u64,
 ) -> Procs
+    requires { ⌜ length (now buffer) ≤ 65536 ⌝ }
+{
+    crate::words::fill(buffer, BLANK);
+    let says = calls::try_copy_str_from_user(frames, book, procs, number, buffer, src);
+    crate::say::string(says, buffer);
+    procs
+}
+
+// string NUMBER ADDRESS LENGTH
+pub fn string(frames: &mut [u8], book: &mut [u64], space: &mut [u8], procs: Procs, line: &[u8]) -> Procs
     requires { ⌜ 65536 ≤ length (now space) ⌝ }
 {
     let Number::Is(number) = crate::words::number(line, 1) else {
@@ -155,8 +174,5 @@ pub fn string(
         return bad(procs);
     }
     let n = len as usize;
-    crate::words::fill(&mut space[..n], BLANK);
-    let says = calls::try_copy_str_from_user(frames, book, procs, number, &mut space[..n], src);
-    crate::say::string(says, &space[..n]);
-    procs
+    string_buffer(frames, book, &mut space[..n], procs, number, src)
 }

@@ -1,7 +1,7 @@
 // The lines of frames and book, and what a call is lent of them.
 ghost use mathlib.Core.Path.{_≡_};
 ghost use Prim.Native.Nat.{_≤_, _<_};
-ghost use lib.ListN.{length};
+ghost use lib.ListN.{length, replicate};
 ghost use Rattle.replay.specs.Rooms.{Lends};
 use script::Line;
 use script::Number;
@@ -37,15 +37,19 @@ pub fn nothing() -> World
     }
 }
 
+// Answers a line that is no call, with all as it is.
 fn bad(w: World) -> World
-    ensures { λ r. ⌜ r ≡ w ⌝ }
+    requires { ⌜ Lends w ⌝ }
+    ensures { λ r. ⌜ Lends r ⌝ }
 {
     crate::say::bad_line();
     w
 }
 
 // Makes every word zero.
-fn clear_words(words: &mut [u64]) {
+fn clear_words(words: &mut [u64])
+    ensures { λ _. ⌜ now (words .exit) ≡ replicate (length (now (words .entry))) 0 ⌝ }
+{
     let mut i = 0;
     while i < words.len() {
         words[i] = 0;
@@ -74,7 +78,10 @@ pub fn frames(frames: &mut [u8], book: &mut [u64], w: World, line: &[u8]) -> Wor
     let Number::Is(fill) = fill_of(line) else {
         return bad(w);
     };
-    if (n > MOST) | (fill > 255) {
+    if n > MOST {
+        return bad(w);
+    }
+    if fill > 255 {
         return bad(w);
     }
     let count = n as usize;
@@ -102,7 +109,10 @@ pub fn lend(w: World, line: &[u8]) -> World
         return bad(w);
     };
     let count = w.count;
-    if (bytes > 4096 * count as u64) | (words > count as u64) {
+    if bytes > 4096 * (count as u64) {
+        return bad(w);
+    }
+    if words > count as u64 {
         return bad(w);
     }
     let procs = w.procs;

@@ -128,6 +128,6 @@ pub fn page(address: u64, frame: Found) {
 // The last line of a table.
 pub fn pages(count: u64) {
     let mut out = [0u8; 128];
-    let n = text::put_field(&mut out, 0, b"  pages ", count);
+    let n = replies::put_pages(&mut out, count);
     io::write_all(STDOUT_FILENO, &out[..n]);
 }

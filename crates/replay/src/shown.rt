@@ -1,4 +1,5 @@
 // The lines of rules by themselves, and of what is shown.
+ghost use Prim.Native.Nat.{_≤_, _^_};
 use crate::words::Taken;
 use script::Number;
 use segment::Bss;
@@ -69,15 +70,26 @@ pub fn name(space: &mut [u8], line: &[u8]) {
     crate::say::ok_bytes(&text);
 }
 
+fn least(a: u64, b: u64) -> u64
+    ensures { λ r. ⌜ (r ≤ a) × (r ≤ b) ⌝ }
+{
+    if a < b {
+        return a;
+    }
+    b
+}
+
 // The pages of a range, each with the frame that holds it, and how many there are.
-fn pages(book: &[u64], number: u64, r: VirtRange) -> u64 {
-    let mut n = 0;
+fn pages(book: &[u64], number: u64, r: VirtRange) -> u64
+    ensures { λ n. ⌜ n ≤ 2 ^ 36 ⌝ }
+{
     let mem::Rounded::To(start) = mem::checked_page_up(r.start) else {
         return 0;
     };
-    let end = r.end;
+    let end = least(r.end, spec::UADDRTOP);
     let mut page = start;
-    while (page < end) & (page < spec::UADDRTOP) {
+    let mut n = 0;
+    while page < end {
         crate::say::page(page, replies::frame_of(book, number, page));
         page += spec::PAGE_SIZE_4K;
         n += 1;
@@ -86,7 +98,9 @@ fn pages(book: &[u64], number: u64, r: VirtRange) -> u64 {
 }
 
 // The lines of a segment.
-fn segment(book: &[u64], number: u64, s: UserSegment) -> u64 {
+fn segment(book: &[u64], number: u64, s: UserSegment) -> u64
+    ensures { λ n. ⌜ n ≤ 2 ^ 36 ⌝ }
+{
     let r = s.range;
     if s.perm == spec::TEXT {
         crate::say::part(b"text", r);
@@ -99,7 +113,9 @@ fn segment(book: &[u64], number: u64, s: UserSegment) -> u64 {
 }
 
 // The lines of all segments.
-fn segments(book: &[u64], number: u64, all: [UserSegment; 16]) -> u64 {
+fn segments(book: &[u64], number: u64, all: [UserSegment; 16]) -> u64
+    ensures { λ n. ⌜ n ≤ 2 ^ 40 ⌝ }
+{
     let mut n = 0;
     let mut i = 0;
     while i < 16 {

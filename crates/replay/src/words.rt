@@ -1,8 +1,8 @@
 // What words of a line say: numbers, and bytes, of a file too.
 ghost use mathlib.Core.Path.{_≡_};
 ghost use mathlib.Core.Option.{some};
-ghost use Prim.Native.Nat.{_≤_, min};
-ghost use lib.ListN.{length, take, drop};
+ghost use Prim.Native.Nat.{_+_, _≤_, min};
+ghost use lib.ListN.{length, take, replicate};
 ghost use Rattle.script.specs.Words.{headOf, afterOf, decimalOf};
 ghost use Rattle.script.specs.Bytes.{formOf, pairsOf};
 ghost use Rattle.replay.specs.Given.{sizeOf, takenOf, bytesOf};
@@ -23,7 +23,9 @@ pub fn number(line: &[u8], k: usize) -> Number
 }
 
 // Makes every byte `b`.
-pub fn fill(bytes: &mut [u8], b: u8) {
+pub fn fill(bytes: &mut [u8], b: u8)
+    ensures { λ _. ⌜ now (bytes .exit) ≡ replicate (length (now (bytes .entry))) b ⌝ }
+{
     let mut i = 0;
     while i < bytes.len() {
         bytes[i] = b;
@@ -31,17 +33,27 @@ pub fn fill(bytes: &mut [u8], b: u8) {
     }
 }
 
+fn least(a: usize, b: usize) -> usize
+    ensures { λ r. ⌜ r ≡ min a b ⌝ }
+{
+    if a < b {
+        return a;
+    }
+    b
+}
+
 // Puts bytes at the start of `dst`, as many as it holds, and answers how many.
 pub fn first(dst: &mut [u8], bytes: &[u8]) -> usize
     ensures { λ r. ⌜ r ≡ min (length (now (bytes .entry))) (length (now (dst .entry))) ⌝ }
     ensures { λ r. ⌜ take r (now (dst .exit)) ≡ take r (now (bytes .entry)) ⌝ }
 {
+    let n = least(bytes.len(), dst.len());
     let mut i = 0;
-    while (i < bytes.len()) & (i < dst.len()) {
+    while i < n {
         dst[i] = bytes[i];
         i += 1;
     }
-    i
+    n
 }
 
 // Puts bytes at the start of `dst`.
@@ -66,17 +78,28 @@ fn pairs(dst: &mut [u8], word: &[u8]) -> Taken
     Taken::Size(word.len() / 2)
 }
 
+// Reads once to `dst` from place n on.
+fn read_at(fd: i32, dst: &mut [u8], n: usize) -> Taken
+    requires { ⌜ n ≤ length (now dst) ⌝ }
+    ensures { λ r. ⌜ n + sizeOf r ≤ length (now (dst .entry)) ⌝ }
+{
+    let part = &mut dst[n..];
+    let got = libc::read(fd, part);
+    if got < 0 {
+        return Taken::Bad;
+    }
+    Taken::Size(io::count(got, part))
+}
+
 // Reads a file to its end. It must be shorter than `dst`.
 fn read_file(fd: i32, dst: &mut [u8]) -> Taken
     ensures { λ r. ⌜ sizeOf r ≤ length (now (dst .exit)) ⌝ }
 {
     let mut n = 0;
     while n < dst.len() {
-        let got = libc::read(fd, &mut dst[n..]);
-        if got < 0 {
+        let Taken::Size(more) = read_at(fd, dst, n) else {
             return Taken::Bad;
-        }
-        let more = io::count(got, &dst[n..]);
+        };
         if more == 0 {
             return Taken::Size(n);
         }

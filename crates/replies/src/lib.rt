@@ -15,4 +15,5 @@ pub use sums::records_sum;
 pub use table::frame_of;
 pub use table::put_name;
 pub use table::put_page;
+pub use table::put_pages;
 pub use table::put_part;

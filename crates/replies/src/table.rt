@@ -2,7 +2,8 @@
 ghost use mathlib.Core.Path.{_≡_};
 ghost use Prim.Native.Nat.{_+_, _-_, _*_, _≤_, _<_};
 ghost use lib.ListN.{length, take};
-ghost use Rattle.text.specs.Text.{Puts};
+ghost use Rattle.spec.specs.Tests.{ascii};
+ghost use Rattle.text.specs.Text.{Puts, fieldText};
 ghost use Rattle.replies.specs.Table.{stripped, signOf, signsText, nameText, partText, pageText, firstFrame};
 use crate::answer::put_named;
 use spec::Found;
@@ -97,6 +98,15 @@ pub fn put_page(out: &mut [u8], page: u64, frame: Found) -> usize
         Found::At(i) => put_field(out, a, b" frame ", i as u64),
         Found::Nothing => put(out, a, b" frame none\n"),
     }
+}
+
+// Puts the last line: how many pages there are.
+pub fn put_pages(out: &mut [u8], pages: u64) -> usize
+    requires { ⌜ 128 ≤ length (now out) ⌝ }
+    ensures { λ n. ⌜ Puts (now (out .entry)) 0 (fieldText (ascii "  pages ") pages) (now (out .exit)) n ⌝ }
+    ensures { λ n. ⌜ (n ≤ length (now (out .exit))) × (n ≡ length (take n (now (out .exit)))) ⌝ }
+{
+    put_field(out, 0, b"  pages ", pages)
 }
 
 // The first frame of a process's page, in a book that may be torn.
