@@ -12,7 +12,6 @@ mod lists;
 mod program;
 mod say;
 mod shown;
-mod stand_in;
 mod words;
 
 use input::Input;
@@ -97,7 +96,10 @@ fn run(frames: &mut [u8], book: &mut [u64], space: &mut [u8], buffer: &mut [u8],
     };
     // A proved loop has to end, and nothing says that the input does: it has fewer bytes than this.
     let mut turns: u64 = u64::MAX;
-    while (0 < turns) & !s.ended {
+    while 0 < turns {
+        if s.ended {
+            return;
+        }
         s = turn(frames, book, space, buffer, line, s);
         turns -= 1;
     }

@@ -64,7 +64,7 @@ pub fn replace(
     let Taken::Size(m) = crate::words::bytes(space, script::word(line, 3)) else {
         return bad(procs);
     };
-    said(crate::stand_in::replace(frames, book, procs, number, &space[..m], &name[..n], argv))
+    said(replace::replace(frames, book, procs, number, &space[..m], &name[..n], argv))
 }
 
 // push NUMBER PC TOP [ARG ..]
