@@ -101,7 +101,13 @@ fn from_buffer(
 }
 
 // from NUMBER ADDRESS LENGTH
-pub fn from(frames: &mut [u8], book: &mut [u64], space: &mut [u8], procs: Procs, line: &[u8]) -> Procs
+pub fn from(
+    frames: &mut [u8],
+    book: &mut [u64],
+    space: &mut [u8],
+    procs: Procs,
+    line: &[u8],
+) -> Procs
     requires { ⌜ 65536 ≤ length (now space) ⌝ }
 {
     let Number::Is(number) = crate::words::number(line, 1) else {
@@ -158,7 +164,13 @@ fn string_buffer(
 }
 
 // string NUMBER ADDRESS LENGTH
-pub fn string(frames: &mut [u8], book: &mut [u64], space: &mut [u8], procs: Procs, line: &[u8]) -> Procs
+pub fn string(
+    frames: &mut [u8],
+    book: &mut [u64],
+    space: &mut [u8],
+    procs: Procs,
+    line: &[u8],
+) -> Procs
     requires { ⌜ 65536 ≤ length (now space) ⌝ }
 {
     let Number::Is(number) = crate::words::number(line, 1) else {

@@ -105,8 +105,19 @@ fn run(frames: &mut [u8], book: &mut [u64], space: &mut [u8], buffer: &mut [u8],
     }
 }
 
+// The same over whole arrays, by whose types their lengths are known.
+fn replay(
+    frames: &mut [u8; 4198400],
+    book: &mut [u64; 1025],
+    space: &mut [u8; 2097153],
+    buffer: &mut [u8; 65536],
+    line: &mut [u8; 65537],
+) {
+    run(frames, book, space, buffer, line);
+}
+
 fn main() {
-    // 1,025 frames: one more than a book may have.
+    // 1,025 frames: one more than a book may have, to try number 1.
     let mut frames = [0u8; 4198400];
     let mut book = [0u64; 1025];
     // A file's bytes, and one byte more, so that a longer file is seen to be one.
@@ -114,5 +125,5 @@ fn main() {
     let mut buffer = [0u8; 65536];
     // A line's bytes, and one byte more, so that a longer line is seen to be one.
     let mut line = [0u8; 65537];
-    run(&mut frames, &mut book, &mut space, &mut buffer, &mut line);
+    replay(&mut frames, &mut book, &mut space, &mut buffer, &mut line);
 }
