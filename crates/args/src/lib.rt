@@ -41,7 +41,7 @@ pub fn lengths_fit(bytes: &[u8], lengths: &[u64]) -> bool
 }
 
 // Whether a NUL stands in `bytes`.
-fn has_nul(bytes: &[u8]) -> bool
+pub fn has_nul(bytes: &[u8]) -> bool
     ensures { λ r. ⌜ r ≡ has 0 (now (bytes .entry)) ⌝ }
 {
     let mut i = 0;

@@ -97,7 +97,7 @@ fn put_lines(out: &mut [u8], at: usize, segments: [UserSegment; 16], n: usize) -
 }
 
 // Puts a name, a number and the end of the line.
-fn put_field(out: &mut [u8], at: usize, name: &[u8], n: u64) -> usize
+pub fn put_field(out: &mut [u8], at: usize, name: &[u8], n: u64) -> usize
     requires { ⌜ at + length (now name) + 21 ≤ length (now out) ⌝ }
     ensures { λ r. ⌜ Puts (now (out .entry)) at (fieldText (now (name .entry)) n) (now (out .exit)) r ⌝ }
     ensures { λ r. ⌜ r ≤ at + length (now (name .entry)) + 21 ⌝ }

@@ -1,0 +1,5 @@
+pub mod Filled
+pub mod Taking
+pub mod Adding
+pub mod Recorded
+pub mod Forking

@@ -1,0 +1,49 @@
+-- `replay::program::push` meets its contract: the arguments lie in their buffers.
+-- Assumes nothing.
+use mathlib.Core.Path.{sym}
+use lib.Seq.{length-take-le}
+use borrow.Author.Needs.{needs}
+use Rattle.replay.proofs.program.push.Statement.{statement}
+use Rattle.replay.proofs.program.push.Tie as tie
+
+slice-aggregate-push : tie.Need-slice-aggregate-push
+slice-aggregate-push c = sym (length-take-le _ _ (c .before .before .before .before .before .before .before .before .take .ensures .sized))
+
+slice-aggregate-push-2 : tie.Need-slice-aggregate-push-2
+slice-aggregate-push-2 c = sym (length-take-le _ _ (c .before .before .before .before .before .before .before .before .before .take .ensures .counted))
+
+pub push-spec : {M : Type 1} → statement M
+push-spec =
+    tie.close
+    (tie.spec
+    (λ c κs. search needs)
+    (λ c. search needs)
+    (λ c. search needs)
+    (λ c κs. search needs)
+    (λ c. search needs)
+    (λ c κs. search needs)
+    (λ c. search needs)
+    (λ c. search needs)
+    (λ c κs. search needs)
+    (λ c. search needs)
+    (λ c κs. search needs)
+    (λ c. search needs)
+    (λ c. search needs)
+    (λ c κs. search needs)
+    (λ c. search needs)
+    (λ c. search needs)
+    (λ c. search needs)
+    (λ c κs. search needs)
+    (λ c κs. search needs)
+    (λ c. search needs)
+    (λ c. search needs)
+    (λ c. search needs)
+    slice-aggregate-push
+    (λ c. search needs)
+    slice-aggregate-push-2
+    (λ c κs. search needs)
+    (λ c κs. search needs)
+    (λ c. search needs)
+    (λ c. search needs)
+    (λ c. search needs)
+    (λ c. search needs))

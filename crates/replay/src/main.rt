@@ -1,0 +1,129 @@
+// Replays a script of calls from standard input, one call a line, and answers each line: tests/compare/README.md has the form.
+ghost use mathlib.Core.Path.{_≡_};
+ghost use Prim.Native.Nat.{_≤_};
+ghost use lib.ListN.{length};
+ghost use Rattle.replay.specs.Rooms.{Lends, Within};
+
+mod arguments;
+mod called;
+mod input;
+mod lent;
+mod lists;
+mod program;
+mod say;
+mod shown;
+mod words;
+
+use input::Input;
+use lent::World;
+use script::Line;
+
+// What the program holds: what the script has made, and how far its input is read.
+struct Session {
+    world: World,
+    input: Input,
+    ended: bool,
+}
+
+// Runs a line, and answers it.
+fn answer(frames: &mut [u8], book: &mut [u64], space: &mut [u8], w: World, line: &[u8]) -> World
+    requires { ⌜ length (now frames) ≡ 4198400 ⌝ }
+    requires { ⌜ length (now book) ≡ 1025 ⌝ }
+    requires { ⌜ 65536 ≤ length (now space) ⌝ }
+    requires { ⌜ Lends w ⌝ }
+    ensures { λ r. ⌜ Lends r ⌝ }
+{
+    let kind = script::kind(line);
+    match kind {
+        Line::Blank => w,
+        Line::Frames => lent::frames(frames, book, w, line),
+        Line::Lend => lent::lend(w, line),
+        Line::Word => lent::word(book, w, line),
+        Line::Sum => lent::sum(frames, book, w),
+        Line::Map => lent::map(book, w, line),
+        _ => lent::call(frames, book, space, w, kind, line),
+    }
+}
+
+// Takes a turn: reads if there's nothing left to take, takes up to the end of a line, and answers the line if it is whole.
+fn turn(
+    frames: &mut [u8],
+    book: &mut [u64],
+    space: &mut [u8],
+    buffer: &mut [u8],
+    line: &mut [u8],
+    s: Session,
+) -> Session
+    requires { ⌜ length (now frames) ≡ 4198400 ⌝ }
+    requires { ⌜ length (now book) ≡ 1025 ⌝ }
+    requires { ⌜ 65536 ≤ length (now space) ⌝ }
+    requires { ⌜ Lends (s .world) × Within (s .input) (length (now buffer)) (length (now line)) ⌝ }
+    ensures { λ r. ⌜ Lends (r .world) × Within (r .input) (length (now (buffer .entry))) (length (now (line .entry))) ⌝ }
+{
+    let world = s.world;
+    let input = s.input;
+    let next = input::take(buffer, line, input);
+    let size = next.size;
+    let whole = next.whole;
+    let at = next.at;
+    let end = next.end;
+    let ended = next.ended;
+    if !whole {
+        return Session {
+            world: world,
+            input: next,
+            ended: ended,
+        };
+    }
+    let after = answer(frames, book, space, world, &line[..size]);
+    Session {
+        world: after,
+        input: input::before_line(at, end, ended),
+        ended: ended,
+    }
+}
+
+// Takes turns until the input ends.
+fn run(frames: &mut [u8], book: &mut [u64], space: &mut [u8], buffer: &mut [u8], line: &mut [u8])
+    requires { ⌜ length (now frames) ≡ 4198400 ⌝ }
+    requires { ⌜ length (now book) ≡ 1025 ⌝ }
+    requires { ⌜ 65536 ≤ length (now space) ⌝ }
+{
+    let mut s = Session {
+        world: lent::nothing(),
+        input: input::before_line(0, 0, false),
+        ended: false,
+    };
+    // A proved loop has to end, and nothing says that the input does: it has fewer bytes than this.
+    let mut turns: u64 = u64::MAX;
+    while 0 < turns {
+        if s.ended {
+            return;
+        }
+        s = turn(frames, book, space, buffer, line, s);
+        turns -= 1;
+    }
+}
+
+// The same over whole arrays, by whose types their lengths are known.
+fn replay(
+    frames: &mut [u8; 4198400],
+    book: &mut [u64; 1025],
+    space: &mut [u8; 2097153],
+    buffer: &mut [u8; 65536],
+    line: &mut [u8; 65537],
+) {
+    run(frames, book, space, buffer, line);
+}
+
+fn main() {
+    // 1,025 frames: one more than a book may have, to try number 1.
+    let mut frames = [0u8; 4198400];
+    let mut book = [0u64; 1025];
+    // A file's bytes, and one byte more, so that a longer file is seen to be one.
+    let mut space = [0u8; 2097153];
+    let mut buffer = [0u8; 65536];
+    // A line's bytes, and one byte more, so that a longer line is seen to be one.
+    let mut line = [0u8; 65537];
+    replay(&mut frames, &mut book, &mut space, &mut buffer, &mut line);
+}
