@@ -116,7 +116,7 @@ pub fn frame_of(book: &[u64], number: u64, page: u64) -> Found
     let mut i = 0;
     while i < book.len() {
         let w = book[i];
-        if (pagealloc::book::page_of(w) == page) & (pagealloc::book::owner_of(w) == number) {
+        if (book::page_of(w) == page) & (book::owner_of(w) == number) {
             return Found::At(i);
         }
         i += 1;

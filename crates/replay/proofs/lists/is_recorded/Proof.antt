@@ -8,7 +8,7 @@ use lib.ListN.{length, drop}
 use Rattle.spec.specs.Tests.{same}
 use Rattle.spec.specs.Book.{sameSegment, used}
 use Rattle.spec.proofs.Bools.{not-true, un-not}
-use Rattle.sound.proofs.Walk.{length-mapped}
+use Rattle.records.proofs.Walk.{length-mapped}
 use Rattle.replay.specs.Lists.{listOf}
 use Rattle.replay.proofs.Recorded.{rest, list-ends, record-ends, unlike, alike, full}
 use borrow.Author.Needs.{needs}

@@ -8,8 +8,8 @@ use lib.Bits.{bitXor}
 use lib.ListN.{length, take, getD}
 use lib.Seq.{take-all}
 use Rattle.spec.specs.declared.Proc.{Proc}
-use Rattle.sound.proofs.Walk.{length-mapped}
-use Rattle.sound.proofs.Whole.{noProc}
+use Rattle.records.proofs.Walk.{length-mapped}
+use Rattle.records.proofs.Whole.{noProc}
 use Rattle.script.specs.Crc.{crcFrom}
 use Rattle.replies.specs.Sums.{recordBytes, recordsBytes}
 use Rattle.replies.proofs.Summed.{records-next}
