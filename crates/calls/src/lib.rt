@@ -10,3 +10,6 @@ pub use brk::brk;
 pub use end::end;
 pub use fork::fork;
 pub use front::left::Left;
+pub use push::push;
+pub use replace::replace;
+pub use start::start;

@@ -9,5 +9,5 @@ mod pages;
 // Pages placed in free frames.
 pub mod place;
 
-// A process's bytes, read and written over.
+// A process's bytes, written over.
 pub mod user;

@@ -1,0 +1,56 @@
+-- Arguments that copy_argv has read have no NUL and are within the limit.
+use Prim.Native.Nat.{ℕ, zero, suc, _+_, _*_}
+use native.Mathlib.Omega.{arith}
+use mathlib.Core.Path.{_≡_, refl, sym, subst}
+use mathlib.Core.Bool.{Bool, true, false}
+use mathlib.Core.List.{List, [], _∷_, _++_}
+use lib.ListN.{length, take}
+use Rattle.spec.specs.Tests.{_is_, _above_, any, has}
+use Rattle.spec.specs.Numbers.{argLimit, le}
+use Rattle.spec.specs.Frames.{Mem}
+use Rattle.spec.specs.Access.{userRangeOk, bytesAt, Str, copyStr}
+use Rattle.spec.specs.Exec.{strings, stackSize, argsError, Argv, argBuffer, argvFrom, copyArgv}
+use Rattle.spec.proofs.Bools.{split, neither}
+use Rattle.argv.proofs.Buffered.{str-no-nul}
+use Rattle.argv.proofs.Turned.{turn}
+
+-- neither 35 nor 33 is given but where nothing is: then the arguments can be pushed
+abbrev pub Fits : Argv → Type 0
+Fits r = (r .error ≡ 35 → ⊥) → (r .error ≡ 33 → ⊥) → (r .error ≡ 0) × (argsError (r .args) ≡ 0)
+
+fits-turn : (ok z w f g : Bool) (before : List (List ℕ)) (more : Argv) → argsError before ≡ 0 → (g ≡ false → Fits more) → Fits (turn ok z w f g before more)
+fits-turn true true w f g before more e h = λ x y. (refl, e)
+fits-turn true false true true g before more e h = λ x y. absurd (y refl)
+fits-turn true false true false true before more e h = λ x y. absurd (y refl)
+fits-turn true false true false false before more e h = h refl
+fits-turn true false false f g before more e h = λ x y. absurd (x refl)
+fits-turn false z w f g before more e h = λ x y. absurd (x refl)
+
+-- ---- one argument more
+
+no-nul : (args : List (List ℕ)) → argsError args ≡ 0 → any (has 0) args ≡ false
+no-nul args e = split (any (has 0) args) (λ q. absurd (let w : 32 ≡ 0 = rw q at e in omega arith)) (λ q. q)
+
+any-snoc : {A : Type 0} (t : A → Bool) (xs : List A) (y : A) → any t xs ≡ false → t y ≡ false → any t (xs ++ y ∷ []) ≡ false
+any-snoc t [] y e f = rw f
+any-snoc t (x ∷ xs) y e f = let b = neither (t x) (any t xs) e in rw (b .0) (any-snoc t xs y (b .1) f)
+
+error-more : (args : List (List ℕ)) (a : List ℕ) → argsError args ≡ 0 → has 0 a ≡ false → (stackSize (length (strings (args ++ a ∷ []))) (length (args ++ a ∷ [])) above argLimit) ≡ false → argsError (args ++ a ∷ []) ≡ 0
+error-more args a e n l = rw (any-snoc (has 0) args a (no-nul args e) n, l)
+
+-- ---- all of them
+
+fits-from : (mem : Mem) (argv turns : ℕ) (before : List (List ℕ)) → argsError before ≡ 0 → Fits (argvFrom mem argv before turns)
+fits-from mem argv zero before e = λ x y. absurd (y refl)
+fits-from mem argv (suc turns) before e =
+    let at : ℕ = argv + 8 * length before in
+    let s : ℕ = le 8 (bytesAt mem at 8) 0 in
+    let str : Str = copyStr mem argBuffer s in
+    let text : List ℕ = take (str .size) (str .buffer) in
+    let args : List (List ℕ) = before ++ text ∷ [] in
+    fits-turn (userRangeOk mem false at 8) (s is 0) (str .whole) (str .size is argLimit) (stackSize (length (strings args)) (length args) above argLimit) before (argvFrom mem argv args turns) e
+    (λ q. fits-from mem argv turns args (error-more before text e (str-no-nul mem argBuffer s) q))
+
+pub argv-fits : (mem : Mem) (argv : ℕ) (r : Argv) → r ≡ copyArgv mem argv → Fits r
+unfolding copyArgv
+argv-fits mem argv r h = subst Fits (sym h) (fits-from mem argv argLimit [] refl)

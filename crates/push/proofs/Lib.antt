@@ -1,0 +1,6 @@
+-- The places and the two ranges of a push.
+pub mod Ranges
+-- What it writes.
+pub mod Written
+-- What it answers.
+pub mod Answered
