@@ -103,21 +103,19 @@ impl World {
         World { frames: bytes, book: vec![0; frames], procs: Procs::default() }
     }
 
-    pub fn sound(&self) -> bool {
-        sound(&self.book, &self.procs)
-    }
 }
 
 #[cfg(calls)]
 #[rustfmt::skip]
 unsafe extern "C" {
+    fn holthrimi_check(f: *const u8, nf: usize, b: *const u64, nb: usize, procs: *const Procs) -> u64;
     fn holthrimi_start(f: *mut u8, nf: usize, b: *mut u64, nb: usize, procs: *mut Procs, number: u64, image: *const u8, ni: usize,
         name: *const u8, nn: usize, bytes: *const u8, ny: usize, lengths: *const u64, nl: usize) -> Told;
     fn holthrimi_replace(f: *mut u8, nf: usize, b: *mut u64, nb: usize, procs: *mut Procs, number: u64, image: *const u8, ni: usize,
         name: *const u8, nn: usize, argv: u64) -> Told;
     fn holthrimi_push(f: *mut u8, nf: usize, b: *mut u64, nb: usize, procs: *mut Procs, number: u64, pc: u64, top: u64,
         bytes: *const u8, ny: usize, lengths: *const u64, nl: usize) -> Told;
-    fn holthrimi_brk(f: *mut u8, nf: usize, b: *mut u64, nb: usize, procs: *mut Procs, number: u64, addr: u64) -> Told;
+    fn holthrimi_break(f: *mut u8, nf: usize, b: *mut u64, nb: usize, procs: *mut Procs, number: u64, addr: u64) -> Told;
     fn holthrimi_fork(f: *mut u8, nf: usize, b: *mut u64, nb: usize, procs: *mut Procs, number: u64, child: u64) -> Told;
     fn holthrimi_end(f: *mut u8, nf: usize, b: *mut u64, nb: usize, procs: *mut Procs, number: u64) -> Told;
     fn holthrimi_user_range_ok(f: *const u8, nf: usize, b: *const u64, nb: usize, procs: *const Procs, number: u64, addr: u64,
@@ -128,6 +126,23 @@ unsafe extern "C" {
         bytes: *const u8, ny: usize) -> Told;
     fn holthrimi_try_copy_str_from_user(f: *const u8, nf: usize, b: *const u64, nb: usize, procs: *const Procs, number: u64,
         dst: *mut u8, nd: usize, src: u64) -> Told;
+}
+
+/// What a call finds, for the check that it begins with.
+pub struct Found {
+    frames: *const u8,
+    bytes: usize,
+    book: Vec<u64>,
+    procs: Procs,
+}
+
+#[cfg(calls)]
+impl Found {
+    /// The check by itself: 0 for sizes and a book that are right.
+    pub fn check(&self) -> u64 {
+        // SAFETY: as above; of the frames it looks at the length alone.
+        unsafe { holthrimi_check(self.frames, self.bytes, self.book.as_ptr(), self.book.len(), &self.procs) }
+    }
 }
 
 /// Arguments as bytes and lengths.
@@ -146,6 +161,9 @@ impl Args {
 #[cfg(calls)]
 #[rustfmt::skip]
 impl World {
+    pub fn found(&self) -> Found {
+        Found { frames: self.frames.as_ptr(), bytes: self.frames.len(), book: self.book.clone(), procs: self.procs }
+    }
     pub fn start(&mut self, n: u64, image: &[u8], name: &[u8], a: &Args) -> Told {
         let (f, b) = (&mut self.frames, &mut self.book);
         unsafe { holthrimi_start(f.as_mut_ptr(), f.len(), b.as_mut_ptr(), b.len(), &mut self.procs, n, image.as_ptr(), image.len(),
@@ -163,7 +181,7 @@ impl World {
     }
     pub fn brk(&mut self, n: u64, addr: u64) -> Told {
         let (f, b) = (&mut self.frames, &mut self.book);
-        unsafe { holthrimi_brk(f.as_mut_ptr(), f.len(), b.as_mut_ptr(), b.len(), &mut self.procs, n, addr) }
+        unsafe { holthrimi_break(f.as_mut_ptr(), f.len(), b.as_mut_ptr(), b.len(), &mut self.procs, n, addr) }
     }
     pub fn fork(&mut self, n: u64, child: u64) -> Told {
         let (f, b) = (&mut self.frames, &mut self.book);
