@@ -9,30 +9,25 @@ const TOP: usize = 1 << 47;
 const NAME: &[u8] = b"reader";
 const TWO: [&[u8]; 2] = [b"lex", b"mot"];
 
-/// Memory for both sides' frames and for the limit's.
-struct Memory {
-    ours: &'static Region,
-    rust: &'static Region,
-    limit: &'static Region,
+/// A call of process n on both sides, each with what it needs before and after it outside the clock. It leaves things so that it can be
+/// made again.
+struct Call<'a> {
+    name: String,
+    /// The process whose pages the Rust needs mapped; a start maps its own.
+    enters: Option<usize>,
+    ours: Box<dyn FnMut(&mut ours::World) -> f64 + 'a>,
+    rust: Box<dyn FnMut(&mut rust::World) -> f64 + 'a>,
 }
 
-impl Memory {
-    fn new() -> Self {
-        let region = || &*Box::leak(Box::new(Region::new(1_024 * PAGE)));
-        Memory { ours: region(), rust: region(), limit: region() }
+impl<'a> Call<'a> {
+    fn new(
+        name: String,
+        enters: Option<usize>,
+        ours: impl FnMut(&mut ours::World) -> f64 + 'a,
+        rust: impl FnMut(&mut rust::World) -> f64 + 'a,
+    ) -> Self {
+        Call { name, enters, ours: Box::new(ours), rust: Box::new(rust) }
     }
-    fn pair(&self, frames: usize) -> Pair {
-        let (ours, rust) = (ours::World::new(self.ours, frames), rust::World::new(self.rust, frames));
-        Pair { ours, rust, limit: self.limit.bytes(), frames }
-    }
-}
-
-/// Both sides in the same state, and the limit's frames.
-struct Pair {
-    ours: ours::World,
-    rust: rust::World,
-    limit: &'static mut [u8],
-    frames: usize,
 }
 
 fn accepted(t: Told) -> Told {
@@ -40,54 +35,179 @@ fn accepted(t: Told) -> Told {
     t
 }
 
-impl Pair {
-    fn start(&mut self, n: usize, image: &[u8]) {
-        accepted(self.ours.start(n as u64, image, NAME, &Args::new(&TWO)));
-        self.rust.start_entered(n, image, &TWO);
-    }
-    fn brk(&mut self, n: usize, addr: usize) {
-        accepted(self.ours.brk(n as u64, addr as u64));
-        self.rust.brk(n, addr);
-        self.rust.enter(n);
-    }
-    /// Where the bss of process n ends.
-    fn end_of(&self, n: usize) -> usize {
-        self.ours.procs.all[n - 1].bss.end as usize
-    }
+/// Starts process n, which then ends.
+fn start<'a>(name: &str, n: usize, image: &'a [u8]) -> Call<'a> {
+    let args = Args::new(&TWO);
+    let mut known = false;
+    Call::new(
+        name.into(),
+        None,
+        move |w| {
+            let t = timed(|| accepted(w.start(n as u64, image, NAME, &args)));
+            accepted(w.end(n as u64));
+            t
+        },
+        move |w| {
+            // The first time tells which frames the stack takes.
+            if !std::mem::replace(&mut known, true) {
+                w.start_entered(n, image, &TWO);
+                w.remove(n);
+            }
+            w.create(n);
+            let t = timed(|| rust::start(image, &TWO));
+            w.remove(n);
+            t
+        },
+    )
 }
 
-/// A call's times: ours, the Rust's, the limit's, and that of the check of what it finds.
-struct Row {
-    name: String,
-    ours: Time,
-    rust: Time,
-    limit: Time,
-    check: Time,
+/// Replaces process n, with two arguments that stand at `at`.
+fn replace<'a>(name: &str, n: usize, image: &'a [u8], at: usize) -> Call<'a> {
+    let mut argv = [at as u64 + 24, at as u64 + 28, 0].map(u64::to_le_bytes).concat();
+    argv.extend(b"lex\0mot\0");
+    let same = argv.clone();
+    let mut known = false;
+    Call::new(
+        name.into(),
+        Some(n),
+        move |w| {
+            accepted(w.to(n as u64, at as u64, &argv));
+            timed(|| accepted(w.replace(n as u64, image, NAME, at as u64)))
+        },
+        move |w| {
+            // The first time tells which frames the image takes from then on.
+            if !std::mem::replace(&mut known, true) {
+                rust::to(at, &same);
+                rust::replace(image, at);
+                w.enter(n);
+            }
+            rust::to(at, &same);
+            timed(|| rust::replace(image, at))
+        },
+    )
 }
 
-/// Times the two sides and the limit, and holds the sides' states to each other.
-fn row(
-    name: &str,
-    p: &mut Pair,
-    ours: &mut dyn FnMut(&mut ours::World) -> f64,
-    rust: &mut dyn FnMut(&mut rust::World) -> f64,
-    limit: &mut dyn FnMut(&mut [u8]) -> f64,
-) -> Row {
-    let found = p.ours.found();
-    let (a, b, l) = (&mut p.ours, &mut p.rust, &mut *p.limit);
-    let [ours, rust, limit, check] =
-        times([&mut || ours(a), &mut || rust(b), &mut || limit(l), &mut || repeated(|| found.check())]);
-    assert!(p.ours.book == p.rust.book(), "bench: {name}: other books");
-    assert!(p.ours.frames == p.rust.bytes(), "bench: {name}: other bytes");
-    Row { name: name.into(), ours, rust, limit, check }
+/// Process n forks, and the child ends.
+fn fork<'a>(name: &str, n: usize, child: usize) -> Call<'a> {
+    Call::new(
+        name.into(),
+        Some(n),
+        move |w| {
+            let t = timed(|| accepted(w.fork(n as u64, child as u64)));
+            accepted(w.end(child as u64));
+            t
+        },
+        move |w| {
+            w.create(child);
+            w.switch(n);
+            let t = timed(|| w.fork(n, child));
+            w.remove(child);
+            t
+        },
+    )
 }
 
-/// Where no bytes are moved there is no limit.
-fn none(_: &mut [u8]) -> f64 {
-    f64::NAN
+/// The break of process n moves from `from` to `to`, `pages` pages away, and back.
+fn brk<'a>(n: usize, pages: usize, from: usize, to: usize) -> Call<'a> {
+    let sign = if from < to { '+' } else { '-' };
+    Call::new(
+        format!("break {sign} {pages} pages"),
+        Some(n),
+        move |w| {
+            accepted(w.brk(n as u64, from as u64));
+            let t = timed(|| accepted(w.brk(n as u64, to as u64)));
+            accepted(w.brk(n as u64, from.min(to) as u64));
+            t
+        },
+        move |w| {
+            w.brk(n, from);
+            let t = timed(|| w.brk(n, to));
+            w.brk(n, from.min(to));
+            t
+        },
+    )
 }
 
-/// `memcpy` of the pages of `from`, then `memset` of `zeroed` pages, into frames below frame `top`, as they are taken.
+fn brk_none<'a>(n: usize, end: usize) -> Call<'a> {
+    Call::new(
+        "break, no change".into(),
+        Some(n),
+        move |w| repeated(|| accepted(w.brk(n as u64, black_box(end) as u64))),
+        move |w| repeated(|| w.brk(n, black_box(end))),
+    )
+}
+
+fn from<'a>(n: usize, at: usize, size: usize) -> Call<'a> {
+    let (mut a, mut b) = (vec![7u8; size], vec![8u8; size]);
+    Call::new(
+        format!("copy_from_user, {size} bytes"),
+        Some(n),
+        move |w| repeated(|| accepted(w.from(n as u64, black_box(&mut a), at as u64))),
+        move |_| repeated(|| rust::from(black_box(&mut b), at)),
+    )
+}
+
+fn to<'a>(n: usize, at: usize, size: usize) -> Call<'a> {
+    let (a, b) = (vec![7u8; size], vec![7u8; size]);
+    Call::new(
+        format!("copy_to_user, {size} bytes"),
+        Some(n),
+        move |w| repeated(|| accepted(w.to(n as u64, at as u64, black_box(&a)))),
+        move |_| repeated(|| rust::to(at, black_box(&b))),
+    )
+}
+
+/// A string that fills its buffer.
+fn string<'a>(n: usize, at: usize, size: usize) -> Call<'a> {
+    let (mut a, mut b) = (vec![0u8; size], vec![0u8; size]);
+    Call::new(
+        format!("string copy, {size} bytes"),
+        Some(n),
+        move |w| {
+            let t = repeated(|| accepted(w.string(n as u64, black_box(&mut a), at as u64)));
+            assert!(!a.contains(&0));
+            t
+        },
+        move |_| {
+            let t = repeated(|| rust::string(black_box(&mut b), at));
+            assert!(!b.contains(&0));
+            t
+        },
+    )
+}
+
+fn range<'a>(n: usize, at: usize, size: usize) -> Call<'a> {
+    Call::new(
+        format!("user_range_ok, {size} bytes"),
+        Some(n),
+        move |w| repeated(|| accepted(w.range(n as u64, at as u64, black_box(size) as u64, true))),
+        move |_| repeated(|| rust::range(at, black_box(size), true)),
+    )
+}
+
+fn push<'a>(n: usize, count: usize) -> Call<'a> {
+    let list = vec![&b""[..]; count];
+    let args = Args::new(&list);
+    Call::new(
+        format!("push, {count} empty arguments"),
+        Some(n),
+        move |w| repeated(|| accepted(w.push(n as u64, 0, TOP as u64, black_box(&args)))),
+        move |_| repeated(|| rust::push(0, TOP, black_box(&list))),
+    )
+}
+
+/// What bytes a call moves, for its limit: `memcpy` and `memset` of as many.
+enum Moves<'a> {
+    /// None.
+    No,
+    /// The pages of an image, or those of a parent below the top frame, into the frames below, as they are taken; then zeroed pages.
+    Image(&'a [u8], usize),
+    Fork(usize),
+    /// So many bytes from and to one place.
+    Bytes(usize),
+}
+
+/// A page at a time, from frame `top` down.
 fn move_pages(frames: &mut [u8], top: usize, from: &[u8], zeroed: usize) {
     let copied = from.len() / PAGE;
     for k in 0..copied + zeroed {
@@ -96,261 +216,212 @@ fn move_pages(frames: &mut [u8], top: usize, from: &[u8], zeroed: usize) {
     }
 }
 
-/// Process n starts from an image that takes `zeroed` pages beside its file's.
-fn start(name: &str, p: &mut Pair, n: usize, image: &[u8], zeroed: usize) -> Row {
-    let (args, top) = (Args::new(&TWO), p.frames);
-    p.rust.start_entered(n, image, &TWO);
-    p.rust.remove(n);
-    row(
-        name,
-        p,
-        &mut |w| {
-            let t = timed(|| accepted(w.start(n as u64, image, NAME, &args)));
-            accepted(w.end(n as u64));
-            t
-        },
-        &mut |w| {
-            w.create(n);
-            let t = timed(|| rust::start(image, &TWO));
-            w.remove(n);
-            t
-        },
-        &mut |frames| timed(|| move_pages(frames, top, image, zeroed)),
-    )
+impl Moves<'_> {
+    /// The time that moving them takes, or no number.
+    fn time(&self, frames: &mut [u8], buffer: &mut [u8]) -> f64 {
+        let top = frames.len() / PAGE;
+        match *self {
+            Moves::No => f64::NAN,
+            Moves::Image(image, zeroed) => timed(|| move_pages(frames, top, image, zeroed)),
+            Moves::Fork(pages) => {
+                let (to, from) = frames.split_at_mut((top - pages) * PAGE);
+                timed(|| move_pages(to, top - pages, &from[..pages * PAGE], 0))
+            }
+            Moves::Bytes(n) => repeated(|| black_box(&mut buffer[..n]).copy_from_slice(&frames[..n])),
+        }
+    }
 }
 
-/// Process n is replaced by an image, with two arguments that stand in the last page of its bss or data.
-fn replace(name: &str, p: &mut Pair, n: usize, image: &[u8], zeroed: usize) -> Row {
-    let (at, top) = (p.end_of(n) - PAGE, p.frames);
-    let mut argv = [at as u64 + 24, at as u64 + 28, 0].map(u64::to_le_bytes).concat();
-    argv.extend(b"lex\0mot\0");
-    let mut ours = |w: &mut ours::World| {
-        accepted(w.to(n as u64, at as u64, &argv));
-        timed(|| accepted(w.replace(n as u64, image, NAME, at as u64)))
-    };
-    let mut rust = |_: &mut rust::World| {
-        rust::to(at, &argv);
-        timed(|| rust::replace(image, at))
-    };
-    // The first tells which frames the image takes from then on.
-    ours(&mut p.ours);
-    p.rust.enter(n);
-    rust(&mut p.rust);
-    p.rust.enter(n);
-    row(name, p, &mut ours, &mut rust, &mut |frames| timed(|| move_pages(frames, top, image, zeroed)))
+/// Both sides in the same state, and memory for the limit.
+struct Pair {
+    ours: ours::World,
+    rust: rust::World,
+    limit: &'static mut [u8],
+    buffer: Vec<u8>,
 }
 
-/// Process n, of so many pages, forks.
-fn fork(name: &str, p: &mut Pair, n: usize, child: usize, pages: usize) -> Row {
-    p.rust.enter(n);
-    let top = p.frames - pages;
-    row(
-        name,
-        p,
-        &mut |w| {
-            let t = timed(|| accepted(w.fork(n as u64, child as u64)));
-            accepted(w.end(child as u64));
-            t
-        },
-        &mut |w| {
-            w.create(child);
-            w.switch(n);
-            let t = timed(|| w.fork(n, child));
-            w.remove(child);
-            t
-        },
-        &mut |frames| {
-            let (to, from) = frames.split_at_mut(top * PAGE);
-            timed(|| move_pages(to, top, &from[..pages * PAGE], 0))
-        },
-    )
+/// Memory for frames, which stays until the end.
+fn region() -> &'static Region {
+    Box::leak(Box::new(Region::new(1_024 * PAGE)))
 }
 
-/// The break of process n moves by so many pages, up and then down again.
-fn brk(p: &mut Pair, n: usize, pages: usize) -> [Row; 2] {
-    let (low, top) = (p.end_of(n), p.frames);
-    [("+", low, low + pages * PAGE), ("-", low + pages * PAGE, low)].map(|(sign, from, to)| {
-        p.brk(n, from);
-        row(
-            &format!("break {sign} {pages} pages"),
-            p,
-            &mut |w| {
-                let t = timed(|| accepted(w.brk(n as u64, to as u64)));
-                accepted(w.brk(n as u64, from as u64));
-                t
-            },
-            &mut |w| {
-                let t = timed(|| w.brk(n, to));
-                w.brk(n, from);
-                t
-            },
-            &mut |frames| if from < to { timed(|| move_pages(frames, top, &[], pages)) } else { f64::NAN },
-        )
-    })
+fn same(name: &str, ours: &ours::World, rust: &rust::World) {
+    assert!(ours.book == rust.book(), "bench: {name}: other books");
+    assert!(*ours.frames == *rust.bytes(), "bench: {name}: other bytes");
 }
 
-fn brk_none(p: &mut Pair, n: usize) -> Row {
-    let end = p.end_of(n);
-    let ours = &mut |w: &mut ours::World| repeated(|| accepted(w.brk(n as u64, black_box(end) as u64)));
-    row("break, no change", p, ours, &mut |w| repeated(|| w.brk(n, black_box(end))), &mut none)
-}
+impl Pair {
+    fn new(memory: &[&'static Region; 3]) -> Self {
+        let (ours, rust) = (ours::World::new(memory[0], 1_024), rust::World::new(memory[1], 1_024));
+        Pair { ours, rust, limit: memory[2].bytes(), buffer: vec![7; 65_536] }
+    }
+    fn start(&mut self, n: usize, image: &[u8]) {
+        accepted(self.ours.start(n as u64, image, NAME, &Args::new(&TWO)));
+        self.rust.start_entered(n, image, &TWO);
+    }
 
-fn from(p: &mut Pair, n: usize, at: usize, size: usize) -> Row {
-    let (mut a, mut b, mut c) = (vec![7u8; size], vec![8u8; size], vec![9u8; size]);
-    let r = row(
-        &format!("copy_from_user, {size} bytes"),
-        p,
-        &mut |w| repeated(|| accepted(w.from(n as u64, black_box(&mut a), at as u64))),
-        &mut |_| repeated(|| rust::from(black_box(&mut b), at)),
-        &mut |frames| repeated(|| black_box(&mut c[..]).copy_from_slice(&frames[..size])),
-    );
-    assert!(a == b);
-    r
-}
-
-fn to(p: &mut Pair, n: usize, at: usize, size: usize) -> Row {
-    let bytes = vec![7u8; size];
-    row(
-        &format!("copy_to_user, {size} bytes"),
-        p,
-        &mut |w| repeated(|| accepted(w.to(n as u64, at as u64, black_box(&bytes)))),
-        &mut |_| repeated(|| rust::to(at, black_box(&bytes))),
-        &mut |frames| repeated(|| black_box(&mut frames[..size]).copy_from_slice(&bytes)),
-    )
-}
-
-/// A string that fills its buffer. The limit copies without looking for a NUL.
-fn string(p: &mut Pair, n: usize, at: usize, size: usize) -> Row {
-    let (mut a, mut b, mut c) = (vec![7u8; size], vec![8u8; size], vec![9u8; size]);
-    let r = row(
-        &format!("string copy, {size} bytes"),
-        p,
-        &mut |w| repeated(|| accepted(w.string(n as u64, black_box(&mut a), at as u64))),
-        &mut |_| repeated(|| rust::string(black_box(&mut b), at)),
-        &mut |frames| repeated(|| black_box(&mut c[..]).copy_from_slice(&frames[..size])),
-    );
-    assert!(a == b && !a.contains(&0));
-    r
-}
-
-fn range(p: &mut Pair, n: usize, at: usize, size: usize) -> Row {
-    row(
-        &format!("user_range_ok, {size} bytes"),
-        p,
-        &mut |w| repeated(|| accepted(w.range(n as u64, at as u64, black_box(size) as u64, true))),
-        &mut |_| repeated(|| rust::range(at, black_box(size), true)),
-        &mut none,
-    )
-}
-
-/// So many empty arguments: a NUL and a pointer each, and the null.
-fn push(p: &mut Pair, n: usize, count: usize) -> Row {
-    let list = vec![&b""[..]; count];
-    let (args, bytes) = (Args::new(&list), vec![0u8; 9 * count + 8]);
-    row(
-        &format!("push, {count} empty arguments"),
-        p,
-        &mut |w| repeated(|| accepted(w.push(n as u64, 0, TOP as u64, black_box(&args)))),
-        &mut |_| repeated(|| rust::push(0, TOP, black_box(&list))),
-        &mut |frames| repeated(|| black_box(&mut frames[..bytes.len()]).copy_from_slice(&bytes)),
-    )
+    /// Times both sides, the limit and the check of what the call finds; shows them; and holds the sides' states to each other.
+    fn show(&mut self, mut call: Call, moves: Moves) {
+        if let Some(n) = call.enters {
+            self.rust.enter(n);
+        }
+        let found = self.ours.found();
+        let (w, r, l, b) = (&mut self.ours, &mut self.rust, &mut *self.limit, &mut self.buffer);
+        let t = times(&mut [
+            &mut || (call.ours)(w),
+            &mut || (call.rust)(r),
+            &mut || moves.time(l, b),
+            &mut || repeated(|| found.check()),
+        ]);
+        let [ours, rust, limit, check] = &t[..] else { unreachable!() };
+        let less = ours.less(check);
+        std::print!("{:<28} {:>9.0} {:>9.0} {:>9.0}", call.name, ours.ns(), check.ns(), less.ns());
+        std::print!(" {:>9.0} {:>9.2} {:>9.2}", rust.ns(), ours.ratio(rust), less.ratio(rust));
+        if limit.ns().is_nan() {
+            std::println!(" {:>9} {:>9} {:>9}   {:.0} {:.0}", "-", "-", "-", ours.noise(), rust.noise());
+        } else {
+            std::print!(" {:>9.0} {:>9.2} {:>9.2}", limit.ns(), ours.ratio(limit), less.ratio(limit));
+            std::println!("   {:.0} {:.0} {:.0}", ours.noise(), rust.noise(), limit.noise());
+        }
+        same(&call.name, &self.ours, &self.rust);
+    }
 }
 
 fn example() -> Vec<u8> {
     std::fs::read("tests/images/example.img").expect("the example")
 }
 
+/// Where the example's bss ends.
+const EXAMPLE_END: usize = 77_824;
+
 /// Each call beside the Rust's: whole, and less the check of the book, which the Rust has not.
 pub fn table() {
-    let head = ["ours ns", "check", "less", "Rust ns", "ratio", "less", "limit ns", "ratio", "less"];
     std::print!("\n{:<28}", "calls, 1,024 frames");
-    head.iter().for_each(|h| std::print!(" {h:>9}"));
-    std::println!("   noise % (ours, Rust, limit)");
-    let show = |r: Row| {
-        let (a, b, l, c) = (r.ours.ns, r.rust.ns, r.limit.ns, r.check.ns);
-        std::print!("{:<28} {a:>9.0} {c:>9.0} {:>9.0} {b:>9.0} {:>9.2} {:>9.2}", r.name, a - c, a / b, (a - c) / b);
-        if l.is_nan() {
-            std::print!(" {:>9} {:>9} {:>9}", "-", "-", "-");
-        } else {
-            std::print!(" {l:>9.0} {:>9.2} {:>9.2}", a / l, (a - c) / l);
-        }
-        std::println!("   {:.0} {:.0} {:.0}", r.ours.noise, r.rust.noise, if l.is_nan() { 0.0 } else { r.limit.noise });
-    };
-    let mem = Memory::new();
+    for h in ["ours ns", "check", "less", "Rust ns", "ratio", "less", "limit ns", "ratio", "less"] {
+        std::print!(" {h:>9}");
+    }
+    std::println!("   noise % of ours, Rust, limit");
+    let memory = [region(), region(), region()];
+    let small = example();
     // 596 pages of the file, 300 of the bss and the stack's four; and 396 of the file and the stack's.
     let (large, middle) = (image::pages(400, 100, 96, 300), image::pages(200, 100, 96, 0));
-    let data = image::UTZERO + 300 * PAGE;
-    show(start("start of 7 pages", &mut mem.pair(1_024), 1, &example(), 7));
-    show(start("start of 900 pages", &mut mem.pair(1_024), 1, &large, 304));
-    let mut p = mem.pair(1_024);
-    p.start(1, &example());
-    show(replace("replace by 7 pages", &mut p, 1, &example(), 7));
-    let mut p = mem.pair(1_024);
+    let (data, end) = (image::UTZERO + 300 * PAGE, image::UTZERO + 396 * PAGE);
+
+    Pair::new(&memory).show(start("start of 7 pages", 1, &small), Moves::Image(&[], 7));
+    Pair::new(&memory).show(start("start of 900 pages", 1, &large), Moves::Image(&large, 304));
+    let mut p = Pair::new(&memory);
+    p.start(1, &small);
+    p.show(replace("replace by 7 pages", 1, &small, EXAMPLE_END - PAGE), Moves::Image(&[], 7));
+    let mut p = Pair::new(&memory);
     p.start(1, &large);
-    show(replace("replace by 900 pages", &mut p, 1, &large, 304));
-    let mut p = mem.pair(1_024);
+    p.show(replace("replace by 900 pages", 1, &large, image::UTZERO + 895 * PAGE), Moves::Image(&large, 304));
+    let mut p = Pair::new(&memory);
     p.start(1, &middle);
-    show(fork("fork of 400 pages", &mut p, 1, 2, 400));
-    brk(&mut p, 1, 100).map(show);
-    p.brk(1, data + 96 * PAGE);
-    show(brk_none(&mut p, 1));
-    show(from(&mut p, 1, data, 65_536));
-    show(from(&mut p, 1, data, 16));
-    show(to(&mut p, 1, data, 65_536));
-    show(to(&mut p, 1, data, 16));
-    show(string(&mut p, 1, data, 4_096));
-    show(range(&mut p, 1, data, 65_536));
-    show(push(&mut p, 1, 453));
-}
-
-/// `nproc` living processes in so many frames. The last is the example, of 7 pages, whose calls are timed; the others share what makes
-/// the book three quarters full.
-fn populated(mem: &Memory, frames: usize, nproc: usize) -> Pair {
-    let mut p = mem.pair(frames);
-    for n in 1..nproc {
-        p.start(n, &example());
-        let more = ((frames * 3 / 4 - 7) / (nproc - 1)).saturating_sub(7);
-        p.brk(n, p.end_of(n) + more * PAGE);
+    p.show(fork("fork of 400 pages", 1, 2), Moves::Fork(400));
+    p.show(brk(1, 100, end, end + 100 * PAGE), Moves::Image(&[], 100));
+    p.show(brk(1, 100, end + 100 * PAGE, end), Moves::No);
+    p.show(brk_none(1, end), Moves::No);
+    for size in [65_536, 16] {
+        p.show(from(1, data, size), Moves::Bytes(size));
+        p.show(to(1, data, size), Moves::Bytes(size));
     }
-    p.start(nproc, &example());
-    p
+    // The limit copies without looking for a NUL.
+    p.show(string(1, data, 4_096), Moves::Bytes(4_096));
+    p.show(range(1, data, 65_536), Moves::No);
+    // A NUL and a pointer for each argument, and a null.
+    p.show(push(1, 453), Moves::Bytes(9 * 453 + 8));
 }
 
-/// The same calls with 64, 256 and 1,024 frames, and 1, 4 and 15 processes before the call, since start and fork make one more. Sixteen
-/// of 7 pages don't go into 64 frames.
+/// How many processes live before the call, the last of them the example with 7 pages, whose calls are timed. The others share what
+/// makes the book three quarters full: each grows by so many pages.
+fn growing(frames: usize, nproc: usize) -> usize {
+    ((frames * 3 / 4 - 7) / (nproc - 1).max(1)).saturating_sub(7) * PAGE
+}
+
+/// The same calls with 64, 256 and 1,024 frames, and with 1, 4 and 15 processes, since start and fork make one more; sixteen of 7 pages
+/// don't go into 64 frames. All of ours take turns; the Rust's machine is one, so its places come one after the other.
 pub fn growth() {
-    let mem = Memory::new();
     let places = [(64, 1), (64, 4), (256, 1), (256, 4), (256, 15), (1_024, 1), (1_024, 4), (1_024, 15)];
-    let columns = places.map(|(frames, n)| {
-        let p = &mut populated(&mem, frames, n);
-        let mut rows = vec![start("start of 7 pages", p, n + 1, &example(), 7)];
-        rows.push(fork("fork of 7 pages", p, n, n + 1, 7));
-        rows.push(replace("replace by 7 pages", p, n, &example(), 7));
-        rows.extend(brk(p, n, 2));
-        rows.push(brk_none(p, n));
-        let data = image::UTZERO + PAGE;
-        rows.extend([16, PAGE].map(|size| from(p, n, data, size)));
-        rows.extend([16, PAGE].map(|size| to(p, n, data, size)));
-        rows.push(string(p, n, data, 16));
-        rows.push(range(p, n, data, PAGE));
-        rows.push(push(p, n, 2));
-        rows
-    });
-    let shown: [(&str, fn(&Row) -> f64); 4] = [
-        ("check, ns", |r| r.check.ns),
-        ("ours, ns", |r| r.ours.ns),
-        ("ours less the check, ns", |r| r.ours.ns - r.check.ns),
-        ("Rust, ns", |r| r.rust.ns),
-    ];
-    for (k, (title, figure)) in shown.into_iter().enumerate() {
-        std::print!("\n{title:<28}");
-        places.iter().for_each(|(f, n)| std::print!(" {:>9}", format!("{f}/{n}")));
-        std::println!();
-        // The check differs by the book alone.
-        for i in 0..if k == 0 { 1 } else { columns[0].len() } {
-            std::print!("{:<28}", if k == 0 { "frames/processes" } else { &columns[0][i].name });
-            columns.iter().for_each(|c| std::print!(" {:>9.0}", figure(&c[i])));
-            std::println!();
+    let small = example();
+    let data = image::UTZERO + PAGE;
+    let calls = |n: usize| {
+        vec![
+            start("start of 7 pages", n + 1, &small),
+            fork("fork of 7 pages", n, n + 1),
+            replace("replace by 7 pages", n, &small, EXAMPLE_END - PAGE),
+            brk(n, 2, EXAMPLE_END, EXAMPLE_END + 2 * PAGE),
+            brk(n, 2, EXAMPLE_END + 2 * PAGE, EXAMPLE_END),
+            brk_none(n, EXAMPLE_END),
+            from(n, data, 16),
+            from(n, data, PAGE),
+            to(n, data, 16),
+            to(n, data, PAGE),
+            string(n, data, 16),
+            range(n, data, PAGE),
+            push(n, 2),
+        ]
+    };
+    let mut worlds = places.map(|(frames, n)| {
+        let mut w = ours::World::new(region(), frames);
+        for k in 1..=n as u64 {
+            accepted(w.start(k, &small, NAME, &Args::new(&TWO)));
+            if k < n as u64 {
+                accepted(w.brk(k, (EXAMPLE_END + growing(frames, n)) as u64));
+            }
         }
+        w
+    });
+    let founds = worlds.each_ref().map(|w| w.found());
+    let mut ours = places.map(|(_, n)| calls(n));
+    let names: Vec<String> = ours[0].iter().map(|c| c.name.clone()).collect();
+    // For each call, its times at each place, then the check's.
+    let mut rows: Vec<Vec<Time>> = Vec::new();
+    for i in 0..names.len() {
+        let mut sides: Vec<Box<dyn FnMut() -> f64>> = Vec::new();
+        for (w, calls) in worlds.iter_mut().zip(&mut ours) {
+            sides.push(Box::new(move || (calls[i].ours)(w)));
+        }
+        for found in &founds {
+            sides.push(Box::new(move || repeated(|| found.check())));
+        }
+        let mut sides: Vec<&mut dyn FnMut() -> f64> = sides.iter_mut().map(|s| &mut **s as _).collect();
+        rows.push(times(&mut sides));
     }
+    let region = region();
+    // For each place, the Rust's times of each call.
+    let mut rust: Vec<Vec<Time>> = Vec::new();
+    for ((frames, n), ours) in places.into_iter().zip(&worlds) {
+        let mut w = rust::World::new(region, frames);
+        for k in 1..=n {
+            w.start_entered(k, &small, &TWO);
+            if k < n {
+                w.brk(k, EXAMPLE_END + growing(frames, n));
+            }
+        }
+        rust.push(Vec::new());
+        for mut c in calls(n) {
+            c.enters.inspect(|&n| w.enter(n));
+            rust.last_mut().unwrap().extend(times(&mut [&mut || (c.rust)(&mut w)]));
+        }
+        same("growth", ours, &w);
+    }
+
+    let line = |name: &str, figure: &dyn Fn(usize) -> f64| {
+        std::print!("{name:<28}");
+        (0..places.len()).for_each(|k| std::print!(" {:>8.0}", figure(k)));
+        std::println!();
+    };
+    let head = |title: &str| {
+        std::print!("\n{title:<28}");
+        places.iter().for_each(|(f, n)| std::print!(" {:>8}", format!("{f}/{n}")));
+        std::println!();
+    };
+    let check = |i: usize, k: usize| &rows[i][places.len() + k];
+    head("ours ns, frames/processes");
+    line("check", &|k| check(0, k).ns());
+    names.iter().enumerate().for_each(|(i, name)| line(name, &|k| rows[i][k].ns()));
+    head("ours less the check, ns");
+    names.iter().enumerate().for_each(|(i, name)| line(name, &|k| rows[i][k].less(check(i, k)).ns()));
+    head("Rust ns");
+    names.iter().enumerate().for_each(|(i, name)| line(name, &|k| rust[k][i].ns()));
 }

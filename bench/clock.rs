@@ -1,15 +1,35 @@
-//! Times: for each side the median over eleven rounds, in which the sides take turns; a round's figure is the median of its calls.
+//! Times. The sides of a comparison take turns, eleven rounds of them; a round's figure is the median of a turn's calls, and what is
+//! shown is the median of the rounds. Ratios are taken round by round, since the machine's speed changes.
 use std::time::Instant;
 
 const ROUNDS: usize = 11;
-/// How long a side's turn lasts, about, in ns.
+/// How long a turn lasts, about, in ns.
 const TURN: f64 = 1_500_000.0;
 
-/// A time in ns, and how far the slowest round lies above the fastest, in % of it.
-#[derive(Clone, Copy)]
-pub struct Time {
-    pub ns: f64,
-    pub noise: f64,
+fn median(mut v: Vec<f64>) -> f64 {
+    v.sort_by(f64::total_cmp);
+    v[v.len() / 2]
+}
+
+/// A side's rounds, each in ns a call.
+#[derive(Clone)]
+pub struct Time(Vec<f64>);
+
+impl Time {
+    pub fn ns(&self) -> f64 {
+        median(self.0.clone())
+    }
+    /// How far the slowest round lies above the fastest, in % of the median.
+    pub fn noise(&self) -> f64 {
+        let (low, high) = self.0.iter().fold((f64::MAX, f64::MIN), |(l, h), &x| (l.min(x), h.max(x)));
+        (high - low) / self.ns() * 100.0
+    }
+    pub fn less(&self, other: &Time) -> Time {
+        Time(self.0.iter().zip(&other.0).map(|(x, y)| x - y).collect())
+    }
+    pub fn ratio(&self, other: &Time) -> f64 {
+        median(self.0.iter().zip(&other.0).map(|(x, y)| x / y).collect())
+    }
 }
 
 /// How long `f` takes, in ns. Reading the clock takes part of it: some 20 ns.
@@ -28,27 +48,21 @@ pub fn repeated<T>(mut f: impl FnMut() -> T) -> f64 {
     }) / 64.0
 }
 
-fn median(mut v: Vec<f64>) -> f64 {
-    v.sort_by(f64::total_cmp);
-    v[v.len() / 2]
-}
-
 /// Each side's time. A side runs one call, with what it needs before and after it, and says how long the call took.
-pub fn times<const N: usize>(mut sides: [&mut dyn FnMut() -> f64; N]) -> [Time; N] {
-    let reps = sides.each_mut().map(|side| {
-        side();
-        let whole = timed(&mut **side).max(side());
-        ((TURN / whole) as usize).clamp(5, 2_000)
-    });
-    let mut rounds = [const { Vec::new() }; N];
+pub fn times(sides: &mut [&mut dyn FnMut() -> f64]) -> Vec<Time> {
+    let reps: Vec<usize> = sides
+        .iter_mut()
+        .map(|side| {
+            side();
+            side();
+            ((TURN / timed(&mut **side)) as usize).clamp(5, 2_000)
+        })
+        .collect();
+    let mut all = vec![Time(Vec::new()); sides.len()];
     for _ in 0..ROUNDS {
-        for i in 0..N {
-            rounds[i].push(median((0..reps[i]).map(|_| sides[i]()).collect()));
+        for (i, side) in sides.iter_mut().enumerate() {
+            all[i].0.push(median((0..reps[i]).map(|_| side()).collect()));
         }
     }
-    rounds.map(|r| {
-        let (low, high) = r.iter().fold((f64::MAX, 0f64), |(l, h), &x| (l.min(x), h.max(x)));
-        let ns = median(r);
-        Time { ns, noise: (high - low) / ns * 100.0 }
-    })
+    all
 }

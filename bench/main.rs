@@ -44,13 +44,21 @@ mod rust;
 // The published files, from where they lie.
 include!(concat!(env!("BENCH_OUT"), "/mods.rs"));
 
+/// All parts, or those that are named.
 fn main() {
-    parts::loops();
-    parts::check();
-    parts::parse();
-    #[cfg(calls)]
-    {
-        calls::table();
-        calls::growth();
+    let named: Vec<String> = std::env::args().skip(1).collect();
+    let parts: &[(&str, fn())] = &[
+        ("loops", parts::loops),
+        ("check", parts::check),
+        ("parse", parts::parse),
+        #[cfg(calls)]
+        ("calls", calls::table),
+        #[cfg(calls)]
+        ("growth", calls::growth),
+    ];
+    for (name, run) in parts {
+        if named.is_empty() || named.iter().any(|n| n == name) {
+            run();
+        }
     }
 }
