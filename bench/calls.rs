@@ -61,6 +61,26 @@ fn start<'a>(name: &str, n: usize, image: &'a [u8]) -> Call<'a> {
     )
 }
 
+/// Ends process n, which then starts again. The Rust's pexit isn't published: this is what frees a process's pages in replace_pmmu.
+fn end<'a>(name: &str, n: usize, image: &'a [u8]) -> Call<'a> {
+    let args = Args::new(&TWO);
+    Call::new(
+        name.into(),
+        Some(n),
+        move |w| {
+            let t = timed(|| accepted(w.end(n as u64)));
+            accepted(w.start(n as u64, image, NAME, &args));
+            t
+        },
+        move |w| {
+            let t = timed(|| w.remove(n));
+            w.create(n);
+            rust::start(image, &TWO);
+            t
+        },
+    )
+}
+
 /// Replaces process n, with two arguments that stand at `at`.
 fn replace<'a>(name: &str, n: usize, image: &'a [u8], at: usize) -> Call<'a> {
     let mut argv = [at as u64 + 24, at as u64 + 28, 0].map(u64::to_le_bytes).concat();
@@ -267,12 +287,9 @@ impl Pair {
         }
         let found = self.ours.found();
         let (w, r, l, b) = (&mut self.ours, &mut self.rust, &mut *self.limit, &mut self.buffer);
-        let t = times(&mut [
-            &mut || (call.ours)(w),
-            &mut || (call.rust)(r),
-            &mut || moves.time(l, b),
-            &mut || repeated(|| found.check()),
-        ]);
+        let t = times(&mut [&mut || (call.ours)(w), &mut || (call.rust)(r), &mut || moves.time(l, b), &mut || {
+            repeated(|| found.check())
+        }]);
         let [ours, rust, limit, check] = &t[..] else { unreachable!() };
         let less = ours.less(check);
         std::print!("{:<28} {:>9.0} {:>9.0} {:>9.0}", call.name, ours.ns(), check.ns(), less.ns());
@@ -305,7 +322,7 @@ pub fn table() {
     let small = example();
     // 596 pages of the file, 300 of the bss and the stack's four; and 396 of the file and the stack's.
     let (large, middle) = (image::pages(400, 100, 96, 300), image::pages(200, 100, 96, 0));
-    let (data, end) = (image::UTZERO + 300 * PAGE, image::UTZERO + 396 * PAGE);
+    let (data, bss) = (image::UTZERO + 300 * PAGE, image::UTZERO + 396 * PAGE);
 
     Pair::new(&memory).show(start("start of 7 pages", 1, &small), Moves::Image(&[], 7));
     Pair::new(&memory).show(start("start of 900 pages", 1, &large), Moves::Image(&large, 304));
@@ -314,13 +331,14 @@ pub fn table() {
     p.show(replace("replace by 7 pages", 1, &small, EXAMPLE_END - PAGE), Moves::Image(&[], 7));
     let mut p = Pair::new(&memory);
     p.start(1, &large);
+    p.show(end("end of 900 pages", 1, &large), Moves::No);
     p.show(replace("replace by 900 pages", 1, &large, image::UTZERO + 895 * PAGE), Moves::Image(&large, 304));
     let mut p = Pair::new(&memory);
     p.start(1, &middle);
     p.show(fork("fork of 400 pages", 1, 2), Moves::Fork(400));
-    p.show(brk(1, 100, end, end + 100 * PAGE), Moves::Image(&[], 100));
-    p.show(brk(1, 100, end + 100 * PAGE, end), Moves::No);
-    p.show(brk_none(1, end), Moves::No);
+    p.show(brk(1, 100, bss, bss + 100 * PAGE), Moves::Image(&[], 100));
+    p.show(brk(1, 100, bss + 100 * PAGE, bss), Moves::No);
+    p.show(brk_none(1, bss), Moves::No);
     for size in [65_536, 16] {
         p.show(from(1, data, size), Moves::Bytes(size));
         p.show(to(1, data, size), Moves::Bytes(size));

@@ -47,10 +47,7 @@ pub fn pages(text: usize, rodata: usize, data: usize, bss: usize) -> Vec<u8> {
         filesz: n * p,
         memsz: (n + more) * p,
     };
-    image(
-        (text + rodata + data) * p,
-        &[part(5, 0, text, 0), part(4, text, rodata, 0), part(6, text + rodata, data, bss)],
-    )
+    image((text + rodata + data) * p, &[part(5, 0, text, 0), part(4, text, rodata, 0), part(6, text + rodata, data, bss)])
 }
 
 /// n headers of a page of text each.

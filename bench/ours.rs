@@ -102,7 +102,6 @@ impl World {
         bytes.fill(0);
         World { frames: bytes, book: vec![0; frames], procs: Procs::default() }
     }
-
 }
 
 #[cfg(calls)]

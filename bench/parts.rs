@@ -77,7 +77,9 @@ pub fn check() {
 pub fn parse() {
     head("parse", "Rust ns");
     let example = std::fs::read("tests/images/example.img").expect("the example");
-    for (name, image) in [("184 bytes", example), ("500 headers", image::headers(500)), ("65,535 headers", image::headers(65_535))] {
+    for (name, image) in
+        [("184 bytes", example), ("500 headers", image::headers(500)), ("65,535 headers", image::headers(65_535))]
+    {
         assert!(ours::parse(&image) == 0 && rust::parse(&image));
         line(name, &mut || repeated(|| ours::parse(black_box(&image))), &mut || repeated(|| rust::parse(black_box(&image))));
     }

@@ -15,7 +15,7 @@ use crate::dat::{Access, KNAMELEN, MMU, Perm, Proc, ProcArch, PutError, Rendez, 
 use crate::elf::Elf;
 use crate::fdt::DeviceTree;
 use crate::mcslock::Lock;
-use crate::mem::{PAGE_SIZE_4K, PhysAddr, VirtRange};
+use crate::mem::{PhysAddr, VirtRange};
 use crate::pagealloc::{self, PageAllocError};
 use crate::region::{PAGE, Region};
 use crate::{elf, exec, segment, uaccess};
@@ -56,11 +56,8 @@ struct Machine {
 struct Global(UnsafeCell<Machine>);
 // SAFETY: the driver is a single thread.
 unsafe impl Sync for Global {}
-static M: Global = Global(UnsafeCell::new(Machine {
-    frames: std::ptr::null_mut(),
-    cur: std::ptr::null_mut(),
-    up: std::ptr::null_mut(),
-}));
+static M: Global =
+    Global(UnsafeCell::new(Machine { frames: std::ptr::null_mut(), cur: std::ptr::null_mut(), up: std::ptr::null_mut() }));
 
 fn m() -> &'static mut Machine {
     // SAFETY: a single thread, and no reference is held across another call.

@@ -19,11 +19,7 @@ impl<const N: usize, const B: usize> BitmapPageAlloc<N, B> {
     }
 
     /// Begin anew with the frames of `all`, each free.
-    pub fn free_unused_ranges(
-        &mut self,
-        all: PhysRange,
-        used: impl Iterator<Item = PhysRange>,
-    ) -> Result<(), PageAllocError> {
+    pub fn free_unused_ranges(&mut self, all: PhysRange, used: impl Iterator<Item = PhysRange>) -> Result<(), PageAllocError> {
         assert!(all.start.0 == 0 && used.count() == 0);
         self.total = all.size() / self.page;
         self.used = 0;
