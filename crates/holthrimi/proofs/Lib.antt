@@ -1,0 +1,4 @@
+-- How the exported calls are walked.
+pub mod Locals
+pub mod Kept
+pub mod Looked

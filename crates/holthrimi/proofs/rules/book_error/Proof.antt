@@ -1,0 +1,30 @@
+-- `book_error` meets its contract.
+use mathlib.Core.Path.{refl, sym, _∙_}
+use denote.Ref.{now}
+use borrow.Author.Needs.{needs}
+use borrow.Author.Tests.{not-false}
+use Rattle.front.proofs.First.{given, further, sizes-words}
+use Rattle.holthrimi.specs.Rules.{bookError}
+use Rattle.holthrimi.proofs.rules.book_error.Statement.{statement}
+use Rattle.holthrimi.proofs.rules.book_error.Tie as tie
+
+sizes-ok-requires : tie.Need-sizes-ok-requires
+sizes-ok-requires c κs = search needs
+
+returns : tie.Need-returns
+unfolding bookError
+returns c = given _ _ 1 _ (c .before .sizes-ok .ensures) (c .if1 .taken)
+
+sound-requires : tie.Need-sound-requires
+sound-requires c κs = let a = c .before .before .before .before .args in sizes-words (now (a .frames)) (now (a .book)) (sym (c .before .sizes-ok .ensures) ∙ not-false _ (c .if1 .left)) .2
+
+returns-2 : tie.Need-returns-2
+unfolding bookError
+returns-2 c = let d = c .before .before in further _ _ 1 _ 2 (d .before .sizes-ok .ensures) (d .if1 .left) (given _ _ 2 0 (c .before .sound .ensures) (c .if2 .taken))
+
+returns-3 : tie.Need-returns-3
+unfolding bookError
+returns-3 c = let d = c .before .before in further _ _ 1 _ 0 (d .before .sizes-ok .ensures) (d .if1 .left) (further _ _ 2 0 0 (c .before .sound .ensures) (c .if2 .left) refl)
+
+pub book-error-spec : {M : Type 1} → statement M
+book-error-spec = tie.close (tie.spec sizes-ok-requires returns sound-requires returns-2 returns-3)

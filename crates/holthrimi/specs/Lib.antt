@@ -1,0 +1,2 @@
+-- What the exported functions that are no calls answer.
+pub mod Rules

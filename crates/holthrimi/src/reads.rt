@@ -1,0 +1,43 @@
+// The calls that change nothing but a lent buffer. Each copies the records from behind their reference, makes the call of crate
+// `calls` with the other arguments as they are, and tells its answer.
+
+ghost use mathlib.Core.Path.{_≡_};
+ghost use mathlib.Core.List.{[]};
+ghost use Rattle.spec.specs.Machine.{user-range-ok, try-copy-str-from-user};
+ghost use Rattle.front.specs.Numbers.{stateOf, call};
+ghost use Rattle.told.specs.Tells.{Tells};
+use spec::Procs;
+use told::Told;
+
+#[no_mangle]
+pub extern "C" fn holthrimi_user_range_ok(
+    frames: &[u8],
+    book: &[u64],
+    procs: &Procs,
+    number: u64,
+    addr: u64,
+    len: u64,
+    write: bool,
+) -> Told
+    ensures { λ r. ⌜ Tells (stateOf (now (frames .entry)) (now (book .entry)) (now (procs .entry))) (call number (user-range-ok addr len write)) (stateOf (now (frames .entry)) (now (book .entry)) (now (procs .entry))) r [] ⌝ }
+{
+    let records = *procs;
+    let answer = access::user_range_ok(frames, book, records, number, addr, len, write);
+    told::tell(answer)
+}
+
+#[no_mangle]
+pub extern "C" fn holthrimi_try_copy_str_from_user(
+    frames: &[u8],
+    book: &[u64],
+    procs: &Procs,
+    number: u64,
+    dst: &mut [u8],
+    src: u64,
+) -> Told
+    ensures { λ r. ⌜ Tells (stateOf (now (frames .entry)) (now (book .entry)) (now (procs .entry))) (call number (try-copy-str-from-user (now (dst .entry)) src)) (stateOf (now (frames .entry)) (now (book .entry)) (now (procs .entry))) r (now (dst .exit)) ⌝ }
+{
+    let records = *procs;
+    let answer = access::try_copy_str_from_user(frames, book, records, number, dst, src);
+    told::tell(answer)
+}

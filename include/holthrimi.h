@@ -1,0 +1,259 @@
+/*
+ * Holthrimi, the exec layer of the r9 kernel, as a C library: it checks a static aarch64 executable, loads it into lent frames with a
+ * page book, starts, replaces, forks and ends processes, moves their break, and copies to and from their memory.
+ *
+ *     rt staticlib holthrimi        proves and writes target/staticlib/libholthrimi.a (x86-64)
+ *     cc program.c -Iinclude target/staticlib/libholthrimi.a
+ *
+ * Every function here is proved: what it leaves and tells is what the definitions in crates/spec/specs say, refusals too, whatever
+ * numbers it is given. No check is left to the caller but what C itself asks of one who lends memory:
+ *   - a pointer is not null and is aligned, also with length 0, and what it points to is there, as long as the length says;
+ *   - what is not const overlaps nothing else that the call is given, and nothing else touches it until the call returns;
+ *   - a bool is 0 or 1.
+ * The library keeps nothing between calls, allocates nothing, and needs memcpy and memset. Its calls were measured to use up to 56 KiB of
+ * stack (replace; most use 20 to 30).
+ *
+ * Numbers. A page is 4,096 bytes. UTZERO is 65,536; user addresses end at 2^47, where the stack of 16,384 bytes ends too; limit is
+ * 140,737,488,334,848, one guard page below the stack.
+ */
+#ifndef HOLTHRIMI_H
+#define HOLTHRIMI_H
+
+#include <stdbool.h>
+#include <stddef.h>
+#include <stdint.h>
+
+#ifdef __cplusplus
+extern "C" {
+#endif
+
+/* ---- memory that is lent to every call
+ *
+ * Frames: 4,096 bytes a frame, 1 to 1,024 frames, any contents.
+ * Book: a word for each frame. 0 is a free frame; otherwise page address + 16 * owner + permission, the owner a process's number and
+ * the permission as below. All zero at first.
+ * Records: processes 1 to 16. A record that is all zero is no process. All zero at first.
+ * Callers may read all three between calls; whoever writes them may tear the book (2).
+ */
+enum {
+    HOLTHRIMI_PAGE = 4096,
+    HOLTHRIMI_MAX_FRAMES = 1024,
+    HOLTHRIMI_PROCESSES = 16,
+    HOLTHRIMI_SEGMENTS = 16,
+    HOLTHRIMI_NAME = 28,
+    HOLTHRIMI_TEXT = 1,
+    HOLTHRIMI_RODATA = 2,
+    HOLTHRIMI_DATA = 3
+};
+
+/* User addresses from start up to, but not including, end. */
+struct holthrimi_range {
+    uint64_t start;
+    uint64_t end;
+};
+
+/* Whole pages, all mapped with one permission; all zero in an unused place. */
+struct holthrimi_segment {
+    struct holthrimi_range range;
+    uint64_t perm;
+};
+
+/* A process: its segments, the stack last, then unused places; its name; and its bss, which the break moves. */
+struct holthrimi_proc {
+    struct holthrimi_segment segments[HOLTHRIMI_SEGMENTS];
+    uint8_t text[HOLTHRIMI_NAME];
+    struct holthrimi_range bss;
+};
+
+/* Process n is all[n - 1]. */
+struct holthrimi_procs {
+    struct holthrimi_proc all[HOLTHRIMI_PROCESSES];
+};
+
+/* ---- answers */
+
+/* What a program is entered with. */
+struct holthrimi_regs {
+    uint64_t pc;
+    uint64_t sp;
+    uint64_t argc;
+    uint64_t argv;
+};
+
+enum {
+    HOLTHRIMI_ACCEPTED = 0,
+    HOLTHRIMI_REFUSED = 1, /* nothing changed (but see the string copy's buffer) */
+    HOLTHRIMI_ENDED = 2    /* refused, and the process has ended: its frames are free, its record zero, frame bytes as before */
+};
+
+/* kind is one of the three; number is 0 if accepted and otherwise the refusal's; value and regs are zeros where the call has none. */
+struct holthrimi_answer {
+    uint64_t kind;
+    uint64_t number;
+    uint64_t value;
+    struct holthrimi_regs regs;
+};
+
+/* The numbers of refusals. 1 to 5 come first in every call, in this order; then each call's own, in the order named with it. */
+enum {
+    HOLTHRIMI_SIZES = 1,     /* frame bytes aren't 4,096 * words, words outside 1 to 1,024, or argument lengths don't sum to their bytes */
+    HOLTHRIMI_TORN = 2,      /* the book is not sound */
+    HOLTHRIMI_NUMBER = 3,    /* a process's number outside 1 to 16 */
+    HOLTHRIMI_DEAD = 4,      /* the process isn't living */
+    HOLTHRIMI_TAKEN = 5,     /* the new process's number lives */
+    /* 11 to 27 are the image's own: see holthrimi_parse */
+    HOLTHRIMI_EBADEXEC = 30, /* the image's layout, or any of 11 to 27 */
+    HOLTHRIMI_TOO_MANY = 31, /* over 15 segments recorded */
+    HOLTHRIMI_EBADARG = 32,  /* a NUL in an argument; a break without bss */
+    HOLTHRIMI_ENOVMEM = 33,  /* arguments over the limit; break; too few frames */
+    HOLTHRIMI_ESOVERLAP = 34, /* a break above limit */
+    HOLTHRIMI_EFAULT = 35,   /* bad address: a range, or a push below address 0 */
+    HOLTHRIMI_TOP = 36       /* top is not a multiple of 16 */
+};
+
+/* ---- the ten calls
+ *
+ * The first arguments are the same in each: frames and their bytes, book and its words, records, and the process's number.
+ */
+
+/*
+ * Starts a process under `number`, which must not live, from an ELF image. Its name is what follows the last '/' of name, copied as
+ * holthrimi_kstrcpy copies. Its arguments are `bytes` cut by `lengths`: the first lengths[0] bytes, and so on. Pages are placed
+ * ascending, each in the highest-numbered free frame: the image's, the bss, the stack; then the arguments are pushed.
+ * Refused, after 1, 2, 3 and 5: 32, 33 (arguments), 30, 31, 33 (frames). Accepted: regs, to enter the program with.
+ */
+struct holthrimi_answer holthrimi_start(uint8_t *frames, size_t frame_bytes, uint64_t *book, size_t words,
+                                        struct holthrimi_procs *procs, uint64_t number, const uint8_t *image, size_t image_bytes,
+                                        const uint8_t *name, size_t name_bytes, const uint8_t *bytes, size_t count,
+                                        const uint64_t *lengths, size_t nargs);
+
+/*
+ * Replaces a process's program. `argv` is the user address of an array of pointers to its arguments, which a null ends; they are read
+ * from its old memory. Its own frames are freed first.
+ * Refused, after 1 to 4: 30, 31, then 35, which ends the process, or 33 (arguments) in reading order, then 33, which ends the process,
+ * if own and free frames don't suffice. Accepted: regs.
+ */
+struct holthrimi_answer holthrimi_replace(uint8_t *frames, size_t frame_bytes, uint64_t *book, size_t words,
+                                          struct holthrimi_procs *procs, uint64_t number, const uint8_t *image, size_t image_bytes,
+                                          const uint8_t *name, size_t name_bytes, uint64_t argv);
+
+/*
+ * Pushes arguments onto a process's stack: their strings end at `top`, their pointers and a null lie below, and regs has pc as given.
+ * Refused, after 1 to 4: 36, 32, 33, and 35, which ends the process, with no byte written.
+ */
+struct holthrimi_answer holthrimi_push(uint8_t *frames, size_t frame_bytes, uint64_t *book, size_t words,
+                                       struct holthrimi_procs *procs, uint64_t number, uint64_t pc, uint64_t top,
+                                       const uint8_t *bytes, size_t count, const uint64_t *lengths, size_t nargs);
+
+/*
+ * Moves the end of a process's bss to `addr` rounded up to a page: new pages are zeroed, pages past it freed, and the bytes between
+ * addr and its page's end kept. Address 0 changes nothing, and value is the bss's start; otherwise value is 0.
+ * Refused, after 1 to 4: 33 below the bss's start, 33 past 64 bits, 34, 33 if there are too few frames.
+ */
+struct holthrimi_answer holthrimi_break(uint8_t *frames, size_t frame_bytes, uint64_t *book, size_t words,
+                                        struct holthrimi_procs *procs, uint64_t number, uint64_t addr);
+
+/*
+ * Forks a process as `child`, which must not live: it takes a copy of every page, now, and the record with its name.
+ * Refused, after 1 to 5 (3 judges both numbers, 4 the parent, 5 the child): 33 if the free frames don't hold the copy.
+ */
+struct holthrimi_answer holthrimi_fork(uint8_t *frames, size_t frame_bytes, uint64_t *book, size_t words,
+                                       struct holthrimi_procs *procs, uint64_t number, uint64_t child);
+
+/* Ends a process: its frames are free and keep their bytes, and its record is zero. Refused: 1 to 4. */
+struct holthrimi_answer holthrimi_end(uint8_t *frames, size_t frame_bytes, uint64_t *book, size_t words,
+                                      struct holthrimi_procs *procs, uint64_t number);
+
+/*
+ * Whether a process may read, or with `write` write, `length` bytes from `addr` on: value is 1 for yes and 0 for no. addr + length must
+ * not exceed 2^47; length 0 then passes, mapped or not; otherwise every page touched must be mapped, and be data for writing.
+ * It changes nothing and ends nothing. Refused: 1 to 4.
+ */
+struct holthrimi_answer holthrimi_user_range_ok(const uint8_t *frames, size_t frame_bytes, const uint64_t *book, size_t words,
+                                                const struct holthrimi_procs *procs, uint64_t number, uint64_t addr,
+                                                uint64_t length, bool write);
+
+/* Copies `count` bytes of a process from `src` on to dst. Refused, after 1 to 4: 35, which ends the process, with no byte copied. */
+struct holthrimi_answer holthrimi_copy_from_user(uint8_t *frames, size_t frame_bytes, uint64_t *book, size_t words,
+                                                 struct holthrimi_procs *procs, uint64_t number, uint8_t *dst, size_t count,
+                                                 uint64_t src);
+
+/* Copies `count` bytes to a process from `dst` on. Refused, after 1 to 4: 35, which ends the process, with no byte copied. */
+struct holthrimi_answer holthrimi_copy_to_user(uint8_t *frames, size_t frame_bytes, uint64_t *book, size_t words,
+                                               struct holthrimi_procs *procs, uint64_t number, uint64_t dst, const uint8_t *bytes,
+                                               size_t count);
+
+/*
+ * Copies a string of a process at `src` to dst up to a NUL, which isn't stored; the rest of dst stays. Value is its length, or `count`
+ * where there is no NUL within that many bytes. Pages are checked one by one, as they are reached.
+ * Refused, after 1 to 4: 35 at a bad page; the bytes before it stay copied, and the process lives.
+ */
+struct holthrimi_answer holthrimi_try_copy_str_from_user(const uint8_t *frames, size_t frame_bytes, const uint64_t *book,
+                                                         size_t words, const struct holthrimi_procs *procs, uint64_t number,
+                                                         uint8_t *dst, size_t count, uint64_t src);
+
+/* ---- functions that are no calls */
+
+/* 1 or 2, as every call gives them for frames, book and records, or 0. */
+uint64_t holthrimi_check(const uint8_t *frames, size_t frame_bytes, const uint64_t *book, size_t words,
+                         const struct holthrimi_procs *procs);
+
+/*
+ * The number that the ELF reader refuses an image with, or 0:
+ * 11 under 64 bytes; 12 magic; 13 not ELF64; 14 not little-endian; 15 version; 16 not executable; 17 not aarch64; 18 size of a program
+ * header; 19 entry not a multiple of 4; 20 the header table leaves the image; then for each program header, in table order: 21 file
+ * size above memory size; 22 file bytes leave the image; 23 address and offset differ modulo 4,096; 24 it ends above 2^64 - 4,096;
+ * 25 flags; 26 its first page is below an earlier segment's page end; then 27 the entry is not in the file bytes of a text segment.
+ */
+uint64_t holthrimi_parse(const uint8_t *image, size_t image_bytes);
+
+/*
+ * What a start needs of an image: number is 30, 31 or 0; with 30, elf is the image's own number, or 0 if it is the layout's. Then the
+ * entry point; the record's segments, `count` of the image and the stack; the bss; and the pages that a start takes, with the stack.
+ * Zeros if it is refused.
+ */
+struct holthrimi_planned {
+    uint64_t number;
+    uint64_t elf;
+    uint64_t entry;
+    struct holthrimi_segment segments[HOLTHRIMI_SEGMENTS];
+    size_t count;
+    struct holthrimi_range bss;
+    uint64_t pages;
+};
+
+struct holthrimi_planned holthrimi_plan(const uint8_t *image, size_t image_bytes);
+
+/*
+ * The break's rule by itself, over a bss with any numbers in it, or with `set` false none, and a count of free frames. error is 0, or
+ * in this order: 32 no bss; 33 below start; 33 past 64 bits; 34 above limit; 33 too few frames. value is the start for address 0.
+ * The bss handed back is as it was, or ends at addr rounded up; zeros for none.
+ */
+struct holthrimi_rule {
+    uint64_t error;
+    uint64_t value;
+    struct holthrimi_range bss;
+};
+
+struct holthrimi_rule holthrimi_ibrk(bool set, uint64_t start, uint64_t end, uint64_t addr, uint64_t free);
+
+/*
+ * The stack that `nargs` arguments take whose strings, each with its NUL, have `strings` bytes: those rounded up to 8, + 8 * (nargs + 1)
+ * + 8; or 2^64 - 1 if 64 bits don't hold it. Up to 4,096 may be pushed.
+ */
+uint64_t holthrimi_stack_size(uint64_t strings, uint64_t nargs);
+
+/* 1 if lengths don't sum to `count`, 32 for a NUL in an argument, 33 if the stack that they take is above 4,096; or 0. */
+uint64_t holthrimi_args_error(const uint8_t *bytes, size_t count, const uint64_t *lengths, size_t nargs);
+
+/*
+ * Copies a name: up to 27 bytes as they are, the rest of the 28 zeroed; a longer one is cut at the largest place up to 24 where no byte
+ * 128 to 191 starts, and "..." follows.
+ */
+void holthrimi_kstrcpy(uint8_t dst[HOLTHRIMI_NAME], const uint8_t *src, size_t count);
+
+#ifdef __cplusplus
+}
+#endif
+
+#endif

@@ -1,0 +1,306 @@
+//! The exec layer of the r9 kernel, proved, as safe functions over its static library (`include/holthrimi.h` has the whole text of what
+//! each does, in which order it refuses, and what it changes).
+//!
+//! [`Lent`] is what every call is lent: frames, a book with a word for each, and the records of processes 1 to 16. The library keeps
+//! nothing between calls and allocates nothing. A call that is refused gives [`Refusal`]: either nothing changed, or the process has
+//! ended.
+
+#![cfg_attr(not(test), no_std)]
+
+use core::fmt;
+
+mod sys;
+
+/// Bytes in a page, and in a frame.
+pub const PAGE: usize = 4096;
+/// The most frames that may be lent.
+pub const MAX_FRAMES: usize = 1024;
+/// The first user address that an image may use.
+pub const UTZERO: u64 = 65536;
+/// Where user addresses end, and the stack with them.
+pub const USTKTOP: u64 = 1 << 47;
+/// Bytes of a process's stack.
+pub const USTKSIZE: u64 = 16384;
+/// The highest address that an image or a bss may end at: one guard page lies between it and the stack.
+pub const LIMIT: u64 = USTKTOP - USTKSIZE - 4096;
+
+/// Permissions of segments and pages.
+pub const TEXT: u64 = 1;
+pub const RODATA: u64 = 2;
+pub const DATA: u64 = 3;
+
+/// The numbers of refusals; an image's own are 11 to 27.
+pub mod number {
+    pub const SIZES: u64 = 1;
+    pub const TORN: u64 = 2;
+    pub const NUMBER: u64 = 3;
+    pub const DEAD: u64 = 4;
+    pub const TAKEN: u64 = 5;
+    pub const EBADEXEC: u64 = 30;
+    pub const TOO_MANY: u64 = 31;
+    pub const EBADARG: u64 = 32;
+    pub const ENOVMEM: u64 = 33;
+    pub const ESOVERLAP: u64 = 34;
+    pub const EFAULT: u64 = 35;
+    pub const TOP: u64 = 36;
+}
+
+/// A range of user addresses, from `start` up to, but not including, `end`.
+#[repr(C)]
+#[derive(Clone, Copy, Debug, Default, PartialEq, Eq)]
+pub struct VirtRange {
+    pub start: u64,
+    pub end: u64,
+}
+
+/// Whole pages, all mapped with `perm`; all zero in an unused place.
+#[repr(C)]
+#[derive(Clone, Copy, Debug, Default, PartialEq, Eq)]
+pub struct UserSegment {
+    pub range: VirtRange,
+    pub perm: u64,
+}
+
+/// A process's record: its segments, the stack last, then unused places; its name; and its bss. All zero: no process.
+#[repr(C)]
+#[derive(Clone, Copy, Debug, Default, PartialEq, Eq)]
+pub struct Proc {
+    pub segments: [UserSegment; 16],
+    pub text: [u8; 28],
+    pub bss: VirtRange,
+}
+
+/// The records of processes 1 to 16: process n is `all[n - 1]`.
+#[repr(C)]
+#[derive(Clone, Copy, Debug, Default, PartialEq, Eq)]
+pub struct Procs {
+    pub all: [Proc; 16],
+}
+
+/// What a program is entered with.
+#[repr(C)]
+#[derive(Clone, Copy, Debug, Default, PartialEq, Eq)]
+pub struct UserRegs {
+    pub pc: u64,
+    pub sp: u64,
+    pub argc: u64,
+    pub argv: u64,
+}
+
+/// Why a call was not accepted, by its number.
+#[derive(Clone, Copy, Debug, PartialEq, Eq)]
+pub enum Refusal {
+    /// Nothing changed (but see [`Lent::try_copy_str_from_user`]).
+    Refused(u64),
+    /// The process has ended: its frames are free, its record zero, frame bytes as before.
+    Ended(u64),
+}
+
+impl Refusal {
+    pub fn number(self) -> u64 {
+        match self {
+            Refusal::Refused(number) | Refusal::Ended(number) => number,
+        }
+    }
+}
+
+impl fmt::Display for Refusal {
+    fn fmt(&self, f: &mut fmt::Formatter<'_>) -> fmt::Result {
+        match self {
+            Refusal::Refused(number) => write!(f, "refused {number}"),
+            Refusal::Ended(number) => write!(f, "ended {number}"),
+        }
+    }
+}
+
+impl core::error::Error for Refusal {}
+
+pub type Result<T> = core::result::Result<T, Refusal>;
+
+fn told(answer: sys::Answer) -> Result<sys::Answer> {
+    match answer.kind {
+        0 => Ok(answer),
+        1 => Err(Refusal::Refused(answer.number)),
+        _ => Err(Refusal::Ended(answer.number)),
+    }
+}
+
+/// What is lent to every call. Frame bytes are 4,096 for each word of the book, 1 to 1,024 words; book and records are zero at first.
+pub struct Lent<'a> {
+    pub frames: &'a mut [u8],
+    pub book: &'a mut [u64],
+    pub procs: &'a mut Procs,
+}
+
+/// The first arguments of every call, taken apart.
+macro_rules! lent {
+    ($s:expr) => {
+        ($s.frames.as_mut_ptr(), $s.frames.len(), $s.book.as_mut_ptr(), $s.book.len(), &mut *$s.procs)
+    };
+}
+
+macro_rules! looked {
+    ($s:expr) => {
+        ($s.frames.as_ptr(), $s.frames.len(), $s.book.as_ptr(), $s.book.len(), &*$s.procs)
+    };
+}
+
+// Every pointer handed on is a slice's or a reference's, with the slice's length: not null, aligned, and alone where it is `&mut`. The
+// library's contracts ask nothing else.
+impl Lent<'_> {
+    /// Starts process `number`, which must not live, from an ELF image. Its arguments are `bytes` cut by `lengths`.
+    /// Refused with 1, 2, 3, 5, 32, 33 (arguments), 30, 31 or 33 (frames), in this order.
+    pub fn start(&mut self, number: u64, image: &[u8], name: &[u8], bytes: &[u8], lengths: &[u64]) -> Result<UserRegs> {
+        let (f, fl, b, bl, p) = lent!(self);
+        let (i, n, a, l) = (image, name, bytes, lengths);
+        told(unsafe {
+            sys::holthrimi_start(
+                f,
+                fl,
+                b,
+                bl,
+                p,
+                number,
+                i.as_ptr(),
+                i.len(),
+                n.as_ptr(),
+                n.len(),
+                a.as_ptr(),
+                a.len(),
+                l.as_ptr(),
+                l.len(),
+            )
+        })
+        .map(|t| t.regs)
+    }
+
+    /// Replaces a process's program; `argv` is the user address of its array of pointers to arguments.
+    /// Refused with 1 to 4, 30, 31, 33 (arguments); ended with 35, or with 33 if own and free frames don't suffice.
+    pub fn replace(&mut self, number: u64, image: &[u8], name: &[u8], argv: u64) -> Result<UserRegs> {
+        let (f, fl, b, bl, p) = lent!(self);
+        told(unsafe {
+            sys::holthrimi_replace(f, fl, b, bl, p, number, image.as_ptr(), image.len(), name.as_ptr(), name.len(), argv)
+        })
+        .map(|t| t.regs)
+    }
+
+    /// Pushes arguments onto a process's stack, their strings up to `top`. Refused with 1 to 4, 36, 32, 33; ended with 35.
+    pub fn push(&mut self, number: u64, pc: u64, top: u64, bytes: &[u8], lengths: &[u64]) -> Result<UserRegs> {
+        let (f, fl, b, bl, p) = lent!(self);
+        let (a, l) = (bytes, lengths);
+        told(unsafe { sys::holthrimi_push(f, fl, b, bl, p, number, pc, top, a.as_ptr(), a.len(), l.as_ptr(), l.len()) })
+            .map(|t| t.regs)
+    }
+
+    /// Moves the end of a process's bss to `addr`, rounded up to a page. Address 0 changes nothing and gives the bss's start.
+    /// Refused with 1 to 4, 33, 34.
+    pub fn brk(&mut self, number: u64, addr: u64) -> Result<u64> {
+        let (f, fl, b, bl, p) = lent!(self);
+        told(unsafe { sys::holthrimi_break(f, fl, b, bl, p, number, addr) }).map(|t| t.value)
+    }
+
+    /// Forks a process as `child`, which must not live. Refused with 1 to 5, 33.
+    pub fn fork(&mut self, number: u64, child: u64) -> Result<()> {
+        let (f, fl, b, bl, p) = lent!(self);
+        told(unsafe { sys::holthrimi_fork(f, fl, b, bl, p, number, child) }).map(|_| ())
+    }
+
+    /// Ends a process: its frames are free and keep their bytes. Refused with 1 to 4.
+    pub fn end(&mut self, number: u64) -> Result<()> {
+        let (f, fl, b, bl, p) = lent!(self);
+        told(unsafe { sys::holthrimi_end(f, fl, b, bl, p, number) }).map(|_| ())
+    }
+
+    /// Whether a process may read, or write, `len` bytes from `addr` on. Refused with 1 to 4.
+    pub fn user_range_ok(&self, number: u64, addr: u64, len: u64, write: bool) -> Result<bool> {
+        let (f, fl, b, bl, p) = looked!(self);
+        told(unsafe { sys::holthrimi_user_range_ok(f, fl, b, bl, p, number, addr, len, write) }).map(|t| t.value == 1)
+    }
+
+    /// Copies bytes of a process from `src` on into the whole of `dst`. Refused with 1 to 4; ended with 35, and no byte copied.
+    pub fn copy_from_user(&mut self, number: u64, dst: &mut [u8], src: u64) -> Result<()> {
+        let (f, fl, b, bl, p) = lent!(self);
+        told(unsafe { sys::holthrimi_copy_from_user(f, fl, b, bl, p, number, dst.as_mut_ptr(), dst.len(), src) }).map(|_| ())
+    }
+
+    /// Copies bytes to a process from `dst` on. Refused with 1 to 4; ended with 35, and no byte copied.
+    pub fn copy_to_user(&mut self, number: u64, dst: u64, bytes: &[u8]) -> Result<()> {
+        let (f, fl, b, bl, p) = lent!(self);
+        told(unsafe { sys::holthrimi_copy_to_user(f, fl, b, bl, p, number, dst, bytes.as_ptr(), bytes.len()) }).map(|_| ())
+    }
+
+    /// Copies a string of a process into `dst` up to its NUL, which isn't stored, and gives its length, or that of `dst`. Refused with
+    /// 1 to 4, or with 35 at a bad page: the bytes before it stay copied, and the process lives.
+    pub fn try_copy_str_from_user(&self, number: u64, dst: &mut [u8], src: u64) -> Result<usize> {
+        let (f, fl, b, bl, p) = looked!(self);
+        told(unsafe { sys::holthrimi_try_copy_str_from_user(f, fl, b, bl, p, number, dst.as_mut_ptr(), dst.len(), src) })
+            .map(|t| t.value as usize)
+    }
+
+    /// Whether frames, book and records are such that calls go on: refused with 1 or 2.
+    pub fn check(&self) -> Result<()> {
+        let (f, fl, b, bl, p) = looked!(self);
+        match unsafe { sys::holthrimi_check(f, fl, b, bl, p) } {
+            0 => Ok(()),
+            number => Err(Refusal::Refused(number)),
+        }
+    }
+}
+
+/// What a start needs of an image: its entry point; its record's segments, `count` of the image and the stack; its bss; and the pages
+/// that it takes with the stack.
+#[derive(Clone, Copy, Debug, PartialEq, Eq)]
+pub struct Plan {
+    pub entry: u64,
+    pub segments: [UserSegment; 16],
+    pub count: usize,
+    pub bss: VirtRange,
+    pub pages: u64,
+}
+
+/// The plan of an image, or 30 or 31.
+pub fn plan(image: &[u8]) -> Result<Plan> {
+    let p = unsafe { sys::holthrimi_plan(image.as_ptr(), image.len()) };
+    if p.number != 0 {
+        return Err(Refusal::Refused(p.number));
+    }
+    Ok(Plan { entry: p.entry, segments: p.segments, count: p.count, bss: p.bss, pages: p.pages })
+}
+
+/// Whether the ELF reader takes an image, or one of 11 to 27.
+pub fn parse(image: &[u8]) -> Result<()> {
+    match unsafe { sys::holthrimi_parse(image.as_ptr(), image.len()) } {
+        0 => Ok(()),
+        number => Err(Refusal::Refused(number)),
+    }
+}
+
+/// The break's rule by itself: its value, and the bss afterwards; or 32, 33 or 34.
+pub fn ibrk(bss: Option<VirtRange>, addr: u64, free: u64) -> Result<(u64, VirtRange)> {
+    let r = bss.unwrap_or_default();
+    let b = unsafe { sys::holthrimi_ibrk(bss.is_some(), r.start, r.end, addr, free) };
+    match b.error {
+        0 => Ok((b.value, b.bss)),
+        number => Err(Refusal::Refused(number)),
+    }
+}
+
+/// The stack that `nargs` arguments take whose strings have `strings` bytes with their NULs; saturating.
+pub fn stack_size(strings: u64, nargs: u64) -> u64 {
+    unsafe { sys::holthrimi_stack_size(strings, nargs) }
+}
+
+/// Whether arguments can be pushed, or 1, 32 or 33.
+pub fn check_args(bytes: &[u8], lengths: &[u64]) -> Result<()> {
+    match unsafe { sys::holthrimi_args_error(bytes.as_ptr(), bytes.len(), lengths.as_ptr(), lengths.len()) } {
+        0 => Ok(()),
+        number => Err(Refusal::Refused(number)),
+    }
+}
+
+/// A name in 28 bytes, as Plan 9's kstrcpy copies it.
+pub fn kstrcpy(src: &[u8]) -> [u8; 28] {
+    let mut dst = [0; 28];
+    unsafe { sys::holthrimi_kstrcpy(&mut dst, src.as_ptr(), src.len()) };
+    dst
+}

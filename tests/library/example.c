@@ -1,0 +1,185 @@
+/*
+ * An example of the library, and its test: a program of 184 bytes is started with two arguments, its break moves, it forks, parent and
+ * child write to their own memory, and both end. Every answer is checked; the last line says 'N checks, 0 failed'.
+ *
+ *     cc example.c -I../../include ../../target/staticlib/libholthrimi.a -o example && ./example
+ */
+#include <holthrimi.h>
+#include <stdio.h>
+#include <string.h>
+
+/* The memory that is lent to every call. */
+enum { WORDS = 32 };
+static uint8_t frames[WORDS * HOLTHRIMI_PAGE];
+static uint64_t book[WORDS];
+static struct holthrimi_procs procs;
+
+#define LENT frames, sizeof frames, book, WORDS, &procs
+
+static int checks, failed;
+
+static void check(bool ok, const char *what, int line) {
+    checks++;
+    if (!ok) {
+        failed++;
+        printf("line %d: %s\n", line, what);
+    }
+}
+
+#define CHECK(c) check((c), #c, __LINE__)
+
+static bool accepted(struct holthrimi_answer a) {
+    return a.kind == HOLTHRIMI_ACCEPTED && a.number == 0;
+}
+
+static bool refused(struct holthrimi_answer a, uint64_t number) {
+    return a.kind == HOLTHRIMI_REFUSED && a.number == number && a.value == 0 && a.regs.pc == 0 && a.regs.sp == 0 &&
+           a.regs.argc == 0 && a.regs.argv == 0;
+}
+
+static bool ended(struct holthrimi_answer a, uint64_t number) {
+    return a.kind == HOLTHRIMI_ENDED && a.number == number && a.value == 0 && a.regs.pc == 0;
+}
+
+static void put(uint8_t *at, uint64_t value, int bytes) {
+    for (int i = 0; i < bytes; i++) {
+        at[i] = (uint8_t)(value >> (8 * i));
+    }
+}
+
+static void header(uint8_t *at, uint32_t flags, uint64_t offset, uint64_t address, uint64_t file, uint64_t memory) {
+    put(at, 1, 4);
+    put(at + 4, flags, 4);
+    put(at + 8, offset, 8);
+    put(at + 16, address, 8);
+    put(at + 24, address, 8);
+    put(at + 32, file, 8);
+    put(at + 40, memory, 8);
+    put(at + 48, HOLTHRIMI_PAGE, 8);
+}
+
+/* A static aarch64 executable: a page of text at 65,536, whose last four bytes of 180 are code, and four bytes of data. */
+enum { IMAGE = 184 };
+static uint8_t image[IMAGE];
+
+static void write_image(void) {
+    memcpy(image, "\177ELF\2\1\1", 7);
+    put(image + 16, 2, 2);   /* executable */
+    put(image + 18, 183, 2); /* aarch64 */
+    put(image + 20, 1, 4);
+    put(image + 24, 65712, 8); /* entry */
+    put(image + 32, 64, 8);    /* program headers */
+    put(image + 54, 56, 2);
+    put(image + 56, 2, 2);
+    header(image + 64, 5, 0, 65536, 180, 180);
+    header(image + 120, 6, 180, 69812, 4, 8000);
+    put(image + 176, 0xd4000001, 4); /* svc #0 */
+    memcpy(image + 180, "data", 4);
+}
+
+/* One byte of a process's memory, or -1. */
+static int peek(uint64_t number, uint64_t address) {
+    uint8_t byte = 0;
+    if (holthrimi_user_range_ok(LENT, number, address, 1, false).value != 1) {
+        return -1;
+    }
+    return accepted(holthrimi_copy_from_user(LENT, number, &byte, 1, address)) ? byte : -1;
+}
+
+static uint64_t free_frames(void) {
+    uint64_t n = 0;
+    for (int i = 0; i < WORDS; i++) {
+        n += book[i] == 0;
+    }
+    return n;
+}
+
+int main(void) {
+    const uint64_t top = (uint64_t)1 << 47;
+    struct holthrimi_answer a;
+
+    /* The library and this header agree about the layout of what is lent. */
+    CHECK(sizeof(struct holthrimi_proc) == 432 && sizeof procs == 6912 && sizeof a == 56);
+
+    write_image();
+    struct holthrimi_planned plan = holthrimi_plan(image, IMAGE);
+    CHECK(plan.number == 0 && plan.entry == 65712 && plan.count == 2 && plan.pages == 7);
+    CHECK(plan.bss.start == 69816 && plan.bss.end == 77824);
+    CHECK(plan.segments[0].perm == HOLTHRIMI_TEXT && plan.segments[1].perm == HOLTHRIMI_DATA);
+    CHECK(plan.segments[2].range.end == top && plan.segments[3].perm == 0);
+    CHECK(holthrimi_parse(image, IMAGE) == 0 && holthrimi_parse(image, 63) == 11);
+    CHECK(holthrimi_plan(image, 63).number == 30 && holthrimi_plan(image, 63).elf == 11);
+
+    /* Start: two arguments, which end at the top of the stack. */
+    const uint8_t *name = (const uint8_t *)"/bin/lex";
+    const uint8_t *bytes = (const uint8_t *)"lexmot";
+    const uint64_t lengths[2] = {3, 3};
+    CHECK(holthrimi_args_error(bytes, 6, lengths, 2) == 0 && holthrimi_stack_size(8, 2) == 40);
+    a = holthrimi_start(LENT, 1, image, IMAGE, name, 8, bytes, 6, lengths, 2);
+    CHECK(accepted(a) && a.regs.pc == 65712 && a.regs.argc == 2 && a.regs.argv == top - 32 && a.regs.sp == top - 32);
+    CHECK(memcmp(procs.all[0].text, "lex", 4) == 0);
+    CHECK(free_frames() == WORDS - 7 && book[WORDS - 1] == 65536 + 16 * 1 + HOLTHRIMI_TEXT);
+    CHECK(holthrimi_check(LENT) == 0);
+    CHECK(peek(1, 65536) == 127 && peek(1, 69812) == 'd' && peek(1, 69816) == 0 && peek(1, 77824) == -1);
+    uint8_t text[8] = "........";
+    a = holthrimi_try_copy_str_from_user(LENT, 1, text, 8, top - 4);
+    CHECK(accepted(a) && a.value == 3 && memcmp(text, "mot.....", 8) == 0);
+    printf("started: pc %llu, sp %llu\n", (unsigned long long)65712, (unsigned long long)(top - 32));
+
+    /* Refusals change nothing. */
+    CHECK(refused(holthrimi_start(LENT, 1, image, IMAGE, name, 8, bytes, 6, lengths, 2), HOLTHRIMI_TAKEN));
+    CHECK(refused(holthrimi_start(LENT, 2, image, IMAGE, name, 8, bytes, 5, lengths, 2), HOLTHRIMI_SIZES));
+    CHECK(refused(holthrimi_start(LENT, 2, image, 63, name, 8, bytes, 6, lengths, 2), HOLTHRIMI_EBADEXEC));
+    CHECK(refused(holthrimi_end(LENT, 17), HOLTHRIMI_NUMBER) && refused(holthrimi_end(LENT, 2), HOLTHRIMI_DEAD));
+    CHECK(refused(holthrimi_end(frames, sizeof frames - 1, book, WORDS, &procs, 1), HOLTHRIMI_SIZES));
+    CHECK(refused(holthrimi_push(LENT, 1, 65712, top - 8, bytes, 6, lengths, 2), HOLTHRIMI_TOP));
+    CHECK(free_frames() == WORDS - 7 && peek(1, 69812) == 'd');
+
+    /* Break: address 0 tells the bss's start; it grows by a page, and shrinks inside it. */
+    a = holthrimi_break(LENT, 1, 0);
+    CHECK(accepted(a) && a.value == 69816);
+    CHECK(accepted(holthrimi_break(LENT, 1, 77825)) && peek(1, 77824) == 0 && free_frames() == WORDS - 8);
+    CHECK(accepted(holthrimi_copy_to_user(LENT, 1, 77830, (const uint8_t *)"kept", 4)));
+    CHECK(accepted(holthrimi_break(LENT, 1, 77826)) && peek(1, 77830) == 'k' && procs.all[0].bss.end == 81920);
+    CHECK(refused(holthrimi_break(LENT, 1, 69815), HOLTHRIMI_ENOVMEM));
+    CHECK(refused(holthrimi_break(LENT, 1, 140737488334849), HOLTHRIMI_ESOVERLAP));
+    CHECK(holthrimi_ibrk(true, 69816, 81920, 81921, 0).error == HOLTHRIMI_ENOVMEM);
+    CHECK(holthrimi_ibrk(true, 69816, 81920, 81921, 1).bss.end == 86016);
+    CHECK(holthrimi_ibrk(false, 0, 0, 0, 0).error == HOLTHRIMI_EBADARG);
+    printf("break: the bss ends at %llu\n", (unsigned long long)procs.all[0].bss.end);
+
+    /* Fork: the child has its parent's bytes, and its own from then on. */
+    CHECK(accepted(holthrimi_fork(LENT, 1, 2)) && free_frames() == WORDS - 16);
+    CHECK(memcmp(&procs.all[0], &procs.all[1], sizeof procs.all[0]) == 0);
+    CHECK(accepted(holthrimi_copy_to_user(LENT, 2, 77830, (const uint8_t *)"K", 1)));
+    CHECK(peek(1, 77830) == 'k' && peek(2, 77830) == 'K' && peek(2, 77831) == 'e');
+    CHECK(refused(holthrimi_fork(LENT, 1, 2), HOLTHRIMI_TAKEN) && accepted(holthrimi_fork(LENT, 1, 3)));
+    CHECK(accepted(holthrimi_fork(LENT, 1, 4)) && refused(holthrimi_fork(LENT, 1, 5), HOLTHRIMI_ENOVMEM));
+    printf("forked: %llu frames are free\n", (unsigned long long)free_frames());
+
+    /* Push and replace: the arguments are read from the old memory. */
+    a = holthrimi_push(LENT, 2, 65712, top, bytes, 6, lengths, 2);
+    CHECK(accepted(a) && a.regs.argv == top - 32);
+    a = holthrimi_replace(LENT, 2, image, IMAGE, (const uint8_t *)"mot", 3, a.regs.argv);
+    CHECK(accepted(a) && a.regs.argc == 2 && peek(2, 77830) == -1 && memcmp(procs.all[1].text, "mot", 4) == 0);
+
+    /* A bad address ends the process, with no byte copied; the string copy's doesn't. */
+    CHECK(refused(holthrimi_try_copy_str_from_user(LENT, 3, text, 8, 4096), HOLTHRIMI_EFAULT));
+    CHECK(ended(holthrimi_copy_to_user(LENT, 3, 65536, bytes, 1), HOLTHRIMI_EFAULT));
+    CHECK(refused(holthrimi_end(LENT, 3), HOLTHRIMI_DEAD));
+
+    /* End. */
+    CHECK(accepted(holthrimi_end(LENT, 1)) && accepted(holthrimi_end(LENT, 2)) && accepted(holthrimi_end(LENT, 4)));
+    CHECK(free_frames() == WORDS && holthrimi_check(LENT) == 0);
+    static const struct holthrimi_procs none;
+    CHECK(memcmp(&procs, &none, sizeof procs) == 0);
+    book[0] = 1;
+    CHECK(holthrimi_check(LENT) == HOLTHRIMI_TORN && refused(holthrimi_end(LENT, 1), HOLTHRIMI_TORN));
+    uint8_t short_name[HOLTHRIMI_NAME];
+    holthrimi_kstrcpy(short_name, (const uint8_t *)"a name of more than 27 bytes", 28);
+    CHECK(memcmp(short_name, "a name of more than 27 b...\0", 28) == 0);
+    printf("ended: all %d frames are free\n", WORDS);
+
+    printf("%d checks, %d failed\n", checks, failed);
+    return failed != 0;
+}
