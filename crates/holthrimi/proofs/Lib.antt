@@ -1,4 +1,5 @@
 -- How the exported calls are walked.
 pub mod Locals
+pub mod Telling
 pub mod Kept
 pub mod Looked

@@ -35,7 +35,7 @@ use Rattle.spec.specs.World.{State}
 use Rattle.front.specs.Numbers.{stateOf}
 use Rattle.holthrimi.specs.Rules.{bookError}
 use Rattle.holthrimi.proofs.Locals.{enters, peek, fill, leaves}
-use Rattle.holthrimi.proofs.Kept.{framed, walks, arg}
+use Rattle.holthrimi.proofs.Telling.{framed, walks, arg}
 use Rattle.holthrimi.proofs.Looked.{looked}
 use Rattle.holthrimi.proofs.rules.book_error as work
 use Rattle.holthrimi.proofs.rules.book_error.Symbol as work-def
