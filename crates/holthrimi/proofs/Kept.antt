@@ -25,12 +25,11 @@ use types.Kit.{move, keep, drop, use1, rewrite, split, join, pick, fsplit, fspli
 use types.Run.{Opds, stop, hop, fld, from, load, of-opd, assigns, land, look-raw, store-raw}
 use types.SemTy.{Body as Behind}
 use sound.WpLaws.{FmC}
-use denote.RattleType.{Denots, owns}
-use denote.Signature.{Slot, typesAt}
+use denote.RattleType.{owns}
 use denote.Builtin.{u8, u64}
 use denote.Exit.{yes}
 use denote.Memory.{mem, cellAt}
-use denote.Laws.{Is, shows, Spells, valss}
+use denote.Laws.{Is, shows, valss}
 use denote.Ref.{RefT, MutRef, ptr-vals}
 use denote.Slice.{MutSlice, finally, slice-vals}
 use denote.Steps.{only, opens, closes, owned, peeks, heard, nothing}
@@ -56,7 +55,8 @@ use Rattle.told.proofs.Told as O
 use Rattle.told.proofs.Told.Laws as O′
 use Rattle.told.proofs.tell.Symbol.{name as #tell}
 use Rattle.holthrimi.proofs.Locals.{Cell, empty, holds, with, At, Whole, locals, dead, peek, peek-in, fill}
-use Rattle.holthrimi.proofs.Telling.{of-procs, of-answer, of-told, Setting, Tell, tells, told}
+use Rattle.holthrimi.proofs.Params.{Par, slots, rows, spells}
+use Rattle.holthrimi.proofs.Telling.{Given-to, of-procs, of-answer, of-told, Setting, Tell, tells, told}
 
 -- ---- the records behind a reference: what lies in memory, the borrow shut and open, and what is known of their value
 abbrev recordsAt : ℕ → ℕ → Procs → Fml
@@ -143,10 +143,18 @@ module _ {M : Type 1} {𝓤 : URA M} {H : Heap 𝓤} {A : Atoms 𝓤} {K : Type 
       (load t (from t (fld t (ap (λ (σ : Ty). fieldOf σ 1) (ready .1 w .0 .1)) (stop t))) (peek-in t 1 l 1 refl (ready .1 w .0) refl))
       (ready .1 w .2) (λ u. ready .2 w u .0) (λ u. ready .2 w u .1) (λ o′ e. z r o′ e))))
 
--- ---- the whole walk, once the locals are there. The parameters are frames, book, the records, and others, ss
-module _ {M : Type 1} (𝓤 : URA M) (H : Heap 𝓤) (Z : Setting 𝓤 H) (n : ℕ) (ss : List (Slot (suc (suc (suc n)))))
-    (κs : Lfts (suc (suc (suc n)))) (qs : Shares (suc (suc (suc n)))) (xf xb : RefT (List ℕ)) (x : RefT Procs)
-    (a : Denots (typesAt ss κs)) (sp : Spells (typesAt ss κs)) where
+-- ---- the whole walk, once the locals are there. The parameters are frames, book, the records, and others, ps
+module _ {M : Type 1} (𝓤 : URA M) (H : Heap 𝓤) (Z : Setting 𝓤 H) (n : ℕ) (ps : List (Par (suc (suc (suc n)))))
+    (κs : Lfts (suc (suc (suc n)))) (qs : Shares (suc (suc (suc n)))) (a : Given-to n ps κs) where
+  abbrev xf : RefT (List ℕ)
+  xf = a .0
+
+  abbrev xb : RefT (List ℕ)
+  xb = a .1 .0
+
+  abbrev x : RefT Procs
+  x = a .1 .1 .0
+
   -- the tokens of frames, book and records, and the others'; all of them; and all but the records'
   abbrev tf : Fml
   tf = flft (κs .0) (qs .0)
@@ -173,21 +181,21 @@ module _ {M : Type 1} (𝓤 : URA M) (H : Heap 𝓤) (Z : Setting 𝓤 H) (n : �
   abbrev owned-with : Fml → Fml
   owned-with P =
       fsep (MutSlice (named 0) (κs .0) u8 .own xf (slice-vals xf)) (fsep (MutSlice (named 1) (κs .1 .0) u64 .own xb (slice-vals xb))
-      (fsep P (owns (typesAt ss κs) a (valss (typesAt ss κs) sp a))))
+      (fsep P (owns (rows κs ps) (a .1 .1 .1) (valss (rows κs ps) (spells κs ps) (a .1 .1 .1)))))
 
   abbrev reference : Fml
   reference = MutRef (named 2) (κs .1 .1 .0) P.the-row .own x (ptr-vals x)
 
   -- what is said of their last values, with P for the records
   abbrev Xs : Type 0
-  Xs = Fins κs ss (all yes ss) a
+  Xs = Fins κs (slots ps) (all yes (slots ps)) (a .1 .1 .1)
 
   abbrev last-of : RefT (List ℕ) → (List ℕ → Fml) → List ℕ → Fml
   last-of r finals ys = fsep (finals ys) (feq ℕ (length ys) (length (r .now)))
 
   abbrev said-with : List ℕ → List ℕ → Fml → Xs → Fml
   said-with fs bs P xs =
-      fsep (last-of xf (finally u8 (xf .name)) fs) (fsep (last-of xb (finally u64 (xb .name)) bs) (fsep P (lastsOf κs ss (all yes ss) a xs)))
+      fsep (last-of xf (finally u8 (xf .name)) fs) (fsep (last-of xb (finally u64 (xb .name)) bs) (fsep P (lastsOf κs (slots ps) (all yes (slots ps)) (a .1 .1 .1) xs)))
 
   -- what there is on entry of the exported function, and what the call asks
   abbrev Enter : SProp 𝓤

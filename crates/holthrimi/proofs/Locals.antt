@@ -56,6 +56,10 @@ nowhere = (tyEnum [] ttnil, zero)
 abbrev pub At : List (Ty × ℕ) → List Cell → ℕ → Ty → Cell → Type 0
 At E cs i τ c = In E i × (getD E i nowhere .0 ≡ τ) × (cell cs i ≡ c)
 
+-- which of a function that is written out is seen by computing
+abbrev pub ok : {τ : Ty} {c : Cell} → Unit {0} × (τ ≡ τ) × (c ≡ c)
+ok = (tt, refl, refl)
+
 -- ---- the blocks of locals, and what they hold at entry: of the parameters, which follow the result, the arguments
 abbrev typeOf : Local → Ty
 typeOf (local τ h) = τ

@@ -18,12 +18,11 @@ use contract.Lifetimes.{Lfts, Shares, toks}
 use types.Kit.{Given, Item, ‵, raw, _⊛_, some, later, Post, runs, atRet, Seq, Step, Go, _$_, ! }
 use types.Kit.{move, drop, use1, rewrite, split, join, pick, fsplit, fsplit3, fjoin, frame, show, updating, now as at-once, await, done}
 use types.Run.{Opds, stop, hop, from, load, of-opd, assigns, land, look-raw}
-use denote.RattleType.{Denots, owns}
-use denote.Signature.{Slot, typesAt}
+use denote.RattleType.{owns}
 use denote.Builtin.{u8, u64}
 use denote.Exit.{yes}
 use denote.Memory.{partAt}
-use denote.Laws.{Is, shows, Spells, valss}
+use denote.Laws.{Is, shows, valss}
 use denote.Ref.{RefT, ShrRef, ptr-vals}
 use denote.Slice.{ShrSlice, slice-vals}
 use denote.Steps.{only, looks, shuts, owned, peeks, heard, nothing}
@@ -49,7 +48,8 @@ use Rattle.told.proofs.Told as O
 use Rattle.told.proofs.Told.Laws as O′
 use Rattle.told.proofs.tell.Symbol.{name as #tell}
 use Rattle.holthrimi.proofs.Locals.{Cell, empty, holds, with, At, locals, dead, peek, fill, Whole}
-use Rattle.holthrimi.proofs.Telling.{of-procs, of-told, Setting, tells, told}
+use Rattle.holthrimi.proofs.Params.{Par, slots, rows, spells}
+use Rattle.holthrimi.proofs.Telling.{Given-to, of-procs, of-told, Setting, tells, told}
 
 module _ {M : Type 1} {𝓤 : URA M} {H : Heap 𝓤} {A : Atoms 𝓤} {K : Type 0} {W : Given 𝓤 H A} {Γ : List (Item 𝓤)} {C : Calls 𝓤 H}
     {Λ : Loops 𝓤 H} {E : List (Ty × ℕ)} {cs : List Cell} {q : Post 𝓤 H} where
@@ -79,10 +79,18 @@ Ready E cs l =
     At E cs l N′.mir empty × ((v : Val) → At E (with cs l (holds v)) l N′.mir (holds v) × At E (with cs l (holds v)) 0 O′.mir empty)
     × ((v u : Val) → At E (with (with cs l (holds v)) 0 (holds u)) 0 O′.mir (holds u) × Whole (with (with cs l (holds v)) 0 (holds u)))
 
--- ---- the whole walk, once the locals are there. The parameters are frames, book, the records, and others, ss
-module _ {M : Type 1} (𝓤 : URA M) (H : Heap 𝓤) (Z : Setting 𝓤 H) (n : ℕ) (ss : List (Slot (suc (suc (suc n)))))
-    (κs : Lfts (suc (suc (suc n)))) (qs : Shares (suc (suc (suc n)))) (xf xb : RefT (List ℕ)) (x : RefT Procs)
-    (a : Denots (typesAt ss κs)) (sp : Spells (typesAt ss κs)) where
+-- ---- the whole walk, once the locals are there. The parameters are frames, book, the records, and others, ps
+module _ {M : Type 1} (𝓤 : URA M) (H : Heap 𝓤) (Z : Setting 𝓤 H) (n : ℕ) (ps : List (Par (suc (suc (suc n)))))
+    (κs : Lfts (suc (suc (suc n)))) (qs : Shares (suc (suc (suc n)))) (a : Given-to n ps κs) where
+  abbrev xf : RefT (List ℕ)
+  xf = a .0
+
+  abbrev xb : RefT (List ℕ)
+  xb = a .1 .0
+
+  abbrev x : RefT Procs
+  x = a .1 .1 .0
+
   -- the tokens of frames, book and records, and the others'; all of them; and all but the records'
   abbrev tf : Fml
   tf = flft (κs .0) (qs .0)
@@ -109,20 +117,20 @@ module _ {M : Type 1} (𝓤 : URA M) (H : Heap 𝓤) (Z : Setting 𝓤 H) (n : �
   abbrev owned-with : Fml → Fml
   owned-with P =
       fsep (ShrSlice (named 0) (κs .0) u8 .own xf (slice-vals xf)) (fsep (ShrSlice (named 1) (κs .1 .0) u64 .own xb (slice-vals xb))
-      (fsep P (owns (typesAt ss κs) a (valss (typesAt ss κs) sp a))))
+      (fsep P (owns (rows κs ps) (a .1 .1 .1) (valss (rows κs ps) (spells κs ps) (a .1 .1 .1)))))
 
   abbrev reference : Fml
   reference = ShrRef (named 2) (κs .1 .1 .0) P.the-row .own x (ptr-vals x)
 
   -- what is said of their last values
   abbrev Xs : Type 0
-  Xs = Fins κs ss (all yes ss) a
+  Xs = Fins κs (slots ps) (all yes (slots ps)) (a .1 .1 .1)
 
   abbrev Ws : Type 0
   Ws = Unit {0} × (Unit {0} × (Unit {0} × Xs))
 
   abbrev last-said : Ws → Fml
-  last-said ws = fsep ftrue (fsep ftrue (fsep ftrue (lastsOf κs ss (all yes ss) a (ws .1 .1 .1))))
+  last-said ws = fsep ftrue (fsep ftrue (fsep ftrue (lastsOf κs (slots ps) (all yes (slots ps)) (a .1 .1 .1) (ws .1 .1 .1))))
 
   -- what there is on entry of the exported function, and what the call asks
   abbrev Enter : SProp 𝓤
