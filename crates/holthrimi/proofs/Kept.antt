@@ -107,7 +107,8 @@ rest-of key ops j l =
 -- the locals that it writes are there
 abbrev pub Ready : List (Ty × ℕ) → List Cell → ℕ → ℕ → Ty → Val → Type 0
 Ready E cs j l τ p =
-    At E cs l L′.mir empty × ((v : Val) → At E (with cs l (holds v)) l L′.mir (holds v) × At E (with cs l (holds v)) j τ (holds p) × At E (with cs l (holds v)) 0 O′.mir empty)
+    At E cs l L′.mir empty × ((v : Val)
+    → At E (with cs l (holds v)) l L′.mir (holds v) × At E (with cs l (holds v)) j τ (holds p) × At E (with cs l (holds v)) 0 O′.mir empty)
     × ((v u : Val) → At E (with (with cs l (holds v)) 0 (holds u)) 0 O′.mir (holds u) × Whole (with (with cs l (holds v)) 0 (holds u)))
 
 module _ {M : Type 1} {𝓤 : URA M} {H : Heap 𝓤} {A : Atoms 𝓤} {K : Type 0} {W : Given 𝓤 H A} {Γ : List (Item 𝓤)} {C : Calls 𝓤 H}
@@ -119,20 +120,23 @@ module _ {M : Type 1} {𝓤 : URA M} {H : Heap 𝓤} {A : Atoms 𝓤} {K : Type 
       → {κ : Lft} {s : Share} {γ : GName} (h : Procs) (b o : ℕ) (j l : ℕ) {τ : Ty} {ops : List Opd}
       → Opds K W (raw (Work .pre x) ∷ locals 𝓤 H E cs ∷ ‵ (recordsAt b o h) ∷ ‵ (open-at κ s b o γ) ∷ ‵ (obs γ h) ∷ ‵ (auth γ h)
       ∷ raw (dead 𝓤 H E) ∷ Γ) E ops (Work .args x) → Ready E cs j l τ (vptr b o)
-      → ((r : Left) (t : Told) → t ≡ toldOf (r .answer) → Seq K W (‵ (O.the-row .own t (of-told t ∷ [])) ∷ raw (Rest r) ∷ ‵ (obs γ (r .procs))
+      → ((r : Left) (t : Told) → t ≡ toldOf (r .answer) → Seq K W (‵ (O.the-row .own t (of-told t ∷ [])) ∷ raw (Rest r)
+      ∷ ‵ (obs γ (r .procs))
       ∷ ‵ (shut κ b o γ) ∷ ‵ (flft κ s) ∷ Γ) (prop (Kf (of-told t))))
       → Seq K W (raw (Work .pre x) ∷ locals 𝓤 H E cs ∷ ‵ (recordsAt b o h) ∷ ‵ (open-at κ s b o γ) ∷ ‵ (obs γ h) ∷ ‵ (auth γ h)
       ∷ raw (dead 𝓤 H E) ∷ Γ) (runs C Λ E (rest-of key ops j l) (atRet E Kf))
   kept t fm at-mem run knows-tell Work knows-work x Rest gives h b o j l ops ready z =
       calls-at t fm Work knows-work x ops (λ v.
-      use1 W (later (some (λ (r : Left). ‵ (L.the-row .own r (v ∷ [])) ⊛ raw (Rest r)))) (gives v) $ await t tt $ pick t (λ r. split t $
+      use1 W (later (some (λ (r : Left). ‵ (L.the-row .own r (v ∷ [])) ⊛ raw (Rest r)))) (gives v) $ await t tt $ pick t
+      (λ r. split t $
       peeks t L.the-row (Is L.the-row) (shows 𝓤 H A L.the-row) r (v ∷ []) (λ is. drop t $
       let w : Val = LL.val L.the-type L′.the-laws r in
       -- [the rest; the locals; the records' cell; the open borrow; obs; auth; that the locals may be freed; ..]
       land t (from t (stop t)) (fill t 1 l refl (ready .0) (LL.lawful L.the-type L′.the-laws 𝓤 H A W .typed r _ is .0)) $
       rewrite t 1 (λ (u : Val). locals 𝓤 H E (with cs l (holds u))) (ap only (LL.tells L.the-type L′.the-laws r (v ∷ []) is)) refl $
       assigns t
-      (of-opd t (load t (from t (fld t (ap (λ (σ : Ty). fieldOf σ 0) (ready .1 w .0 .1)) (stop t))) (peek-in t 1 l 0 refl (ready .1 w .0) refl)))
+      (of-opd t (load t (from t (fld t (ap
+      (λ (σ : Ty). fieldOf σ 0) (ready .1 w .0 .1)) (stop t))) (peek-in t 1 l 0 refl (ready .1 w .0) refl)))
       (from t (hop t (peek t 1 j refl (ready .1 w .1)) (stop t)))
       (store-raw t 2 refl (LL.lawful P.the-type P′.the-laws 𝓤 H A W .typed (r .procs) _ (records-are r v is) .0)) $
       owned t P.the-row (Is P.the-row) (LL.makes P.the-type P′.the-plain 𝓤 H A) (r .procs) _ (records-are r v is) $
@@ -245,19 +249,22 @@ module _ {M : Type 1} (𝓤 : URA M) (H : Heap 𝓤) (Z : Setting 𝓤 H) (n : �
         ∷ ‵ (shut (κs .1 .1 .0) (x .ptr .0) (x .ptr .1) (x .name)) ∷ ‵ tp ∷ [])) (Exit (of-told t))
     ends r t e =
         qed (Z .W) (‵ (O.the-row .own t (of-told t ∷ []))
-        ∷ ((‵ tf ⊛ ‵ tb ⊛ raw Others) ⊛ some (λ (ws : Ws). ‵ (said-with (ws .0) (ws .1 .0) ftrue (ws .1 .1 .1)) ⊛ raw (fact 𝓤 (Did ws r))))
+        ∷ ((‵ tf ⊛ ‵ tb ⊛ raw Others) ⊛ some
+        (λ (ws : Ws). ‵ (said-with (ws .0) (ws .1 .0) ftrue (ws .1 .1 .1)) ⊛ raw (fact 𝓤 (Did ws r))))
         ∷ ‵ (obs (x .name) (r .procs)) ∷ ‵ (shut (κs .1 .1 .0) (x .ptr .0) (x .ptr .1) (x .name)) ∷ ‵ tp ∷ []) ∵
         move ! (1 ∷ []) $ split ! $ move ! (1 ∷ []) $ pick ! (λ ws. split ! $ move ! (1 ∷ []) $ heard ! (Did ws r) (λ did.
         -- [what is said of the last values; the tokens; what the result owns; obs; the borrow; the records' token]
         fsplit ! $ move ! (1 ∷ []) $ fsplit ! $ move ! (1 ∷ []) $ fsplit ! $ drop ! $
         move ! (5 ∷ []) $ use1 (Z .W) (‵ (last (r .procs))) (Z .W .names .obs-res (x .name) (P.the-row .coded .code (r .procs))) $
         -- [the records' last value; what is said of the others', of book, of frames; the tokens; what the result owns; ..]
-        fjoin ! $ move ! (1 ∷ 0 ∷ []) $ fjoin ! $ move ! (1 ∷ 0 ∷ []) $ fjoin ! $ move ! (1 ∷ []) $ split ! $ move ! (1 ∷ []) $ split ! $
+        fjoin ! $ move ! (1 ∷ 0 ∷ []) $ fjoin ! $ move ! (1 ∷ 0 ∷ []) $ fjoin ! $ move ! (1 ∷ []) $ split ! $ move ! (1 ∷ []) $
+        split ! $
         move ! (6 ∷ 1 ∷ []) $ join ! $ move ! (1 ∷ 0 ∷ []) $ join ! $ move ! (1 ∷ 0 ∷ []) $ join ! $
         -- [all tokens; what is said of the last values; what the result owns; ..]
         updating ! $ at-once ! $ show ! (Back (of-told t)) t $ move ! (0 ∷ 2 ∷ []) $ join ! $ frame ! $
         show ! (Last t) (ws .0, (ws .1 .0, (r .procs, ws .1 .1 .1))) $
-        says ! (tells s c (stateOf (ws .0) (ws .1 .0) (r .procs)) (r .answer) (buffer (ws .1 .1 .1)) t did e) $ keep ! (0 ∷ []) $ done !))
+        says ! (tells s c (stateOf (ws .0) (ws .1 .0) (r .procs)) (r .answer) (buffer (ws .1 .1 .1)) t did e) $ keep ! (0 ∷ []) $
+        done !))
 
     -- all that is known of the call is its contract: what it asks is there, and what it gives is what the exported function tells
     module _ (key : Name) (Work : Contract 𝓤) (knows-work : Triple 𝓤 (Z .C key) Work) (y : Work .Ghost)
@@ -272,7 +279,8 @@ module _ {M : Type 1} (𝓤 : URA M) (H : Heap 𝓤) (Z : Setting 𝓤 H) (n : �
       -- the locals: 0 is the result, 3 the reference to the records, k the records, l what the call left. `lends` lends the slices on
       pub exported : {E : List (Ty × ℕ)} {cs cs′ : List Cell} (k l : ℕ) {τ : Ty} {ops : List Opd} {rest : Body}
           → At E cs 3 τ (holds (vptr (x .ptr .0) (x .ptr .1))) → At E cs k P′.mir empty
-          → ((Γ : List (Item 𝓤)) → Step (Go {0}) (Z .W) (locals 𝓤 H E cs′ ∷ Γ) (runs (Z .C) (Z .Λ) E (rest-of key ops 3 l) (atRet E Exit))
+          → ((Γ : List (Item 𝓤)) → Step (Go {0}) (Z .W) (locals 𝓤 H E cs′
+          ∷ Γ) (runs (Z .C) (Z .Λ) E (rest-of key ops 3 l) (atRet E Exit))
           (locals 𝓤 H E (with cs k (holds (of-procs (x .now)))) ∷ Γ) (runs (Z .C) (Z .Λ) E rest (atRet E Exit)))
           → ((Γ : List (Item 𝓤)) → Opds (Go {0}) (Z .W) (raw (Work .pre y) ∷ locals 𝓤 H E cs′ ∷ Γ) E ops (Work .args y))
           → Ready E cs′ 3 l τ (vptr (x .ptr .0) (x .ptr .1))

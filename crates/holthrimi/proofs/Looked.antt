@@ -56,7 +56,8 @@ module _ {M : Type 1} {𝓤 : URA M} {H : Heap 𝓤} {A : Atoms 𝓤} {K : Type 
   -- the records are copied to local k from behind the `&` in local j
   pub looked : K → (j k : ℕ) {κ : Lft} {s : Share} (h : Procs) (b o : ℕ) {τ : Ty} {rest : Body}
       → At E cs j τ (holds (vptr b o)) → At E cs k P′.mir empty
-      → (Is P.the-row h (of-procs h ∷ []) → Seq K W (locals 𝓤 H E (with cs k (holds (of-procs h))) ∷ ‵ (flft κ s) ∷ Γ) (runs C Λ E rest q))
+      → (Is P.the-row h (of-procs h ∷ []) → Seq K W (locals 𝓤 H E (with cs k (holds (of-procs h))) ∷ ‵ (flft κ s)
+      ∷ Γ) (runs C Λ E rest q))
       → Seq K W (‵ (fshr-bor κ (λ r. partAt P.the-row r h b o)) ∷ ‵ (flft κ s) ∷ locals 𝓤 H E cs ∷ Γ)
       (runs C Λ E (seq (assign (place k []) (rvOpd (copy (place j (deref P′.mir ∷ []))))) rest) q)
   looked t j k h b o at-j at-k z =
@@ -153,7 +154,8 @@ module _ {M : Type 1} (𝓤 : URA M) (H : Heap 𝓤) (Z : Setting 𝓤 H) (n : �
 
     abbrev Gives : Val → SProp 𝓤
     Gives v =
-        H .⇛ (ex 𝓤 (λ (r : Answer). sep 𝓤 (sep 𝓤 Tokens (means (result v r))) (ex 𝓤 (λ (ws : Ws). sep 𝓤 (means (last-said ws)) (fact 𝓤 (Did r ws))))))
+        H .⇛ (ex 𝓤 (λ (r : Answer). sep 𝓤 (sep 𝓤 Tokens (means (result v r))) (ex 𝓤
+        (λ (ws : Ws). sep 𝓤 (means (last-said ws)) (fact 𝓤 (Did r ws))))))
 
     -- what the exported function gives: the same, with the answer told
     abbrev Last : Told → Ws → SProp 𝓤
@@ -171,9 +173,11 @@ module _ {M : Type 1} (𝓤 : URA M) (H : Heap 𝓤) (Z : Setting 𝓤 H) (n : �
       -- the locals: 0 is the result, 3 the reference to the records, k the records, l the call's answer. `lends` lends slices on
       pub exported : {E : List (Ty × ℕ)} {cs cs′ : List Cell} (k l : ℕ) {τ : Ty} {ops : List Opd} {rest : Body}
           → At E cs 3 τ (holds (vptr (x .ptr .0) (x .ptr .1))) → At E cs k P′.mir empty
-          → ((Γ : List (Item 𝓤)) → Step (Go {0}) (Z .W) (locals 𝓤 H E cs′ ∷ Γ) (runs (Z .C) (Z .Λ) E (rest-of key ops l) (atRet E Exit))
+          → ((Γ : List (Item 𝓤)) → Step (Go {0}) (Z .W) (locals 𝓤 H E cs′
+          ∷ Γ) (runs (Z .C) (Z .Λ) E (rest-of key ops l) (atRet E Exit))
           (locals 𝓤 H E (with cs k (holds (of-procs (x .now)))) ∷ Γ) (runs (Z .C) (Z .Λ) E rest (atRet E Exit)))
-          → ((Γ : List (Item 𝓤)) → Opds (Go {0}) (Z .W) (raw (Work .pre y) ∷ locals 𝓤 H E cs′ ∷ Γ) E ops (Work .args y)) → Ready E cs′ l
+          → ((Γ : List (Item 𝓤)) → Opds (Go {0}) (Z .W) (raw (Work .pre y) ∷ locals 𝓤 H E cs′ ∷ Γ) E ops (Work .args y))
+          → Ready E cs′ l
           → Seq (Go {0}) (Z .W) (locals 𝓤 H E cs ∷ raw (dead 𝓤 H E) ∷ raw Enter ∷ [])
           (runs (Z .C) (Z .Λ) E (seq (assign (place k []) (rvOpd (copy (place 3 (deref P′.mir ∷ []))))) rest) (atRet E Exit))
       exported {E} {cs} {cs′} k l at-3 at-k lends ops ready =
@@ -196,10 +200,13 @@ module _ {M : Type 1} (𝓤 : URA M) (H : Heap 𝓤) (Z : Setting 𝓤 H) (n : �
           move ! (1 ∷ []) $ peeks ! N.the-row (Is N.the-row) (shows 𝓤 H (Z .A) N.the-row) r (v ∷ []) (λ are. drop ! $
           -- [the tokens; what is said of the last values; the locals; the records' token; that the locals may be freed]
           land ! (from ! (stop !)) (fill ! 2 l refl (ready .0) (EL.lawful N.the-type N′.the-laws 𝓤 H (Z .A) (Z .W) tt .typed r _ are .0)) $
-          rewrite ! 2 (λ (u : Val). locals 𝓤 H E (with cs′ l (holds u))) (ap only (EL.tells N.the-type N′.the-laws r (v ∷ []) are)) refl $
+          rewrite ! 2 (λ (u : Val). locals 𝓤 H E (with cs′ l (holds u))) (ap only (EL.tells N.the-type N′.the-laws r (v
+          ∷ []) are)) refl $
           move ! (2 ∷ 4 ∷ []) $
-          told ! (Z .fm) (Z .at-mem) (Z .run) (Z .knows-tell) r (subst (Is N.the-row r) (EL.tells N.the-type N′.the-laws r (v ∷ []) are) are)
-          (load ! (from ! (stop !)) (peek ! 1 l refl (ready .1 _ .0))) (ready .1 _ .1) (λ u. ready .2 _ u .0) (λ u. ready .2 _ u .1) (λ t e.
+          told ! (Z .fm) (Z .at-mem) (Z .run) (Z .knows-tell) r (subst (Is N.the-row r) (EL.tells N.the-type N′.the-laws r (v
+          ∷ []) are) are)
+          (load ! (from ! (stop !)) (peek ! 1 l refl (ready .1 _ .0))) (ready .1 _ .1) (λ u. ready .2 _ u .0)
+          (λ u. ready .2 _ u .1) (λ t e.
           -- [what the result owns; the tokens; what is said of the last values; the records' token]
           move ! (1 ∷ []) $ split ! $ move ! (1 ∷ []) $ split ! $ move ! (5 ∷ 1 ∷ []) $ join ! $ move ! (1 ∷ 0 ∷ []) $ join ! $
           move ! (1 ∷ 0 ∷ []) $ join ! $ join ! $ updating ! $ at-once ! $ show ! (Back (of-told t)) t $ frame ! $

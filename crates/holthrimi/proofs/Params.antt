@@ -112,6 +112,7 @@ module _ {n : ℕ} where
     Fit [] a = Unit {0}
     Fit (p ∷ ps) a = (T (hasTy (lone (p .slot .row κs .mir)) (p .val κs (a .0))) × WT (p .val κs (a .0))) × Fit ps (a .1)
 
-    pub all-fit : (ps : List (Par n)) (a : Denots (rows ps)) → Are (rows ps) (Ises (rows ps)) a (valss (rows ps) (spells ps) a) → Fit ps a
+    pub all-fit : (ps : List (Par n)) (a : Denots (rows ps)) → Are (rows ps) (Ises (rows ps)) a (valss (rows ps) (spells ps) a)
+        → Fit ps a
     all-fit [] a are = tt
     all-fit (p ∷ ps) a are = (p .typed κs (a .0) (are .0), all-fit ps (a .1) (are .1))

@@ -103,16 +103,20 @@ Lends E cs i t s r ρ σ =
 
 module _ {M : Type 1} {𝓤 : URA M} {H : Heap 𝓤} {A : Atoms 𝓤} {K : Type 0} {W : Given 𝓤 H A} {Γ : List (Item 𝓤)}
     {E : List (Ty × ℕ)} {cs : List Cell} where
-  pub relent : {C : Calls 𝓤 H} {Λ : Loops 𝓤 H} {q : Post 𝓤 H} → K → (i t s : ℕ) (r : RefT (List ℕ)) {ρ ρ′ τ : Ty} {ℓ : Lifetime} {rest : Body}
+  pub relent : {C : Calls 𝓤 H} {Λ : Loops 𝓤 H} {q : Post 𝓤 H} → K
+      → (i t s : ℕ) (r : RefT (List ℕ)) {ρ ρ′ τ : Ty} {ℓ : Lifetime} {rest : Body}
       → length (r .now) < 2 ^ 64 → Lends E cs i t s r ρ (tyRef ℓ mut ρ′)
-      → Step K W (locals 𝓤 H E (with (with cs t (holds (pointer r))) s (holds (slice r))) ∷ Γ) (runs C Λ E rest q) (locals 𝓤 H E cs ∷ Γ)
+      → Step K W (locals 𝓤 H E (with (with cs t (holds (pointer r))) s (holds (slice r)))
+      ∷ Γ) (runs C Λ E rest q) (locals 𝓤 H E cs ∷ Γ)
       (runs C Λ E (seq (assign (place t []) (addrOf (place i (field 0 ∷ deref τ ∷ []))))
       (seq (assign (place s []) (aggregate (copy (place t []) ∷ copy (place i (field 1 ∷ [])) ∷ []))) rest)) q)
   relent k i t s r fits are = step (λ z.
-      assigns k (addr k (from k (fld k (ap (λ (τ : Ty). fieldOf τ 0) (are .0 .1)) (hop k (peek-in k 0 i 0 refl (are .0) refl) (stop k)))))
+      assigns k (addr k (from k (fld k (ap
+      (λ (τ : Ty). fieldOf τ 0) (are .0 .1)) (hop k (peek-in k 0 i 0 refl (are .0) refl) (stop k)))))
       (from k (stop k)) (fill k 0 t refl (are .1) (tt, tt)) $
       assigns k (agg k (and-then k (load k (from k (stop k)) (peek k 0 t refl (are .3)))
-      (and-then k (load k (from k (fld k (ap (λ (τ : Ty). fieldOf τ 1) (are .0 .1)) (stop k))) (peek-in k 0 i 1 refl (are .2) refl)) (no-more k))))
+      (and-then k (load k (from k (fld k (ap
+      (λ (τ : Ty). fieldOf τ 1) (are .0 .1)) (stop k))) (peek-in k 0 i 1 refl (are .2) refl)) (no-more k))))
       (from k (stop k)) (fill k 0 s refl (are .4) (tt, (tt, (record { fits = fits }, tt)))) $ z)
 
   -- local i is an argument of the call, before others
@@ -152,14 +156,17 @@ module _ {M : Type 1} {𝓤 : URA M} {H : Heap 𝓤} {A : Atoms 𝓤} {K : Type 
     {Λ : Loops 𝓤 H} {E : List (Ty × ℕ)} {cs : List Cell} {Kf : Val → SProp 𝓤} where
   pub told : K → FmC 𝓤 H (W .laws) C → (at-mem : Memory → SProp 𝓤) (run : Routine → Fun 𝓤) → Triple 𝓤 (C #tell) (Tell 𝓤 H A at-mem run)
       → (a : Answer) → Is N.the-row a (of-answer a ∷ []) → {op : Opd}
-      → Reading K W (raw (Tell 𝓤 H A at-mem run .pre (to-tell 𝓤 H A at-mem run a)) ∷ locals 𝓤 H E cs ∷ raw (dead 𝓤 H E) ∷ Γ) E op (of-answer a)
-      → At E cs 0 O′.mir empty → ((u : Val) → At E (with cs 0 (holds u)) 0 O′.mir (holds u)) → ((u : Val) → Whole (with cs 0 (holds u)))
+      → Reading K W (raw (Tell 𝓤 H A at-mem run .pre (to-tell 𝓤 H A at-mem run a)) ∷ locals 𝓤 H E cs ∷ raw (dead 𝓤 H E)
+      ∷ Γ) E op (of-answer a)
+      → At E cs 0 O′.mir empty → ((u : Val) → At E (with cs 0 (holds u)) 0 O′.mir (holds u)) → ((u : Val)
+      → Whole (with cs 0 (holds u)))
       → ((o : Told) → o ≡ toldOf a → Seq K W (‵ (O.the-row .own o (of-told o ∷ [])) ∷ Γ) (prop (Kf (of-told o))))
       → Seq K W (locals 𝓤 H E cs ∷ raw (dead 𝓤 H E) ∷ Γ) (runs C Λ E (seq (call #tell (op ∷ []) (place 0 [])) return) (atRet E Kf))
   told t fm at-mem run knows a is opd at-0 at-0′ whole z =
       use0 W (raw (Tell 𝓤 H A at-mem run .pre (to-tell 𝓤 H A at-mem run a))) (goes-tell 𝓤 H A at-mem run W a is) $
       calls-at t fm (Tell 𝓤 H A at-mem run) knows (to-tell 𝓤 H A at-mem run a) (and-then t opd (no-more t)) (λ u.
-      use1 W (later (some (λ (o : Told). (‵ ftrue ⊛ ‵ (O.the-row .own o (u ∷ []))) ⊛ raw (ensures-tell 𝓤 H A at-mem run a o)))) (id⊢ 𝓤 _) $
+      use1 W (later (some (λ (o : Told). (‵ ftrue ⊛ ‵ (O.the-row .own o (u
+      ∷ []))) ⊛ raw (ensures-tell 𝓤 H A at-mem run a o)))) (id⊢ 𝓤 _) $
       await t tt $ pick t (λ o. split t $ move t (1 ∷ []) $
       use1 W (raw (fact 𝓤 (o ≡ toldOf a))) (told-of 𝓤 H A at-mem run a o) $ heard t (o ≡ toldOf a) (λ e. split t $ drop t $
       peeks t O.the-row (Is O.the-row) (shows 𝓤 H A O.the-row) o (u ∷ []) (λ are.
@@ -176,7 +183,8 @@ module _ {M : Type 1} (𝓤 : URA M) (H : Heap 𝓤) (A : Atoms 𝓤) (S : Signa
 
   pub walks : (sp : (κs : Lfts (S .lifetimes)) → Spells (Ts κs)) → ((κs : Lfts (S .lifetimes)) → Tellss (Ts κs) (Ises (Ts κs)) (sp κs))
       → ((κs : Lfts (S .lifetimes)) (qs : Shares (S .lifetimes)) (bounds : AllOutlive (S .lifetimes) (S .outlives) κs) (a : Args S κs)
-      (g : c κs a .ghost) → Are (Ts κs) (Ises (Ts κs)) a (valss (Ts κs) (sp κs) a) → ent 𝓤 (onEntry 𝓤 H A S κs qs a (valss (Ts κs) (sp κs) a))
+      (g : c κs a .ghost) → Are (Ts κs) (Ises (Ts κs)) a (valss (Ts κs) (sp κs) a)
+      → ent 𝓤 (onEntry 𝓤 H A S κs qs a (valss (Ts κs) (sp κs) a))
       (run (flat (Ts κs) (valss (Ts κs) (sp κs) a)) (tripleOf 𝓤 H A S c .post ((κs, qs, bounds, a, valss (Ts κs) (sp κs) a), g))))
       → Meets 𝓤 H A S run c
   walks sp tl k y =
