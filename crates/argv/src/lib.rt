@@ -10,7 +10,7 @@ ghost use Rattle.spec.specs.Frames.{memOf, put};
 ghost use Rattle.spec.specs.Access.{copyStr};
 ghost use Rattle.spec.specs.Exec.{argBuffer, stackSize, copyArgv};
 ghost use Rattle.sound.specs.Table.{Ready};
-ghost use Rattle.pagealloc.specs.Lent.{store};
+ghost use Rattle.book.specs.Lent.{store};
 ghost use Rattle.args.specs.Sizes.{saturated};
 ghost use Rattle.argv.specs.Reading.{pointerAt, moreOf, withString, argvOf};
 

@@ -2,19 +2,14 @@
 // them, and answers. No caller has anything to check: no call has a `requires`. What a call leaves and answers is what `after` and
 // `answer` of the specification say, refusals too.
 
-// The calls.
-mod call_brk;
-mod call_copy_from_user;
-mod call_copy_to_user;
-mod call_end;
-mod call_fork;
-mod call_try_copy_str_from_user;
-mod call_user_range_ok;
-
-pub use call_brk::brk;
-pub use call_copy_from_user::copy_from_user;
-pub use call_copy_to_user::copy_to_user;
-pub use call_end::end;
-pub use call_fork::fork;
-pub use call_try_copy_str_from_user::try_copy_str_from_user;
-pub use call_user_range_ok::user_range_ok;
+pub use access::copy_from_user;
+pub use access::copy_to_user;
+pub use access::try_copy_str_from_user;
+pub use access::user_range_ok;
+pub use brk::brk;
+pub use end::end;
+pub use fork::fork;
+pub use front::left::Left;
+pub use push::push;
+pub use replace::replace;
+pub use start::start;

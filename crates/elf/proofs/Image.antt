@@ -12,8 +12,9 @@ use Rattle.spec.specs.Tests.{_is_, _isnt_, _below_, _above_, _⇒_else_, _orEls
 use Rattle.spec.specs.Elf.{magic, entry, phoff, phnum, ehdrError, phdrs, phdrError, segmentsOf, entryInText, elfError, errorNumber}
 use Rattle.spec.specs.declared.ElfError.{ElfError}
 use Rattle.spec.specs.declared.ElfError.the-variants.{Truncated, BadMagic}
-use Rattle.elf.specs.Reader.{Said, said, parsed, ehdrOf, fieldsError, left, scanError, imageError}
-use Rattle.elf.specs.declared.Ehdr.{Ehdr}
+use Rattle.header.specs.Header.{ehdrOf, fieldsError}
+use Rattle.elf.specs.Reader.{Said, said, parsed, left, scanError, imageError}
+use Rattle.header.specs.declared.Ehdr.{Ehdr}
 use Rattle.elf.specs.declared.Elf.{Elf as Held}
 use Rattle.elf.specs.declared.Parsed.{Parsed}
 use Rattle.elf.specs.declared.Parsed.the-variants.{Elf, Refused}

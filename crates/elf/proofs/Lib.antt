@@ -1,5 +1,3 @@
-pub mod Join
-pub mod Same
 pub mod Image
 pub mod Walk
 pub mod Errors

@@ -1,4 +1,4 @@
--- What the reader's types stand for in the specification: a header's fields, a segment, and the answer of `parse` with the scope's number.
+-- What the reader's types stand for in the specification: a segment, a step over one header, and the answer of `parse` with the scope's number.
 -- Assumes nothing.
 use Prim.Native.Nat.{ℕ, _+_, _-_, _*_, _%_, _^_, _≤_}
 use mathlib.Core.Path.{_≡_}
@@ -6,11 +6,10 @@ use mathlib.Core.Bool.{Bool, true, false, not, _&&_, _||_}
 use mathlib.Core.List.{List, [], _∷_, map}
 use lib.ListN.{length, take, drop}
 use Rattle.spec.specs.Tests.{_is_, _isnt_, _above_, _⇒_else_, _orElse_, any, filter}
-use Rattle.spec.specs.Numbers.{le}
 use Rattle.spec.specs.Elf.{Phdr, Segment as Loadable, phdrsFrom, loads, flagPerm, phdrError, segmentOf, inFile, errorNumber, entry, phoff, phnum, elfError}
 use Rattle.spec.specs.declared.ElfError.{ElfError}
-use Rattle.elf.specs.declared.Ehdr.{Ehdr}
-use Rattle.elf.specs.declared.Phdr.{Phdr as Read}
+use Rattle.header.specs.declared.Ehdr.{Ehdr}
+use Rattle.header.specs.Header.{fieldsError}
 use Rattle.elf.specs.declared.Seen.{Seen}
 use Rattle.elf.specs.declared.Step.{Step}
 use Rattle.elf.specs.declared.Step.the-variants.{Stop, Next}
@@ -19,15 +18,8 @@ use Rattle.elf.specs.declared.Parsed.the-variants.{Elf, Refused as No}
 use Rattle.elf.specs.declared.Segment.{Segment as Held}
 use Rattle.elf.specs.declared.Load.{Load}
 use Rattle.elf.specs.declared.Load.the-variants.{Skip, Segment}
-use Rattle.elf.specs.declared.Verdict.{Verdict}
-use Rattle.elf.specs.declared.Verdict.the-variants.{Fine, Refused}
 
 -- ---- answers
-
--- the scope's number of a verdict, 0 where nothing is refused
-abbrev pub verdictNumber : Verdict → ℕ
-verdictNumber Fine = 0
-verdictNumber (Refused e) = errorNumber e
 
 -- what `parse` says: the scope's number, 0 for an image that is accepted, and then where it is entered and where its headers stand
 pub record Said : Type 0 where
@@ -63,40 +55,6 @@ pub record Checked (n : ℕ) (g : Held) : Type 0 where
 abbrev pub CheckedLoad : ℕ → Load → Type 0
 CheckedLoad n Skip = Unit {0}
 CheckedLoad n (Segment g) = Checked n g
-
--- ---- headers
-
--- the fields of the ELF header
-abbrev pub ehdrOf : List ℕ → Ehdr
-ehdrOf image = record {
-  class = le 1 image 4;
-  encoding = le 1 image 5;
-  ident = le 1 image 6;
-  kind = le 2 image 16;
-  machine = le 2 image 18;
-  version = le 4 image 20;
-  entry = le 8 image 24;
-  phoff = le 8 image 32;
-  phentsize = le 2 image 54;
-  phnum = le 2 image 56;
-}
-
--- checks 13 to 20 of those fields, in an image of n bytes
-unfoldable pub fieldsError : ℕ → Ehdr → ℕ
-fieldsError n h =
-    h .class isnt 2 ⇒ 13 else
-    h .encoding isnt 1 ⇒ 14 else
-    h .ident isnt 1 || h .version isnt 1 ⇒ 15 else
-    h .kind isnt 2 ⇒ 16 else
-    h .machine isnt 183 ⇒ 17 else
-    h .phentsize isnt 56 ⇒ 18 else
-    h .entry % 4 isnt 0 ⇒ 19 else
-    h .phoff + 56 * h .phnum above n ⇒ 20 else
-    0
-
--- a program header that was read, as the specification has it
-abbrev pub phdrOf : Read → Phdr
-phdrOf p = record { type = p .kind; flags = p .flags; offset = p .offset; vaddr = p .vaddr; filesz = p .filesz; memsz = p .memsz }
 
 -- ---- the walk over the headers
 

@@ -2,4 +2,3 @@ pub mod Fitted
 pub mod Kept
 pub mod Pages
 pub mod Planned
-pub mod FileBytes

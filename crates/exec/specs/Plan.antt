@@ -1,6 +1,6 @@
 -- What the layout of an image comes to: where its segments and its bss go, and how many pages a start takes.
 -- Assumes nothing.
-use Prim.Native.Nat.{ℕ, _+_, _-_, min, max}
+use Prim.Native.Nat.{ℕ, _+_, _-_}
 use mathlib.Core.Bool.{Bool, true, false, not, _&&_, _||_}
 use mathlib.Core.List.{List, [], _∷_, _++_, map}
 use lib.ListN.{length, take, set, replicate}
@@ -19,7 +19,6 @@ use Rattle.exec.specs.declared.Fit.{Fit}
 use Rattle.exec.specs.declared.Fit.the-variants.{Fits, Refused}
 use Rattle.exec.specs.declared.Recorded.{Recorded}
 use Rattle.exec.specs.declared.Plan.{Plan}
-use Rattle.exec.specs.declared.Part.{Part}
 
 -- ---- layout
 
@@ -90,13 +89,3 @@ planOf image =
       bss = imageBss image;
       pages = pageCount (startPieces image);
     }
-
--- ---- the contents of pages
-
--- the file bytes of a segment in the page at va: at which place of the page, from which place of the image, and how many
-unfoldable pub partOf : Held → ℕ → Part
-partOf g va =
-    let low : ℕ = max va (g .vaddr) in
-    let high : ℕ = min (va + 4096) (g .vaddr + g .filesz) in
-    low below high ⇒ record { at = low - va; offset = g .offset + (low - g .vaddr); count = high - low } else
-    record { at = 0; offset = 0; count = 0 }

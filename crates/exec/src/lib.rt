@@ -1,9 +1,10 @@
-// Loading a program, as r9's exec.rs: where an image's segments and its bss go, which pages a start takes and which file bytes they hold,
-// and whether arguments fit a stack. Nothing here touches memory: a call maps what is planned here.
+// The layout of a program, as r9's exec.rs: where an image's segments and its bss go, and how many pages a start takes. Nothing here
+// touches memory: a call maps what is planned here.
+
 ghost use mathlib.Core.Path.{_≡_};
 ghost use mathlib.Core.Bool.{Bool, true, false};
 ghost use mathlib.Core.List.{List, [], _∷_, _++_};
-ghost use Prim.Native.Nat.{min, max, _+_, _-_, _*_, _/_, _%_, _^_, _≤_, _<_};
+ghost use Prim.Native.Nat.{_+_, _-_, _*_, _/_, _%_, _^_, _≤_, _<_};
 ghost use lib.ListN.{length, take, getD, replicate};
 ghost use Rattle.spec.specs.Numbers.{utzero, limit};
 ghost use Rattle.spec.specs.Book.{range, pageCount, bssSegment};
@@ -12,7 +13,7 @@ ghost use Rattle.spec.specs.Elf.{phdrAt};
 ghost use Rattle.spec.specs.Exec.{layoutOk, imageBss};
 ghost use Rattle.elf.specs.Reader.{CheckedLoad, loadOf, said, parsed};
 ghost use Rattle.elf.specs.declared.Parsed;
-ghost use Rattle.exec.specs.Plan.{fitOf, nothing, fits, pagesIn, kept, pushed, recordedWith, recorded, refusedPlan, planOf, partOf};
+ghost use Rattle.exec.specs.Plan.{fitOf, nothing, fits, pagesIn, kept, pushed, recordedWith, recorded, refusedPlan, planOf};
 use elf::Elf;
 use elf::Load;
 use elf::Parsed;
@@ -78,12 +79,12 @@ fn lay(before: Laid, g: Segment) -> Fit
 }
 
 // The layout with the segment of one more program header, if it has one.
-fn lay_header(image: &[u8], at: usize, before: Laid) -> Fit
-    requires { ⌜ at + 56 ≤ length (now image) ⌝ }
-    requires { ⌜ CheckedLoad (length (now image)) (loadOf (phdrAt (now image) at)) ⌝ }
-    ensures { λ r. ⌜ r ≡ fitOf before (loadOf (phdrAt (now (image .entry)) at)) ⌝ }
+fn lay_header(image: &[u8], h: Elf, i: usize, before: Laid) -> Fit
+    requires { ⌜ (h .phoff + 56 * h .phnum ≤ length (now image)) × (i < h .phnum) ⌝ }
+    requires { ⌜ CheckedLoad (length (now image)) (loadOf (phdrAt (now image) (h .phoff + 56 * i))) ⌝ }
+    ensures { λ r. ⌜ r ≡ fitOf before (loadOf (phdrAt (now (image .entry)) (h .phoff + 56 * i))) ⌝ }
 {
-    let l = elf::segment_at(image, at);
+    let l = checked::segment_of(image, h, i);
     match l {
         Load::Skip => Fit::Fits(before),
         Load::Segment(g) => lay(before, g),
@@ -102,12 +103,11 @@ fn layout(image: &[u8], h: Elf) -> Fit
             end: spec::UTZERO,
         },
     };
-    let mut at = h.phoff;
-    let mut k = h.phnum;
-    while k > 0 {
-        let f = lay_header(image, at, seen);
-        at += elf::PHDR_SIZE;
-        k -= 1;
+    let n = h.phnum;
+    let mut k = 0;
+    while k < n {
+        let f = lay_header(image, h, k, seen);
+        k += 1;
         match f {
             Fit::Refused => {
                 return Fit::Refused;
@@ -166,13 +166,13 @@ fn push(before: Recorded, u: UserSegment) -> Recorded
 }
 
 // The recorded segments with that of one more program header, if it has one.
-fn push_header(image: &[u8], at: usize, bss: VirtRange, before: Recorded) -> Recorded
-    requires { ⌜ at + 56 ≤ length (now image) ⌝ }
-    requires { ⌜ CheckedLoad (length (now image)) (loadOf (phdrAt (now image) at)) ⌝ }
+fn push_header(image: &[u8], h: Elf, i: usize, bss: VirtRange, before: Recorded) -> Recorded
+    requires { ⌜ (h .phoff + 56 * h .phnum ≤ length (now image)) × (i < h .phnum) ⌝ }
+    requires { ⌜ CheckedLoad (length (now image)) (loadOf (phdrAt (now image) (h .phoff + 56 * i))) ⌝ }
     requires { ⌜ (bss .start ≤ 2 ^ 64 - 4096) × (before .count < 2 ^ 63) ⌝ }
-    ensures { λ r. ⌜ r ≡ recordedWith bss before (loadOf (phdrAt (now (image .entry)) at)) ⌝ }
+    ensures { λ r. ⌜ r ≡ recordedWith bss before (loadOf (phdrAt (now (image .entry)) (h .phoff + 56 * i))) ⌝ }
 {
-    let l = elf::segment_at(image, at);
+    let l = checked::segment_of(image, h, i);
     match l {
         Load::Skip => before,
         Load::Segment(g) => push(before, user_segment(bss, g)),
@@ -191,12 +191,11 @@ fn segments(image: &[u8], h: Elf, bss: VirtRange) -> Recorded
     };
     let segments = [zero; 16];
     let mut seen = Recorded { segments, count: 0 };
-    let mut at = h.phoff;
-    let mut k = h.phnum;
-    while k > 0 {
-        seen = push_header(image, at, bss, seen);
-        at += elf::PHDR_SIZE;
-        k -= 1;
+    let n = h.phnum;
+    let mut k = 0;
+    while k < n {
+        seen = push_header(image, h, k, bss, seen);
+        k += 1;
     }
     seen
 }
@@ -308,52 +307,5 @@ pub fn plan_of(image: &[u8]) -> Plan
     match p {
         Parsed::Refused(e) => refused(spec::EBADEXEC, elf::error_number(e)),
         Parsed::Elf(h) => plan_parsed(image, h),
-    }
-}
-
-// Which file bytes a page holds: `count` bytes of the image from `offset` on, at place `at` of the page.
-pub struct Part {
-    pub at: usize,
-    pub offset: usize,
-    pub count: usize,
-}
-
-fn max(a: u64, b: u64) -> u64
-    ensures { λ r. ⌜ r ≡ max a b ⌝ }
-{
-    if a < b {
-        return b;
-    }
-    a
-}
-
-fn min(a: u64, b: u64) -> u64
-    ensures { λ r. ⌜ r ≡ min a b ⌝ }
-{
-    if a < b {
-        return a;
-    }
-    b
-}
-
-// The file bytes of a segment in the page at `va`, as r9's load_segment finds them. The page holds zero elsewhere.
-pub fn file_part(g: Segment, va: u64) -> Part
-    requires { ⌜ (va + 4096 < 2 ^ 64) × (g .vaddr + g .filesz < 2 ^ 64) ⌝ }
-    requires { ⌜ g .offset + g .filesz < 2 ^ 64 ⌝ }
-    ensures { λ r. ⌜ r ≡ partOf g va ⌝ }
-{
-    let low = max(va, g.vaddr);
-    let high = min(va + spec::PAGE_SIZE_4K, g.vaddr + g.filesz as u64);
-    if low >= high {
-        return Part {
-            at: 0,
-            offset: 0,
-            count: 0,
-        };
-    }
-    Part {
-        at: (low - va) as usize,
-        offset: g.offset + (low - g.vaddr) as usize,
-        count: (high - low) as usize,
     }
 }

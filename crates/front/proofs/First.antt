@@ -13,7 +13,7 @@ use Rattle.spec.specs.Frames.{sized}
 use Rattle.spec.specs.World.{State, sound, taken}
 use Rattle.spec.proofs.Bools.{both, split, clash, not-true, within-means}
 use Rattle.spec.proofs.Chain.{here, past, is-through, isnt-through, not-holds, not-fails}
-use Rattle.pagealloc.specs.Lent.{store}
+use Rattle.book.specs.Lent.{store}
 use Rattle.front.specs.Numbers.{numberError, plainError, beginError, forkError}
 
 -- ---- in code: a test b of what the specification calls b′ gives its number, or the next is looked for

@@ -9,7 +9,7 @@ use Rattle.spec.specs.Frames.{sized}
 use Rattle.spec.specs.Machine.{Ask, Call}
 use Rattle.spec.specs.World.{State, sound, taken}
 use Rattle.spec.specs.declared.Procs.{Procs}
-use Rattle.pagealloc.specs.Lent.{store}
+use Rattle.book.specs.Lent.{store}
 
 -- frames, book and records as a state
 abbrev pub stateOf : List ℕ → List ℕ → Procs → State

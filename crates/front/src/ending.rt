@@ -14,6 +14,6 @@ pub fn forget(book: &mut [u64], procs: Procs, number: u64) -> Procs
     requires { ⌜ valid number ≡ true ⌝ }
     ensures { λ r. ⌜ ((frames : List ℕ) → stateOf frames (now (book .exit)) r ≡ forget (stateOf frames (now (book .entry)) procs) number) ⌝ }
 {
-    pagealloc::release::release_owner(book, number);
+    book::release_owner(book, number);
     crate::record::with_proc(procs, number, crate::record::zero_proc())
 }

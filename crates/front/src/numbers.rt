@@ -4,7 +4,7 @@ ghost use mathlib.Core.Path.{_≡_};
 ghost use lib.ListN.{length};
 ghost use Rattle.spec.specs.Frames.{sized};
 ghost use Rattle.sound.specs.Table.{Blank, Ready};
-ghost use Rattle.pagealloc.specs.Lent.{store};
+ghost use Rattle.book.specs.Lent.{store};
 ghost use Rattle.front.specs.Numbers.{stateOf, numberError, plainError, beginError, forkError};
 use crate::record::is_number;
 use crate::record::lives;

@@ -61,5 +61,5 @@ pub fn lives(procs: Procs, number: u64) -> bool
         return false;
     }
     let p = proc_at(procs, number);
-    sound::lives(p)
+    records::lives(p)
 }

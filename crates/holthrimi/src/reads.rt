@@ -22,7 +22,7 @@ pub extern "C" fn holthrimi_user_range_ok(
     ensures { λ r. ⌜ Tells (stateOf (now (frames .entry)) (now (book .entry)) (now (procs .entry))) (call number (user-range-ok addr len write)) (stateOf (now (frames .entry)) (now (book .entry)) (now (procs .entry))) r [] ⌝ }
 {
     let records = *procs;
-    let answer = calls::user_range_ok(frames, book, records, number, addr, len, write);
+    let answer = access::user_range_ok(frames, book, records, number, addr, len, write);
     told::tell(answer)
 }
 
@@ -38,6 +38,6 @@ pub extern "C" fn holthrimi_try_copy_str_from_user(
     ensures { λ r. ⌜ Tells (stateOf (now (frames .entry)) (now (book .entry)) (now (procs .entry))) (call number (try-copy-str-from-user (now (dst .entry)) src)) (stateOf (now (frames .entry)) (now (book .entry)) (now (procs .entry))) r (now (dst .exit)) ⌝ }
 {
     let records = *procs;
-    let answer = calls::try_copy_str_from_user(frames, book, records, number, dst, src);
+    let answer = access::try_copy_str_from_user(frames, book, records, number, dst, src);
     told::tell(answer)
 }

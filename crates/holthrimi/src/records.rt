@@ -77,7 +77,7 @@ pub extern "C" fn holthrimi_break(
     ensures { λ r. ⌜ Tells (stateOf (now (frames .entry)) (now (book .entry)) (now (procs .entry))) (call number (break addr)) (stateOf (now (frames .exit)) (now (book .exit)) (now (procs .exit))) r [] ⌝ }
 {
     let before = *procs;
-    let left = calls::brk(frames, book, before, number, addr);
+    let left = brk::brk(frames, book, before, number, addr);
     *procs = left.procs;
     told::tell(left.answer)
 }
@@ -94,7 +94,7 @@ pub extern "C" fn holthrimi_fork(
     ensures { λ r. ⌜ Tells (stateOf (now (frames .entry)) (now (book .entry)) (now (procs .entry))) (call number (fork child (used (procAt (now (procs .entry)) number .segments)))) (stateOf (now (frames .exit)) (now (book .exit)) (now (procs .exit))) r [] ⌝ }
 {
     let before = *procs;
-    let left = calls::fork(frames, book, before, number, child);
+    let left = fork::fork(frames, book, before, number, child);
     *procs = left.procs;
     told::tell(left.answer)
 }
@@ -109,7 +109,7 @@ pub extern "C" fn holthrimi_end(
     ensures { λ r. ⌜ Tells (stateOf (now (frames .entry)) (now (book .entry)) (now (procs .entry))) (call number end) (stateOf (now (frames .exit)) (now (book .exit)) (now (procs .exit))) r [] ⌝ }
 {
     let before = *procs;
-    let left = calls::end(frames, book, before, number);
+    let left = end::end(frames, book, before, number);
     *procs = left.procs;
     told::tell(left.answer)
 }
@@ -126,7 +126,7 @@ pub extern "C" fn holthrimi_copy_from_user(
     ensures { λ r. ⌜ Tells (stateOf (now (frames .entry)) (now (book .entry)) (now (procs .entry))) (call number (copy-from-user (now (dst .entry)) src)) (stateOf (now (frames .exit)) (now (book .exit)) (now (procs .exit))) r (now (dst .exit)) ⌝ }
 {
     let before = *procs;
-    let left = calls::copy_from_user(frames, book, before, number, dst, src);
+    let left = access::copy_from_user(frames, book, before, number, dst, src);
     *procs = left.procs;
     told::tell(left.answer)
 }
@@ -143,7 +143,7 @@ pub extern "C" fn holthrimi_copy_to_user(
     ensures { λ r. ⌜ Tells (stateOf (now (frames .entry)) (now (book .entry)) (now (procs .entry))) (call number (copy-to-user dst (now (bytes .entry)))) (stateOf (now (frames .exit)) (now (book .exit)) (now (procs .exit))) r [] ⌝ }
 {
     let before = *procs;
-    let left = calls::copy_to_user(frames, book, before, number, dst, bytes);
+    let left = access::copy_to_user(frames, book, before, number, dst, bytes);
     *procs = left.procs;
     told::tell(left.answer)
 }

@@ -11,7 +11,8 @@ ghost use Rattle.spec.specs.Frames.{pagesOf, place};
 ghost use Rattle.spec.specs.Elf.{phdrAt, segmentsOf};
 ghost use Rattle.spec.specs.Exec.{layoutOk, imageBss, imageError, startPieces, fileByte};
 ghost use Rattle.elf.specs.Reader.{loadOf, CheckedLoad, said, parsed};
-ghost use Rattle.pagealloc.specs.Lent.{store, Passed};
+ghost use Rattle.book.specs.Lent.{store};
+ghost use Rattle.pagealloc.specs.Lent.{Passed};
 ghost use Rattle.load.specs.Pages.{segmentPages, loadPages, LaidLoad};
 use elf::Elf;
 use elf::Load;
@@ -25,32 +26,24 @@ fn load_header(
     top: usize,
     owner: u64,
     image: &[u8],
-    at: usize,
+    h: Elf,
+    i: usize,
     bss: VirtRange,
 ) -> usize
-    requires { ⌜ (length (now frames) ≡ 4096 * length (now book)) × (1 ≤ owner) × (owner < 256) × (at + 56 ≤ length (now image)) × (bss .start ≤ limit) ⌝ }
-    requires { ⌜ CheckedLoad (length (now image)) (loadOf (phdrAt (now image) at)) × LaidLoad (loadOf (phdrAt (now image) at)) ⌝ }
+    requires { ⌜ (length (now frames) ≡ 4096 * length (now book)) × (1 ≤ owner) × (owner < 256) × (h .phoff + 56 * h .phnum ≤ length (now image)) × (i < h .phnum) × (bss .start ≤ limit) ⌝ }
+    requires { ⌜ CheckedLoad (length (now image)) (loadOf (phdrAt (now image) (h .phoff + 56 * i))) × LaidLoad (loadOf (phdrAt (now image) (h .phoff + 56 * i))) ⌝ }
     requires { ⌜ Passed top (now book) ⌝ }
-    ensures { λ _. ⌜ store (now (frames .exit)) (now (book .exit)) ≡ place (store (now (frames .entry)) (now (book .entry))) owner (loadPages (now (image .entry)) bss (loadOf (phdrAt (now (image .entry)) at))) ⌝ }
+    ensures { λ _. ⌜ store (now (frames .exit)) (now (book .exit)) ≡ place (store (now (frames .entry)) (now (book .entry))) owner (loadPages (now (image .entry)) bss (loadOf (phdrAt (now (image .entry)) (h .phoff + 56 * i)))) ⌝ }
     ensures { λ r. ⌜ Passed r (now (book .exit)) ⌝ }
 {
-    let l = elf::segment_at(image, at);
+    let l = checked::segment_of(image, h, i);
     match l {
         Load::Skip => top,
         Load::Segment(g) => {
             let recorded = exec::user_segment(bss, g);
-            let from = g.offset;
-            let to = from + g.filesz;
             let vaddr = g.vaddr;
-            pagealloc::place::load_segment(
-                frames,
-                book,
-                top,
-                owner,
-                recorded,
-                vaddr,
-                &image[from..to],
-            )
+            let file = checked::file_of(image, h, g);
+            pagealloc::place::load_segment(frames, book, top, owner, recorded, vaddr, file)
         }
     }
 }
@@ -70,12 +63,11 @@ fn load_segments(
     ensures { λ r. ⌜ Passed r (now (book .exit)) ⌝ }
 {
     let mut top = book.len();
-    let mut at = h.phoff;
-    let mut k = h.phnum;
-    while k > 0 {
-        top = load_header(frames, book, top, owner, image, at, bss);
-        at += elf::PHDR_SIZE;
-        k -= 1;
+    let n = h.phnum;
+    let mut i = 0;
+    while i < n {
+        top = load_header(frames, book, top, owner, image, h, i, bss);
+        i += 1;
     }
     top
 }

@@ -20,7 +20,7 @@ pub extern "C" fn measured_copy(d: &mut [u8], s: &[u8]) {
 // How many frames are free.
 #[no_mangle]
 pub extern "C" fn measured_free(book: &[u64]) -> usize {
-    pagealloc::book::free_count(book)
+    book::free_count(book)
 }
 
 // One more than the frame of an owner's page, or 0.
@@ -33,7 +33,7 @@ pub extern "C" fn measured_frame(book: &[u64], owner: u64, page: u64) -> u64 {
         return 0;
     }
     let aligned = mem::page_down(page);
-    match pagealloc::book::frame_of(book, owner, aligned) {
+    match book::frame_of(book, owner, aligned) {
         Found::At(k) => k as u64,
         Found::Nothing => 0,
     }

@@ -16,7 +16,7 @@ use Rattle.laws.proofs.Lists.{by-order}
 use Rattle.laws.proofs.Frame.{Fits, frame-found, frame-perm, perm-same}
 use Rattle.laws.proofs.Place.{mem-place-other}
 use Rattle.laws.proofs.Contents.{length-frame, frame-same}
-use Rattle.pagealloc.specs.Lent.{foundOf}
+use Rattle.book.specs.Lent.{foundOf}
 use Rattle.pagealloc.proofs.Placing.{found-none}
 
 -- a page's frame and a free frame lie apart

@@ -1,7 +1,4 @@
 -- Laws that the proofs of this crate cite.
-pub mod Searches
-pub mod Overwrite
-pub mod Released
 pub mod Filled
 pub mod FilePages
 pub mod Placing

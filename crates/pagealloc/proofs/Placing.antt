@@ -20,7 +20,8 @@ use Rattle.spec.proofs.Search.{hit, miss}
 use Rattle.spec.proofs.Words.{used-word}
 use Rattle.laws.proofs.Lists.{by-order}
 use Rattle.laws.proofs.Cursor.{place-below, cursor-end}
-use Rattle.pagealloc.specs.Lent.{store, foundOf, Passed}
+use Rattle.book.specs.Lent.{store, foundOf}
+use Rattle.pagealloc.specs.Lent.{Passed}
 
 -- ---- one page
 

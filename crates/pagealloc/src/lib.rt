@@ -2,12 +2,6 @@
 // A word of 0 is a free frame; otherwise it is page address + 16 × owner + permission. Callers have checked sizes, numbers and
 // ranges: what these functions ask of them stands in their `requires`.
 
-// Book words, and searches of the book.
-pub mod book;
-
-// Pages released: book words that become 0.
-pub mod release;
-
 // The bytes of frames, and frames filled.
 pub mod frames;
 mod pages;
@@ -15,5 +9,5 @@ mod pages;
 // Pages placed in free frames.
 pub mod place;
 
-// A process's bytes, read and written over.
+// A process's bytes, written over.
 pub mod user;

@@ -11,7 +11,8 @@ ghost use Rattle.spec.specs.Tests.{_is_};
 ghost use Rattle.spec.specs.Numbers.{pageBytes, zeroPage};
 ghost use Rattle.spec.specs.Book.{highest, frameOf, segment};
 ghost use Rattle.spec.specs.Frames.{pagesOf, hold, place, frameBytes};
-ghost use Rattle.pagealloc.specs.Lent.{store, foundOf, Passed, Mapped};
+ghost use Rattle.book.specs.Lent.{store, foundOf};
+ghost use Rattle.pagealloc.specs.Lent.{Passed, Mapped};
 ghost use Rattle.pagealloc.specs.Contents.{fileAt};
 
 // The highest free frame below frame `c`, as `allocate_physpage`, which leaves the book as it is.
@@ -35,7 +36,7 @@ fn hold_zeroed(frames: &mut [u8], book: &mut [u64], k: usize, owner: u64, page: 
     ensures { λ _. ⌜ store (now (frames .exit)) (now (book .exit)) ≡ hold (store (now (frames .entry)) (now (book .entry))) owner (record { page = page; perm = 3; bytes = zeroPage page }) (some k) ⌝ }
 {
     crate::pages::zero_frame(frames, crate::frames::frame_addr(k));
-    book[k] = crate::book::pack(page, owner, spec::DATA);
+    book[k] = book::pack(page, owner, spec::DATA);
 }
 
 // Places a data page of zeros for each page in `range`, as `map_zeroed`.
@@ -82,7 +83,7 @@ fn hold_loaded(
     ensures { λ _. ⌜ store (now (frames .exit)) (now (book .exit)) ≡ hold (store (now (frames .entry)) (now (book .entry))) owner (record { page = page; perm = perm; bytes = pageBytes (fileAt vaddr (now (file .entry))) page }) (some k) ⌝ }
 {
     crate::pages::load_frame(frames, crate::frames::frame_addr(k), page, vaddr, file);
-    book[k] = crate::book::pack(page, owner, perm);
+    book[k] = book::pack(page, owner, perm);
 }
 
 // Places the pages of a recorded segment, holding the file bytes that stand from `vaddr` on and zero elsewhere, as `load_segment`.
@@ -132,7 +133,7 @@ fn hold_copied(
     requires { ⌜ ((j : ℕ) × (frameOf (now book) parent page ≡ some j)) ⌝ }
     ensures { λ _. ⌜ store (now (frames .exit)) (now (book .exit)) ≡ hold (store (now (frames .entry)) (now (book .entry))) child (record { page = page; perm = perm; bytes = frameBytes (now (frames .entry)) (frameOf (now (book .entry)) parent page) }) (some k) ⌝ }
 {
-    let spec::Found::At(from) = crate::book::frame_of(book, parent, page) else {
+    let spec::Found::At(from) = book::frame_of(book, parent, page) else {
         return;
     };
     crate::pages::copy_frame(
@@ -140,7 +141,7 @@ fn hold_copied(
         crate::frames::frame_addr(from),
         crate::frames::frame_addr(k),
     );
-    book[k] = crate::book::pack(page, child, perm);
+    book[k] = book::pack(page, child, perm);
 }
 
 // Places copies of the pages of a segment of the parent's for the child, as `copy_segments`.

@@ -1,13 +1,13 @@
-// A process's bytes, read and written over, page by page. Callers have checked that the process has the pages: where uaccess.rs
+// A process's bytes written over, page by page. Callers have checked that the process has the pages: where uaccess.rs
 // uses a user address directly, the book names the frame here.
 
 ghost use mathlib.Core.Path.{_≡_};
 ghost use Prim.Native.Nat.{_+_, _*_, _^_, _≤_, _<_, min};
-ghost use lib.ListN.{length, take, drop};
+ghost use lib.ListN.{length};
 ghost use Rattle.spec.specs.Numbers.{pageDown};
-ghost use Rattle.spec.specs.Frames.{memOf, put, pokes};
-ghost use Rattle.spec.specs.Access.{bytesAt};
-ghost use Rattle.pagealloc.specs.Lent.{store, Mapped};
+ghost use Rattle.spec.specs.Frames.{put, pokes};
+ghost use Rattle.book.specs.Lent.{store};
+ghost use Rattle.pagealloc.specs.Lent.{Mapped};
 
 // The bytes from `at` on become `s`.
 fn write_phys(frames: &mut [u8], at: mem::PhysAddr, s: &[u8])
@@ -17,16 +17,6 @@ fn write_phys(frames: &mut [u8], at: mem::PhysAddr, s: &[u8])
     let a = at.0 as usize;
     let e = a + s.len();
     crate::frames::copy(&mut frames[a..e], s);
-}
-
-// `d` becomes the bytes from `at` on.
-fn read_phys(frames: &[u8], at: mem::PhysAddr, d: &mut [u8])
-    requires { ⌜ at .0 + length (now d) ≤ length (now frames) ⌝ }
-    ensures { λ _. ⌜ now (d .exit) ≡ take (length (now (d .entry))) (drop (at .0) (now (frames .entry))) ⌝ }
-{
-    let a = at.0 as usize;
-    let e = a + d.len();
-    crate::frames::copy(d, &frames[a..e]);
 }
 
 // The address of byte `offset` of frame `k`.
@@ -53,30 +43,11 @@ pub fn write_user(frames: &mut [u8], book: &[u64], owner: u64, addr: u64, bytes:
     while i < bytes.len() {
         let a = addr + (i as u64);
         let offset = a % spec::PAGE_SIZE_4K;
-        let spec::Found::At(k) = crate::book::frame_of(book, owner, mem::page_down(a)) else {
+        let spec::Found::At(k) = book::frame_of(book, owner, mem::page_down(a)) else {
             return;
         };
         let e = i + least((spec::PAGE_SIZE_4K - offset) as usize, bytes.len() - i);
         write_phys(frames, phys(k, offset), &bytes[i..e]);
-        i = e;
-    }
-}
-
-// `buf` becomes the process's bytes from `addr` on, as `copy_from_user` copies.
-pub fn read_user(frames: &[u8], book: &[u64], owner: u64, addr: u64, buf: &mut [u8])
-    requires { ⌜ (length (now frames) ≡ 4096 * length (now book)) × (1 ≤ owner) × (owner < 256) × (addr + length (now buf) < 2 ^ 64) ⌝ }
-    requires { ⌜ Mapped (now book) owner (pageDown addr) (addr + length (now buf)) ⌝ }
-    ensures { λ _. ⌜ now (buf .exit) ≡ bytesAt (memOf (store (now (frames .entry)) (now (book .entry))) owner) addr (length (now (buf .entry))) ⌝ }
-{
-    let mut i = 0;
-    while i < buf.len() {
-        let a = addr + (i as u64);
-        let offset = a % spec::PAGE_SIZE_4K;
-        let spec::Found::At(k) = crate::book::frame_of(book, owner, mem::page_down(a)) else {
-            return;
-        };
-        let e = i + least((spec::PAGE_SIZE_4K - offset) as usize, buf.len() - i);
-        read_phys(frames, phys(k, offset), &mut buf[i..e]);
         i = e;
     }
 }

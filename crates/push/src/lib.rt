@@ -16,7 +16,7 @@ ghost use Rattle.spec.specs.Exec.{argsOf, strings, registers, pushOk};
 ghost use Rattle.spec.specs.Machine.{push, plainly};
 ghost use Rattle.spec.specs.World.{pushIn, Does};
 ghost use Rattle.sound.specs.Table.{Ready};
-ghost use Rattle.pagealloc.specs.Lent.{store};
+ghost use Rattle.book.specs.Lent.{store};
 ghost use Rattle.args.specs.Sizes.{argsSize, pointersBy};
 ghost use Rattle.front.specs.Numbers.{stateOf, call};
 use front::left::Left;

@@ -25,7 +25,7 @@ use Rattle.exec.proofs.Planned.{plan-accepted}
 use Rattle.front.specs.Numbers.{stateOf}
 use Rattle.front.proofs.First.{Passed, plain-none, sizes-words}
 use Rattle.front.proofs.Living.{living-shape}
-use Rattle.pagealloc.specs.Lent.{store}
+use Rattle.book.specs.Lent.{store}
 use Rattle.start.specs.Installing.{Installable}
 use Rattle.replace.specs.Entering.{Enterable, short}
 

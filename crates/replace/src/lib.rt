@@ -29,7 +29,7 @@ fn enter(
     ensures { λ r. ⌜ r .answer ≡ entering (stateOf (now (frames .entry)) (now (book .entry)) procs) number (now (image .entry)) (argsOf (now (bytes .entry)) (now (lengths .entry))) ⌝ }
 {
     let p = front::record::proc_at(procs, number);
-    let free = pagealloc::book::free_count(book) as u64;
+    let free = book::free_count(book) as u64;
     let room = front::pages::own_pages(p) + free;
     let after = front::ending::forget(book, procs, number);
     if plan.pages > room {

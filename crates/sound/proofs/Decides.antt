@@ -22,7 +22,7 @@ use Rattle.laws.proofs.Frame.{Owns, frame-found, frame-none, frame-perm, Once, 
 use Rattle.laws.proofs.Owned.{valid-means, valid-test, in-range}
 use Rattle.laws.proofs.Exact.{some-none}
 use Rattle.laws.proofs.Facts.{sound-facts, facts-sound, sound-between}
-use Rattle.sound.specs.Records.{passes}
+use Rattle.records.specs.Records.{passes}
 use Rattle.sound.specs.Plan.{rank, nth, Plan, LaidAll}
 use Rattle.sound.specs.Table.{frameWith, entry, Planned, Tabled, marked}
 use Rattle.sound.proofs.Counting.{count, free-used, Lists, counted}

@@ -1,6 +1,4 @@
 -- Laws of the check, from a walk over a list to the book being sound.
-pub mod Walk
-pub mod Whole
 pub mod Ranks
 pub mod Pass
 pub mod Laying

@@ -19,7 +19,7 @@ use Rattle.laws.proofs.Lists.{Each, each-append}
 use Rattle.laws.proofs.Record.{WholeProc, same-is, all-are, dead-zero}
 use Rattle.laws.proofs.Shape.{segments-shape, shape-segments}
 use Rattle.laws.proofs.Facts.{Shaped}
-use Rattle.sound.specs.Records.{imageOk, imageTest, shaped, passes}
+use Rattle.records.specs.Records.{imageOk, imageTest, shaped, passes}
 use Rattle.sound.specs.Plan.{part, Small, SmallParts}
 use Rattle.sound.proofs.Parts.{each-same, each-part, top, Part, Perm, parts, Parts, parts-of}
 use Rattle.sound.proofs.Laying.{part-segment, part-bss}

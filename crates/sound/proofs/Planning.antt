@@ -17,7 +17,7 @@ use Rattle.spec.proofs.Bools.{split, within-means, within-test}
 use Rattle.laws.proofs.Lists.{Each}
 use Rattle.laws.proofs.Record.{Whole, WholeProc}
 use Rattle.laws.proofs.Owned.{valid-means, valid-test}
-use Rattle.sound.specs.Records.{passes}
+use Rattle.records.specs.Records.{passes}
 use Rattle.sound.specs.Plan.{seat, part, tag, size, owner, partAt, hits, nth, Before, Plan, LaidAll}
 use Rattle.sound.proofs.Ranks.{sum-none, sum-more, base-up, nth-find, nth-at}
 use Rattle.sound.proofs.Pass.{hit-test}

@@ -19,7 +19,7 @@ use Rattle.spec.proofs.Bools.{split, clash, both, not-true, or-fact, living-ok}
 use Rattle.laws.proofs.Lists.{by-order}
 use Rattle.laws.proofs.Record.{WholeProc, same-is, dead-zero}
 use Rattle.laws.proofs.Shape.{bss-means, image-first}
-use Rattle.sound.specs.Records.{imageTest, shaped, passes}
+use Rattle.records.specs.Records.{imageTest, shaped, passes}
 use Rattle.sound.specs.Plan.{seat, owner, hits, later, Ascending, Span, Plan}
 use Rattle.sound.proofs.Pass.{hit-fact}
 use Rattle.sound.proofs.Passing.{perm-means, shaped-means}

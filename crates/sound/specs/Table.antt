@@ -25,11 +25,6 @@ entry (some k) = k + 1
 abbrev pub answerOf : ℕ → Found
 answerOf e = e is 0 ⇒ Nothing else At (e - 1)
 
--- a frame as an answer
-abbrev pub foundOf : Option ℕ → Found
-foundOf none = Nothing
-foundOf (some k) = At k
-
 -- of the first n words each is 0 or of a part's page, and none stands twice
 pub record Planned (book tags bases : List ℕ) (n : ℕ) : Type 0 where
   pub fits : (i : ℕ) → i < n → (getD book i 0 ≡ 0 → ⊥) → (k : ℕ) × (k < 272) × (hits tags bases (getD book i 0) k ≡ true)

@@ -7,15 +7,14 @@ ghost use mathlib.Core.List.{List};
 ghost use Prim.Native.Nat.{ℕ, _+_, _<_, _≤_};
 ghost use lib.ListN.{length, getD};
 ghost use Rattle.spec.specs.Tests.{allBelow};
-ghost use Rattle.spec.specs.Book.{frameOf, free};
+ghost use Rattle.spec.specs.Book.{frameOf};
 ghost use Rattle.spec.specs.Sound.{soundBook};
 ghost use Rattle.sound.specs.Plan.{Plan};
-ghost use Rattle.sound.specs.Table.{Marked, Blank, marked, Ready, answerOf, foundOf};
+ghost use Rattle.sound.specs.Table.{Marked, Blank, marked, Ready, answerOf};
+ghost use Rattle.book.specs.Lent.{foundOf};
 
 mod plan;
-mod record;
 
-pub use record::lives;
 use spec::Found;
 use spec::Procs;
 
@@ -73,7 +72,7 @@ pub fn prepare(
     ensures { λ r. ⌜ r ≡ soundBook (now (book .entry)) procs ⌝ }
     ensures { λ r. ⌜ (r ≡ true → Ready (now (book .entry)) (now (tags .exit)) (now (bases .exit)) (now (table .exit))) ⌝ }
 {
-    if !record::records_ok(procs) {
+    if !records::records_ok(procs) {
         return false;
     }
     let total = plan::lay_all(tags, bases, procs);
@@ -140,12 +139,4 @@ pub fn frame_at(
         k += 1;
     }
     Found::Nothing
-}
-
-// How many frames are free of a book that the lists are ready for: those that are no page's.
-pub fn free_frames(book: &[u64], bases: &[u64; 273]) -> usize
-    requires { ⌜ getD (now bases) 272 0 ≤ length (now book) ⌝ }
-    ensures { λ r. ⌜ ((tags table : List ℕ) → Ready (now (book .entry)) tags (now (bases .entry)) table → r ≡ free (now (book .entry))) ⌝ }
-{
-    book.len() - bases[272] as usize
 }

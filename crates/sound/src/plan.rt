@@ -5,7 +5,7 @@ ghost use mathlib.Core.Bool.{true};
 ghost use Prim.Native.Nat.{_+_, _*_, _<_, _≤_};
 ghost use lib.ListN.{length};
 ghost use Rattle.spec.specs.Tests.{all};
-ghost use Rattle.sound.specs.Records.{passes};
+ghost use Rattle.records.specs.Records.{passes};
 ghost use Rattle.sound.specs.Plan.{seat as seatOf, maxPages, SmallParts, Laid, LaidAll, Rising, hits as hitsOf, later as laterOf, Ascending, Span, PartOf, Plan};
 use spec::DATA;
 use spec::Proc;

@@ -6,4 +6,5 @@ pub mod Chain
 pub mod Near
 pub mod Taken
 pub mod ReadBack
+pub mod Tail
 pub mod Examples

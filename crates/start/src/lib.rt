@@ -9,7 +9,8 @@ ghost use Rattle.spec.specs.Elf.{entry};
 ghost use Rattle.spec.specs.Exec.{argsOf, strings, stringsAt, argvAt, pointers, registers};
 ghost use Rattle.spec.specs.Machine.{start, plainly};
 ghost use Rattle.spec.specs.World.{pushIn, load as loaded, Does};
-ghost use Rattle.pagealloc.specs.Lent.{store, Mapped};
+ghost use Rattle.book.specs.Lent.{store};
+ghost use Rattle.pagealloc.specs.Lent.{Mapped};
 ghost use Rattle.front.specs.Numbers.{stateOf, call};
 ghost use Rattle.start.specs.Installing.{Fitting, Installable, recordOf};
 use exec::Plan;
@@ -21,7 +22,7 @@ use spec::Procs;
 // A buffer that holds the strings of arguments that pass, or their pointers.
 const BUFFER_SIZE: usize = spec::ARG_LIMIT as usize;
 
-// Writes the strings of arguments, each with its NUL, to the top of the stack of process `number`.
+// Writes the strings of arguments, each with its NUL, to the stack of process `number`, up to its top.
 fn push_strings(frames: &mut [u8], book: &[u64], number: u64, bytes: &[u8], lengths: &[u64])
     requires { ⌜ (length (now frames) ≡ 4096 * length (now book)) × (1 ≤ number) × (number < 256) ⌝ }
     requires { ⌜ Mapped (now book) number (ustktop - ustksize) ustktop ⌝ }
@@ -34,7 +35,7 @@ fn push_strings(frames: &mut [u8], book: &[u64], number: u64, bytes: &[u8], leng
     pagealloc::user::write_user(frames, book, number, at, &buf[..size]);
 }
 
-// Writes the pointers to strings of these lengths, which end at the top of the stack, and the null after them below the strings.
+// Writes a pointer to each string and the null after them to the stack, below the strings, which end at its top.
 fn push_pointers(frames: &mut [u8], book: &[u64], number: u64, bytes: &[u8], lengths: &[u64])
     requires { ⌜ (length (now frames) ≡ 4096 * length (now book)) × (1 ≤ number) × (number < 256) ⌝ }
     requires { ⌜ Mapped (now book) number (ustktop - ustksize) ustktop ⌝ }
@@ -131,7 +132,7 @@ pub fn start(
     }
     let checked = args::args_size(bytes, lengths);
     let plan = exec::plan_of(image);
-    let free = pagealloc::book::free_count(book) as u64;
+    let free = book::free_count(book) as u64;
     if checked.error != 0 {
         return Left {
             procs: procs,

@@ -14,8 +14,8 @@ use Rattle.spec.specs.Access.{cellOk}
 use Rattle.spec.specs.declared.Found.{Found}
 use Rattle.spec.specs.declared.Found.the-variants.{At, Nothing}
 use Rattle.laws.proofs.Frame.{frame-found}
-use Rattle.sound.specs.Table.{foundOf}
-use Rattle.pagealloc.specs.Lent.{store}
+use Rattle.book.specs.Lent.{foundOf}
+use Rattle.book.specs.Lent.{store}
 
 -- what an answer says of the search
 option-at : (o : Option ℕ) (r : Found) (k : ℕ) → r ≡ foundOf o → r ≡ At k → o ≡ some k

@@ -12,7 +12,7 @@ use Rattle.spec.specs.Access.{cellOk, pagesOk, userRangeOk}
 use Rattle.spec.proofs.Bools.{both, clash}
 use Rattle.laws.proofs.Lists.{by-order}
 use Rattle.laws.proofs.Allowed.{cell-allowed, cell-page}
-use Rattle.pagealloc.specs.Lent.{store}
+use Rattle.book.specs.Lent.{store}
 
 -- ---- the check
 

@@ -12,8 +12,9 @@ ghost use Rattle.spec.specs.Numbers.{pageDown};
 ghost use Rattle.spec.specs.Book.{frameOf};
 ghost use Rattle.spec.specs.Frames.{memOf, pokes};
 ghost use Rattle.spec.specs.Access.{cellOk, userRangeOk, bytesAt, copyStr};
-ghost use Rattle.sound.specs.Table.{Ready, foundOf};
-ghost use Rattle.pagealloc.specs.Lent.{store};
+ghost use Rattle.sound.specs.Table.{Ready};
+ghost use Rattle.book.specs.Lent.{foundOf};
+ghost use Rattle.book.specs.Lent.{store};
 ghost use Rattle.uaccess.specs.Strings.{toNul, copied};
 
 // What a string copy answers: whether every byte that it needed could be read, and the length.
@@ -53,7 +54,7 @@ fn user_page_ok(
     let spec::Found::At(k) = frame_at(book, tags, bases, table, number, va) else {
         return false;
     };
-    !write | (pagealloc::book::perm_of(book[k]) == spec::DATA)
+    !write | (book::perm_of(book[k]) == spec::DATA)
 }
 
 // Whether user mode could make the access to every byte from `addr` up to `addr + len`. A range of no bytes is fine if it's within

@@ -13,7 +13,7 @@ use Rattle.spec.specs.Frames.{Mem, memOf, put}
 use Rattle.spec.specs.Access.{Str, copyStr}
 use Rattle.spec.specs.Exec.{argBuffer, stackSize}
 use Rattle.spec.proofs.Bools.{neither}
-use Rattle.pagealloc.specs.Lent.{store}
+use Rattle.book.specs.Lent.{store}
 use Rattle.uaccess.specs.Strings.{copied}
 use Rattle.args.proofs.Saturated.{saturated-fits}
 use Rattle.argv.proofs.Buffered.{Told, buffered}

@@ -10,7 +10,7 @@ use lib.ListN.{length}
 use Rattle.spec.specs.Numbers.{argLimit}
 use Rattle.spec.specs.Frames.{Mem, memOf}
 use Rattle.spec.specs.Exec.{copyArgv}
-use Rattle.pagealloc.specs.Lent.{store}
+use Rattle.book.specs.Lent.{store}
 use Rattle.args.specs.Sizes.{saturated}
 use Rattle.argv.specs.Reading.{pointerAt, Added, moreOf}
 use Rattle.argv.proofs.SoFar.{SoFar, none-yet, so-bad, so-null, so-stop, so-next}

@@ -10,7 +10,7 @@ use Rattle.spec.specs.Numbers.{le}
 use Rattle.spec.specs.Frames.{Mem, memOf}
 use Rattle.spec.specs.Access.{userRangeOk, bytesAt}
 use Rattle.spec.proofs.Chain.{is-through, isnt-through}
-use Rattle.pagealloc.specs.Lent.{store}
+use Rattle.book.specs.Lent.{store}
 use Rattle.argv.specs.declared.Pointer.the-variants.{At}
 use Rattle.argv.proofs.Turned.{pointer-bad, pointer-null, pointer-string}
 use Rattle.argv.proofs.read_pointer.Statement.{statement}

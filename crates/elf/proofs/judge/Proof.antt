@@ -4,7 +4,7 @@ use mathlib.Core.Path.{_≡_, sym, ap, _∙_}
 use denote.Ref.{now}
 use lib.ListN.{length}
 use borrow.Author.Needs.{needs}
-use Rattle.elf.specs.Reader.{verdictNumber, fieldsError}
+use Rattle.header.specs.Header.{verdictNumber, fieldsError}
 use Rattle.elf.proofs.Checks.{first, next}
 use Rattle.elf.proofs.Errors.{not-zero}
 use Rattle.elf.proofs.Image.{table}

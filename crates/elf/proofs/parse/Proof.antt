@@ -7,7 +7,8 @@ use borrow.Author.Needs.{needs}
 use borrow.Author.Tests.{not-true, not-false}
 use Rattle.spec.specs.Elf.{elfError}
 use Rattle.spec.specs.declared.ElfError.the-variants.{Truncated, BadMagic}
-use Rattle.elf.specs.Reader.{verdictNumber, imageError}
+use Rattle.header.specs.Header.{verdictNumber}
+use Rattle.elf.specs.Reader.{imageError}
 use Rattle.elf.proofs.Image.{truncated, bad-magic, by-fields, says-no, says-yes}
 use Rattle.elf.proofs.parse.Statement.{statement}
 use Rattle.elf.proofs.parse.Tie as tie

@@ -6,7 +6,8 @@ use Prim.Native.Nat.{ℕ}
 use borrow.Author.Needs.{needs}
 use borrow.Author.Tests.{not-true, not-false}
 use Rattle.spec.specs.Elf.{Phdr, loads, flagPerm}
-use Rattle.elf.specs.Reader.{phdrOf, loadOf}
+use Rattle.header.specs.Header.{phdrOf}
+use Rattle.elf.specs.Reader.{loadOf}
 use Rattle.elf.specs.declared.Load.the-variants.{Skip, Segment}
 use Rattle.elf.proofs.segment_at.Statement.{statement}
 use Rattle.elf.proofs.segment_at.Tie as tie

@@ -13,17 +13,17 @@ user-segment-requires : tie.Need-user-segment-requires
 user-segment-requires c κs =
     let a = c .before .before .before .before .before .args in
     let p = c .before .before .before .before .before .pre in
-    let g : Checked (length (now (a .image))) (c .before .l .given .0 .0) = rw (c .before .l .given .1) at (rw (sym (c .before .before .before .segment-at .ensures)) at (p .1 .0)) in
+    let g : Checked (length (now (a .image))) (c .before .l .given .0 .0) = rw (c .before .l .given .1) at (rw (sym (c .before .before .before .segment-of .ensures)) at (p .1 .0)) in
     (g .end, p .1 .1 .0)
 
 returns : tie.Need-returns
-returns c = let a = c .before .before .before .before .args in sym (ap (recordedWith (a .bss) (a .before)) (sym (c .before .before .segment-at .ensures) ∙ c .enum-told .given .1))
+returns c = let a = c .before .before .before .before .args in sym (ap (recordedWith (a .bss) (a .before)) (sym (c .before .before .segment-of .ensures) ∙ c .enum-told .given .1))
 
 returns-2 : tie.Need-returns-2
 returns-2 c =
     let a = c .before .before .before .before .before .before .before .args in
     c .push .ensures ∙ ap (pushed (a .before)) (c .before .user-segment .ensures)
-    ∙ sym (ap (recordedWith (a .bss) (a .before)) (sym (c .before .before .before .before .before .segment-at .ensures) ∙ c .before .before .before .l .given .1))
+    ∙ sym (ap (recordedWith (a .bss) (a .before)) (sym (c .before .before .before .before .before .segment-of .ensures) ∙ c .before .before .before .l .given .1))
 
 pub push-header-spec : {M : Type 1} → statement M
 push-header-spec =

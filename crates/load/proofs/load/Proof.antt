@@ -11,7 +11,7 @@ use Rattle.spec.specs.Numbers.{zeroPage}
 use Rattle.spec.specs.Book.{segment}
 use mathlib.Core.List.{[], _∷_}
 use Rattle.elf.specs.Reader.{said}
-use Rattle.pagealloc.specs.Lent.{store}
+use Rattle.book.specs.Lent.{store}
 use Rattle.load.proofs.Whole.{not-refused, Fits, bss-fits, all-placed}
 use Rattle.load.proofs.load.Statement.{statement}
 use Rattle.load.proofs.load.Tie as tie

@@ -13,7 +13,7 @@ use Rattle.spec.specs.Machine.{Ask, push, Call, outcomeOf, plainly, Machine, le
 use Rattle.spec.specs.World.{State, view, withStore, leave, Does}
 use Rattle.spec.specs.declared.Answer.{Answer}
 use Rattle.sound.proofs.Lookup.{blank-zeros}
-use Rattle.pagealloc.specs.Lent.{store}
+use Rattle.book.specs.Lent.{store}
 use Rattle.args.specs.declared.ArgsSize.{ArgsSize}
 use Rattle.args.proofs.Cut.{cut-count}
 use Rattle.args.proofs.Size.{Passed as Argued, size-number, size-passed}

@@ -11,7 +11,7 @@ use borrow.Author.Needs.{needs}
 use Rattle.spec.specs.Frames.{memOf, pokes}
 use Rattle.spec.specs.Access.{userRangeOk}
 use Rattle.spec.specs.declared.UserRegs.{UserRegs}
-use Rattle.pagealloc.specs.Lent.{store}
+use Rattle.book.specs.Lent.{store}
 use Rattle.args.specs.Sizes.{pointersBy}
 use Rattle.args.proofs.Places.{low-room}
 use Rattle.args.proofs.Size.{Passed, size-passed}

@@ -8,7 +8,7 @@ use borrow.Author.Needs.{needs}
 use Rattle.spec.specs.Frames.{Mem, memOf}
 use Rattle.spec.specs.Access.{userRangeOk}
 use Rattle.spec.specs.declared.UserRegs.{UserRegs}
-use Rattle.pagealloc.specs.Lent.{store}
+use Rattle.book.specs.Lent.{store}
 use Rattle.args.specs.Sizes.{belowZeroBy}
 use Rattle.args.proofs.Places.{low-room}
 use Rattle.push.proofs.Ranges.{ok-low, ok-ranges}

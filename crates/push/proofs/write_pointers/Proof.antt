@@ -7,7 +7,7 @@ use denote.Ref.{now}
 use borrow.Author.Needs.{needs}
 use Rattle.spec.specs.Frames.{memOf, pokes}
 use Rattle.spec.specs.Access.{userRangeOk}
-use Rattle.pagealloc.specs.Lent.{store}
+use Rattle.book.specs.Lent.{store}
 use Rattle.args.specs.Sizes.{pointersBy}
 use Rattle.push.proofs.Written.{buffer-begins, pointers-size}
 use Rattle.push.proofs.write_pointers.Statement.{statement}

@@ -10,7 +10,7 @@ use borrow.Author.Needs.{needs}
 use Rattle.spec.specs.Frames.{memOf, pokes}
 use Rattle.spec.specs.Access.{userRangeOk}
 use Rattle.spec.specs.Exec.{argsOf, strings}
-use Rattle.pagealloc.specs.Lent.{store}
+use Rattle.book.specs.Lent.{store}
 use Rattle.args.proofs.Cut.{cut-size}
 use Rattle.push.proofs.Written.{buffer-begins}
 use Rattle.push.proofs.write_strings.Statement.{statement}

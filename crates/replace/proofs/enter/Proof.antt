@@ -11,7 +11,7 @@ use Rattle.spec.specs.World.{State, view, load}
 use Rattle.spec.specs.declared.Proc.{Proc}
 use Rattle.spec.proofs.Chain.{here, past}
 use Rattle.laws.proofs.Record.{Whole}
-use Rattle.sound.proofs.Whole.{whole-procs}
+use Rattle.records.proofs.Whole.{whole-procs}
 use Rattle.front.specs.Numbers.{stateOf}
 use Rattle.front.proofs.Own.{count-own}
 use Rattle.replace.specs.Entering.{short}

@@ -10,7 +10,8 @@ use borrow.Author.Needs.{needs}
 use Rattle.spec.specs.Book.{ownerOf, pageOf, frameOf}
 use Rattle.spec.proofs.Bools.{clash}
 use Rattle.sound.specs.Plan.{hits}
-use Rattle.sound.specs.Table.{answerOf, foundOf}
+use Rattle.sound.specs.Table.{answerOf}
+use Rattle.book.specs.Lent.{foundOf}
 use Rattle.sound.proofs.Pass.{Found, found-part}
 use Rattle.sound.proofs.Lookup.{answer-entry, found-none, lookup, frame-hits}
 use Rattle.sound.proofs.frame_at.Statement.{statement}

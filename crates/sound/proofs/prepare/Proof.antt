@@ -9,8 +9,8 @@ use borrow.Author.Needs.{needs}
 use borrow.Author.Tests.{not-true, not-false}
 use Rattle.spec.specs.Tests.{all}
 use Rattle.laws.proofs.Record.{Whole}
-use Rattle.sound.specs.Records.{passes}
-use Rattle.sound.proofs.Whole.{whole-procs}
+use Rattle.records.specs.Records.{passes}
+use Rattle.records.proofs.Whole.{whole-procs}
 use Rattle.sound.proofs.Planning.{plan}
 use Rattle.sound.proofs.Decides.{records-of, made, planned-of, total-of, decided, sound-exact}
 use Rattle.sound.proofs.Lookup.{ready}

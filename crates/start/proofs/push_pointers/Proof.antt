@@ -9,7 +9,7 @@ use borrow.Author.Needs.{needs}
 use Rattle.spec.specs.Numbers.{ustktop, argLimit}
 use Rattle.spec.specs.Frames.{put, pokes}
 use Rattle.spec.specs.Exec.{argsOf, stringsAt, pointers}
-use Rattle.pagealloc.specs.Lent.{store}
+use Rattle.book.specs.Lent.{store}
 use Rattle.args.proofs.Places.{low-room}
 use Rattle.start.specs.Installing.{Fitting}
 use Rattle.start.proofs.Pushing.{inside, part-is, strings-room, pointers-room, argv-is, argv-low, push-above, pointers-are, pointers-long}

@@ -9,7 +9,7 @@ use borrow.Author.Needs.{needs}
 use Rattle.spec.specs.Numbers.{ustktop, argLimit}
 use Rattle.spec.specs.Frames.{pokes}
 use Rattle.spec.specs.Exec.{argsOf, strings}
-use Rattle.pagealloc.specs.Lent.{store}
+use Rattle.book.specs.Lent.{store}
 use Rattle.start.proofs.Pushing.{inside, part-is, strings-small, strings-room}
 use Rattle.start.proofs.push_strings.Statement.{statement}
 use Rattle.start.proofs.push_strings.Tie as tie

@@ -15,7 +15,7 @@ use Rattle.spec.specs.Machine.{start, Call, outcome, plainly, weighStart}
 use Rattle.spec.specs.World.{State, taken, leave, Does}
 use Rattle.spec.specs.declared.Answer.{Answer}
 use Rattle.laws.proofs.Record.{Whole}
-use Rattle.sound.proofs.Whole.{whole-procs}
+use Rattle.records.proofs.Whole.{whole-procs}
 use Rattle.args.specs.declared.ArgsSize.{ArgsSize}
 use Rattle.args.proofs.Size.{size-number}
 use Rattle.exec.specs.declared.Plan.{Plan}

@@ -6,7 +6,7 @@ use mathlib.Core.Path.{_≡_, refl}
 use lib.ListN.{length, length-set, drop}
 use denote.Ref.{now}
 use borrow.Author.Needs.{needs}
-use Rattle.pagealloc.proofs.Overwrite.{mix, mix-turn}
+use Rattle.book.proofs.Overwrite.{mix, mix-turn}
 use Rattle.uaccess.specs.Strings.{toNul}
 use Rattle.uaccess.proofs.Strings.{nul-here, nul-next, nul-end}
 use Rattle.uaccess.proofs.copy_to_nul.Statement.{statement}

@@ -4,7 +4,7 @@ use mathlib.Core.Path.{ap, _∙_}
 use denote.Ref.{now}
 use borrow.Author.Needs.{needs}
 use Rattle.spec.specs.Book.{frameOf}
-use Rattle.sound.specs.Table.{foundOf}
+use Rattle.book.specs.Lent.{foundOf}
 use Rattle.uaccess.proofs.frame_at.Statement.{statement}
 use Rattle.uaccess.proofs.frame_at.Tie as tie
 

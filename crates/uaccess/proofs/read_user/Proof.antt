@@ -10,8 +10,8 @@ use Rattle.spec.specs.Numbers.{uaddrtop}
 use Rattle.spec.specs.Frames.{Mem, memOf}
 use Rattle.spec.specs.Access.{byteOf, bytesAt}
 use Rattle.laws.proofs.Contents.{length-bytes}
-use Rattle.pagealloc.specs.Lent.{store}
-use Rattle.pagealloc.proofs.Overwrite.{mix, mix-none, mix-all}
+use Rattle.book.specs.Lent.{store}
+use Rattle.book.proofs.Overwrite.{mix, mix-none, mix-all}
 use Rattle.uaccess.proofs.Ranges.{range-top, range-cell}
 use Rattle.uaccess.proofs.Copies.{read-turn}
 use Rattle.uaccess.proofs.read_user.Statement.{statement}

@@ -12,8 +12,8 @@ use Rattle.spec.specs.Frames.{Mem, memOf}
 use Rattle.spec.specs.Access.{userRangeOk, byteOf, bytesAt, copyStr}
 use Rattle.spec.proofs.Bools.{not-true, un-not}
 use Rattle.laws.proofs.Contents.{length-bytes}
-use Rattle.pagealloc.specs.Lent.{store}
-use Rattle.pagealloc.proofs.Overwrite.{mix, mix-none}
+use Rattle.book.specs.Lent.{store}
+use Rattle.book.proofs.Overwrite.{mix, mix-none}
 use Rattle.uaccess.specs.Strings.{toNul, copied}
 use Rattle.uaccess.proofs.Ranges.{range-top, range-cell}
 use Rattle.uaccess.proofs.Strings.{nul-most, copyFrom, str-none, str-end, str-bad, str-part, str-nul, str-whole}

@@ -8,7 +8,7 @@ use borrow.Author.Needs.{needs}
 use Rattle.spec.specs.Frames.{Mem, memOf}
 use Rattle.spec.specs.Access.{userRangeOk}
 use Rattle.spec.proofs.Bools.{not-true, un-not}
-use Rattle.pagealloc.specs.Lent.{store}
+use Rattle.book.specs.Lent.{store}
 use Rattle.uaccess.proofs.Ranges.{pagesTo, range-bad, range-good, range-done, range-past, range-empty, range-pages}
 use Rattle.uaccess.proofs.user_range_ok.Statement.{statement}
 use Rattle.uaccess.proofs.user_range_ok.Tie as tie

@@ -9,7 +9,7 @@ use denote.Ref.{now}
 use borrow.Rule.Slice.PartMut.{mid-len}
 use Rattle.spec.specs.Numbers.{uaddrtop}
 use Rattle.spec.specs.Frames.{memOf, pokes}
-use Rattle.pagealloc.specs.Lent.{store}
+use Rattle.book.specs.Lent.{store}
 use Rattle.uaccess.proofs.Ranges.{range-top, range-cell}
 use Rattle.uaccess.proofs.Copies.{write-turn}
 use Rattle.uaccess.proofs.write_user.Statement.{statement}

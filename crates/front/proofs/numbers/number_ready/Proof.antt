@@ -7,7 +7,7 @@ use borrow.Author.Needs.{needs}
 use borrow.Author.Tests.{not-false}
 use Rattle.spec.specs.Frames.{sized}
 use Rattle.spec.proofs.Bools.{both}
-use Rattle.pagealloc.specs.Lent.{store}
+use Rattle.book.specs.Lent.{store}
 use Rattle.front.specs.Numbers.{numberError}
 use Rattle.front.proofs.First.{given, further, sizes-words}
 use Rattle.front.proofs.numbers.number_ready.Statement.{statement}

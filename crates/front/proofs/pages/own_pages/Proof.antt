@@ -5,7 +5,7 @@ use mathlib.Core.Path.{_≡_}
 use lib.ListN.{length, take}
 use borrow.Author.Needs.{needs}
 use Rattle.spec.specs.Book.{pageCount}
-use Rattle.sound.proofs.Walk.{length-mapped}
+use Rattle.records.proofs.Walk.{length-mapped}
 use Rattle.front.proofs.Own.{count-more, count-last}
 use Rattle.front.proofs.pages.own_pages.Statement.{statement}
 use Rattle.front.proofs.pages.own_pages.Tie as tie

@@ -5,7 +5,7 @@ use lib.ListN.{length}
 use Rattle.spec.specs.Book.{zeroProc}
 use Rattle.spec.proofs.Bools.{within-means}
 use Rattle.laws.proofs.Record.{Whole}
-use Rattle.sound.proofs.Whole.{noProc, within-array, whole-procs}
+use Rattle.records.proofs.Whole.{noProc, within-array, whole-procs}
 use Rattle.front.proofs.record.proc_at.Statement.{statement}
 use Rattle.front.proofs.record.proc_at.Tie as tie
 

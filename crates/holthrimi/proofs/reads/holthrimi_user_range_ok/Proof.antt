@@ -12,9 +12,9 @@ use denote.Triple.Spec.{Meets, tripleOf}
 use denote.Triple.Table.{entered, cited}
 use Rattle.spec.specs.Machine.{user-range-ok}
 use Rattle.front.specs.Numbers.{call}
-use Rattle.calls.proofs.user_range_ok as work
-use Rattle.calls.proofs.user_range_ok.Symbol as work-def
-use Rattle.calls.proofs.user_range_ok.Met as work-thm
+use Rattle.access.proofs.user_range_ok as work
+use Rattle.access.proofs.user_range_ok.Symbol as work-def
+use Rattle.access.proofs.user_range_ok.Met as work-thm
 use Rattle.holthrimi.proofs.Locals.{ok, enters}
 use Rattle.holthrimi.proofs.Params.{Par, bytes, flag, number, records, words, spells, all-tell, all-fit}
 use Rattle.holthrimi.proofs.Telling.{Setting, setting, asked, walks, arg}
@@ -55,4 +55,4 @@ holthrimi-user-range-ok-spec 𝓤 H 𝓜 𝓖 𝓡 =
     let Z : Setting 𝓤 H = setting 𝓤 H 𝓜 𝓖 𝓡 code.env code.calls-told·tell in
     entered 𝓤 H (tripleOf 𝓤 H (𝓖 .A) f.signature (f.spec 𝓤 H (𝓖 .A) (𝓜 .mem) (𝓡 .run)))
     (Z .C) (Z .Λ) #f code.function (code.unfolded 𝓤 H 𝓜 𝓡) (meets 𝓤 H Z
-    (cited 𝓤 H (Work 𝓤 H Z) 𝓜 𝓡 code.env work-def.name work-def.routine code.calls-calls·user-range-ok (work-thm.met 𝓤 H 𝓜 𝓖 𝓡)))
+    (cited 𝓤 H (Work 𝓤 H Z) 𝓜 𝓡 code.env work-def.name work-def.routine code.calls-access·user-range-ok (work-thm.met 𝓤 H 𝓜 𝓖 𝓡)))

@@ -12,9 +12,9 @@ use denote.Triple.Spec.{Meets, tripleOf}
 use denote.Triple.Table.{entered, cited}
 use Rattle.spec.specs.Machine.{end}
 use Rattle.front.specs.Numbers.{call}
-use Rattle.calls.proofs.end as work
-use Rattle.calls.proofs.end.Symbol as work-def
-use Rattle.calls.proofs.end.Met as work-thm
+use Rattle.end.proofs.end as work
+use Rattle.end.proofs.end.Symbol as work-def
+use Rattle.end.proofs.end.Met as work-thm
 use Rattle.holthrimi.proofs.Locals.{ok, enters}
 use Rattle.holthrimi.proofs.Params.{Par, bytes-mut, number, records-mut, words-mut, spells, all-tell, all-fit}
 use Rattle.holthrimi.proofs.Telling.{Setting, setting, asked, walks, relent, arg}
@@ -57,4 +57,4 @@ holthrimi-end-spec 𝓤 H 𝓜 𝓖 𝓡 =
     let Z : Setting 𝓤 H = setting 𝓤 H 𝓜 𝓖 𝓡 code.env code.calls-told·tell in
     entered 𝓤 H (tripleOf 𝓤 H (𝓖 .A) f.signature (f.spec 𝓤 H (𝓖 .A) (𝓜 .mem) (𝓡 .run)))
     (Z .C) (Z .Λ) #f code.function (code.unfolded 𝓤 H 𝓜 𝓡) (meets 𝓤 H Z
-    (cited 𝓤 H (Work 𝓤 H Z) 𝓜 𝓡 code.env work-def.name work-def.routine code.calls-calls·end (work-thm.met 𝓤 H 𝓜 𝓖 𝓡)))
+    (cited 𝓤 H (Work 𝓤 H Z) 𝓜 𝓡 code.env work-def.name work-def.routine code.calls-end·end (work-thm.met 𝓤 H 𝓜 𝓖 𝓡)))

@@ -3,7 +3,7 @@ use mathlib.Core.Path.{_≡_, refl, _∙_}
 use Prim.Native.Nat.{_-_, _≤_}
 use native.Mathlib.Omega.{arith}
 use lib.ListN.{length, length-set}
-use Rattle.pagealloc.proofs.Overwrite.{mix, mix-none, mix-turn, mix-all}
+use Rattle.book.proofs.Overwrite.{mix, mix-none, mix-turn, mix-all}
 use Rattle.pagealloc.proofs.frames.copy.Statement.{statement}
 use Rattle.pagealloc.proofs.frames.copy.Tie as tie
 

@@ -7,7 +7,7 @@ use native.Mathlib.Omega.{arith}
 use denote.Ref.{now}
 use Rattle.spec.specs.Book.{frameOf}
 use Rattle.spec.specs.Frames.{Store, memOf, frameBytes}
-use Rattle.pagealloc.specs.Lent.{store}
+use Rattle.book.specs.Lent.{store}
 use Rattle.pagealloc.proofs.Placing.{Ran, ran-start, ran-turn, ran-full, ran-end, free-found, free-word}
 use Rattle.pagealloc.proofs.Copying.{mapped-same, copied-turn}
 use borrow.Author.Needs.{needs}

@@ -8,8 +8,8 @@ use lib.ListN.{getD}
 use borrow.Author.Tests.{eq-eqb, ne-eqb}
 use Rattle.spec.specs.Tests.{_is_}
 use Rattle.spec.specs.Book.{highest}
-use Rattle.pagealloc.specs.Lent.{foundOf}
-use Rattle.pagealloc.proofs.Searches.{highest-here, highest-less, highest-end}
+use Rattle.book.specs.Lent.{foundOf}
+use Rattle.book.proofs.Searches.{highest-here, highest-less, highest-end}
 use Rattle.pagealloc.proofs.place.free_below.Statement.{statement}
 use Rattle.pagealloc.proofs.place.free_below.Tie as tie
 

@@ -8,7 +8,7 @@ use lib.ListN.{length, take, length-take, length-drop}
 use Rattle.spec.specs.Numbers.{pageDown}
 use Rattle.spec.specs.Book.{frameOf}
 use Rattle.spec.specs.Frames.{pokes}
-use Rattle.pagealloc.specs.Lent.{store}
+use Rattle.book.specs.Lent.{store}
 use Rattle.pagealloc.proofs.Chunks.{frame-at, not-missed, write-none, write-turn, write-all}
 use borrow.Author.Needs.{needs}
 use Rattle.pagealloc.proofs.user.write_user.Statement.{statement}

@@ -6,9 +6,9 @@ use lib.ListN.{length}
 use Rattle.spec.specs.Book.{zeroProc}
 use Rattle.spec.proofs.Bools.{all-at}
 use Rattle.laws.proofs.Record.{Whole, WholeProc}
-use Rattle.sound.specs.Records.{passes}
+use Rattle.records.specs.Records.{passes}
 use Rattle.sound.specs.Plan.{LaidTo}
-use Rattle.sound.proofs.Whole.{noProc, within-array, proc-is, whole-procs}
+use Rattle.records.proofs.Whole.{noProc, within-array, proc-is, whole-procs}
 use Rattle.sound.proofs.Laying.{laidto-none, laidto-more, laid-all}
 use Rattle.sound.proofs.Passing.{small-parts}
 use Rattle.sound.proofs.plan.lay_all.Statement.{statement}

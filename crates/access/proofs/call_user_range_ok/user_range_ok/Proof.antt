@@ -1,0 +1,55 @@
+-- `user_range_ok` meets its contract: the range's test is 1 or 0.
+use mathlib.Core.Path.{_≡_, refl, sym, _∙_}
+use denote.Ref.{now}
+use Rattle.spec.specs.Book.{free}
+use Rattle.spec.specs.Machine.{Ask, user-range-ok, Reply, outcome, weigh}
+use Rattle.spec.specs.World.{State, view, leave, Does}
+use Rattle.sound.proofs.Lookup.{blank-zeros}
+use Rattle.front.specs.Numbers.{stateOf, call}
+use Rattle.front.proofs.Answers.{plain-refused, plain-goes}
+use Rattle.access.proofs.Access.{range-yes, range-no}
+use Rattle.access.proofs.call_user_range_ok.user_range_ok.Statement.{statement}
+use Rattle.access.proofs.call_user_range_ok.user_range_ok.Tie as tie
+
+plain-ready-requires : tie.Need-plain-ready-requires
+plain-ready-requires c κs = (refl, refl, refl, blank-zeros 1024)
+
+returns : tie.Need-returns
+returns c =
+    let e = c .before .plain-ready in
+    let a = c .before .before .before .before .before .before .before .args in
+    plain-refused _ _ (user-range-ok (a .addr) (a .len) (a .write)) (e .result) refl (e .ensures .0) (c .if1 .taken)
+
+-- where no number came first
+module _ (c : tie.Else1) where
+  abbrev start : tie.Start
+  start = c .before .before .before .before .before .before .before
+
+  abbrev state : State
+  state = stateOf (now (start .args .frames)) (now (start .args .book)) (start .args .procs)
+
+  abbrev asked : Ask
+  asked = user-range-ok (start .args .addr) (start .args .len) (start .args .write)
+
+  answers : (t : State) (r : Reply) → weigh (view state (start .args .number)) (free (now (start .args .book))) asked ≡ r
+      → t ≡ leave state (call (start .args .number) asked) (outcome r) → Does state (call (start .args .number) asked) t r
+  answers = plain-goes state (start .args .number) asked (c .before .plain-ready .result) refl (c .before .plain-ready .ensures .0) (c .if1 .left)
+
+user-range-ok-requires : tie.Need-user-range-ok-requires
+user-range-ok-requires c κs = let i = c .before .before .before in i .before .plain-ready .ensures .1 (i .if1 .left)
+
+returns-2 : tie.Need-returns-2
+returns-2 c =
+    let i = c .before .before .before .before .before in
+    let a = start i .args in
+    answers i _ _ (range-yes (view (state i) (a .number)) (free (now (a .book))) (a .write) (a .addr) (a .len) (sym (c .before .user-range-ok .ensures (now (a .frames))) ∙ c .if2 .taken)) refl
+
+returns-3 : tie.Need-returns-3
+returns-3 c =
+    let i = c .before .before .before .before .before in
+    let a = start i .args in
+    answers i _ _ (range-no (view (state i) (a .number)) (free (now (a .book))) (a .write) (a .addr) (a .len) (sym (c .before .user-range-ok .ensures (now (a .frames))) ∙ c .if2 .left)) refl
+
+pub user-range-ok-spec : {M : Type 1} → statement M
+user-range-ok-spec =
+    tie.close (tie.spec plain-ready-requires returns user-range-ok-requires returns-2 returns-3)

@@ -1,0 +1,4 @@
+-- Loops over the book, and loops that overwrite a list from the front.
+pub mod Searches
+pub mod Overwrite
+pub mod Released

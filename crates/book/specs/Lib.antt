@@ -1,0 +1,2 @@
+-- What is lent, and the answers of searches.
+pub mod Lent

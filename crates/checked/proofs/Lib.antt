@@ -1,0 +1,3 @@
+-- Laws of a header table, one file for each idea.
+pub mod Indexed
+pub mod Tables

@@ -1,0 +1,39 @@
+-- A header read from the table is the header read from the image.
+use Prim.Native.Nat.{ℕ, zero, suc, _+_, _*_, _≤_, _<_}
+use native.Mathlib.Omega.{arith}
+use mathlib.Core.Path.{_≡_, refl, ap, ap₂, _∙_}
+use mathlib.Core.List.{List}
+use lib.ListN.{length, take, drop, length-drop}
+use lib.Seq.{getD-take, getD-drop, length-take-le}
+use Rattle.spec.specs.Numbers.{le}
+use Rattle.spec.specs.Elf.{phdrAt}
+
+-- a number in a part of the image
+le-part : (k n o : ℕ) (image : List ℕ) (at : ℕ) → at + k ≤ n → le k (take n (drop o image)) at ≡ le k image (o + at)
+le-part zero n o image at h = refl
+le-part (suc k) n o image at h =
+    let e : o + (at + 1) ≡ o + at + 1 = omega arith in
+    ap₂ (λ (x y : ℕ). x + 256 * y) (getD-take n (drop o image) at 0 (omega (arith, h)) ∙ getD-drop o image at 0)
+    (le-part k n o image (at + 1) (omega (arith, h)) ∙ ap (le k image) e)
+
+-- a field of the header at `at`, c bytes on
+field-part : (k c n o : ℕ) (image : List ℕ) (at : ℕ) → at + c + k ≤ n → le k (take n (drop o image)) (at + c) ≡ le k image (o + at + c)
+field-part k c n o image at h = let e : o + (at + c) ≡ o + at + c = omega arith in le-part k n o image (at + c) h ∙ ap (le k image) e
+
+pub header-part : (n o : ℕ) (image : List ℕ) (at : ℕ) → at + 56 ≤ n → phdrAt (take n (drop o image)) at ≡ phdrAt image (o + at)
+header-part n o image at h = λ i. record {
+  type = le-part 4 n o image at (omega (arith, h)) i;
+  flags = field-part 4 4 n o image at (omega (arith, h)) i;
+  offset = field-part 8 8 n o image at (omega (arith, h)) i;
+  vaddr = field-part 8 16 n o image at (omega (arith, h)) i;
+  filesz = field-part 8 32 n o image at (omega (arith, h)) i;
+  memsz = field-part 8 40 n o image at (omega (arith, h)) i;
+}
+
+-- the table has all its headers
+pub table-length : (n o : ℕ) (image : List ℕ) → o + n ≤ length image → length (take n (drop o image)) ≡ n
+table-length n o image h = length-take-le n (drop o image) (omega (arith, h, length-drop o image))
+
+-- header i is in it
+pub header-within : (i count : ℕ) → i < count → 56 * i + 56 ≤ 56 * count
+header-within i count h = omega (arith, h)

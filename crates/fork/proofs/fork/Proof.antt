@@ -1,0 +1,126 @@
+-- `fork` meets its contract: the parent's pages are counted, then copied.
+use Prim.Native.Nat.{ℕ, _≤_, _<_}
+use native.Mathlib.Omega.{arith}
+use mathlib.Core.Path.{_≡_, refl, sym, ap, _∙_}
+use mathlib.Core.Bool.{true}
+use mathlib.Core.List.{List, [], _∷_, _++_}
+use denote.Ref.{now}
+use borrow.Author.Needs.{needs}
+use Rattle.spec.specs.Book.{free, used, bssSegment, pageCount, procAt, piecesOf}
+use Rattle.spec.specs.Sound.{Shape}
+use Rattle.spec.specs.World.{State, view, setProc}
+use Rattle.spec.specs.declared.UserSegment.{UserSegment}
+use Rattle.spec.specs.declared.Proc.{Proc}
+use Rattle.laws.proofs.Record.{Whole}
+use Rattle.records.proofs.Whole.{whole-procs}
+use Rattle.front.specs.Numbers.{stateOf}
+use Rattle.front.proofs.First.{Forks, fork-none}
+use Rattle.front.proofs.Answers.{fork-refused, fork-goes}
+use Rattle.front.proofs.Living.{living-shape}
+use Rattle.front.proofs.Own.{count-own}
+use Rattle.front.proofs.States.{state-is}
+use Rattle.fork.proofs.Forked.{fork-short, fork-fits}
+use Rattle.fork.proofs.fork.Statement.{statement}
+use Rattle.fork.proofs.fork.Tie as tie
+
+-- where no number came first
+module _ (c : tie.Else1) where
+  abbrev start : tie.Start
+  start = c .before .before .before .before .before .before
+
+  abbrev state : State
+  state = stateOf (now (start .args .frames)) (now (start .args .book)) (start .args .procs)
+
+  forks : Forks state (start .args .number) (start .args .child)
+  forks = fork-none state (start .args .number) (start .args .child) (sym (c .before .fork-error .ensures) ∙ c .if1 .left)
+
+  whole : Whole (start .args .procs)
+  whole = let g = start .good .1 .1 .0 .1 .1 .0 in whole-procs (start .args .procs) (g .0) (g .1 .1) (g .1 .0 .1)
+
+  shape : (image : List UserSegment) × Shape (procAt (start .args .procs) (start .args .number)) image
+  shape = living-shape state (start .args .number) true whole (forks .passed) (forks .parent)
+
+-- the count is the specification's
+counted : (c : tie.After-own-pages) → c .own-pages .result ≡ pageCount (piecesOf (procAt (start (c .before .before .before .before) .args .procs) (start (c .before .before .before .before) .args .number)))
+counted c =
+    let f = c .before .before .before .before in
+    let h = shape f in
+    c .own-pages .ensures ∙ ap (λ (p : Proc). pageCount (p .segments ++ bssSegment (p .bss) ∷ [])) (c .before .before .before .proc-at .ensures)
+    ∙ count-own (procAt (start f .args .procs) (start f .args .number)) (h .0) (h .1)
+
+fork-error-requires : tie.Need-fork-error-requires
+fork-error-requires c κs = search needs
+
+same-length : tie.Need-same-length
+same-length c = search needs
+
+same-length-2 : tie.Need-same-length-2
+same-length-2 c = search needs
+
+returns : tie.Need-returns
+returns c = let e = c .before .fork-error in fork-refused _ _ _ (e .result) (e .ensures) (c .if1 .taken)
+
+proc-at-requires : tie.Need-proc-at-requires
+proc-at-requires c κs = forks c .passed .number
+
+free-count-requires : tie.Need-free-count-requires
+free-count-requires c κs = search needs
+
+own-pages-requires : tie.Need-own-pages-requires
+own-pages-requires c κs = let b = shape (c .before .before .before) .1 in rw (c .before .before .proc-at .ensures) (omega (arith, b .bss-order, b .bss-end .1))
+
+same-length-3 : tie.Need-same-length-3
+same-length-3 c = search needs
+
+same-length-4 : tie.Need-same-length-4
+same-length-4 c = search needs
+
+returns-2 : tie.Need-returns-2
+returns-2 c =
+    let f = c .before .before .before .before .before in
+    let a = start f .args in
+    let e = f .before .fork-error in
+    fork-goes (state f) (a .number) (a .child) (e .result) (e .ensures) (f .if1 .left) _ _
+    (fork-short (view (state f) (a .number)) (free (now (a .book))) (a .child) (used (procAt (a .procs) (a .number) .segments)) (omega (arith, counted (c .before), c .before .before .free-count .ensures))) refl
+
+copy-segments-requires : tie.Need-copy-segments-requires
+copy-segments-requires c κs = let f = c .before .before .before .before .before .before .before in sym (f .before .fork-error .ensures) ∙ f .if1 .left
+
+with-proc-requires : tie.Need-with-proc-requires
+with-proc-requires c κs = forks (c .before .before .before .before .before .before .before .before .before .before .before .before) .second
+
+same-length-5 : tie.Need-same-length-5
+same-length-5 c = search needs
+
+same-length-6 : tie.Need-same-length-6
+same-length-6 c = search needs
+
+returns-3 : tie.Need-returns-3
+returns-3 c =
+    let u = c .before .before .before .before .before .before .before .before in
+    let f = u .before .before .before .before .before in
+    let a = start f .args in
+    let e = f .before .fork-error in
+    fork-goes (state f) (a .number) (a .child) (e .result) (e .ensures) (f .if1 .left) _ _
+    (fork-fits (view (state f) (a .number)) (free (now (a .book))) (a .child) (used (procAt (a .procs) (a .number) .segments)) (omega (arith, counted (u .before), u .before .before .free-count .ensures)))
+    (state-is _ _ _ _ (c .before .before .before .before .before .copy-segments .ensures) (c .with-proc .ensures ∙ ap (setProc (a .procs) (a .child)) (u .before .before .before .before .proc-at .ensures)))
+
+pub fork-spec : {M : Type 1} → statement M
+fork-spec =
+    tie.close
+    (tie.spec
+    fork-error-requires
+    same-length
+    same-length-2
+    returns
+    proc-at-requires
+    free-count-requires
+    own-pages-requires
+    same-length-3
+    same-length-4
+    returns-2
+    copy-segments-requires
+    with-proc-requires
+    same-length-5
+    same-length-6
+    returns-3)

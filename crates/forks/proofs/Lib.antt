@@ -1,0 +1,8 @@
+-- Laws of a lent list, one file for each idea.
+pub mod Again
+pub mod Answered
+pub mod Copies
+pub mod Finished
+pub mod Judged
+pub mod Listed
+pub mod Loans

@@ -1,0 +1,23 @@
+-- What a fork with a lent list is refused with.
+-- Assumes nothing.
+use Prim.Native.Nat.{ℕ}
+use mathlib.Core.Bool.{Bool, not, _&&_}
+use Rattle.spec.specs.Tests.{_isnt_, _above_, _⇒_else_, _orElse_}
+use Rattle.spec.specs.Book.{valid, free, zeroProc, procAt}
+use Rattle.spec.specs.Machine.{own}
+use Rattle.spec.specs.World.{State, view}
+use Rattle.spec.specs.declared.Proc.{Proc}
+use Rattle.spec.specs.declared.Procs.{Procs}
+use Rattle.front.specs.Numbers.{forkError}
+
+-- the record of a process; a number outside 1 to 16 has none
+abbrev pub recordOf : Procs → ℕ → Proc
+recordOf ps n = valid n ⇒ procAt ps n else zeroProc
+
+-- 1 to 5 in their order; `alike`: the list is the record's segments. A list that is not is 2, behind 1
+unfoldable pub listError : State → ℕ → ℕ → Bool → ℕ
+listError s n child alike = (not alike && forkError s n child isnt 1) && valid n ⇒ 2 else forkError s n child
+
+-- then 33, if the free frames don't hold a copy
+unfoldable pub forkNumber : State → ℕ → ℕ → Bool → ℕ
+forkNumber s n child alike = listError s n child alike orElse (own (view s n) above free (s .store .book) ⇒ 33 else 0)

@@ -1,0 +1,139 @@
+// Fork with its list: the parent's recorded segments are lent as a slice of records, as r9's `copy_segments` takes them, and a list
+// unlike the record is refused with 2. `calls::fork` is the version by value. The borrow checker covers no function that takes a
+// slice of structs, so `same_list`, `copy_segments`, `forked` and `fork_list` are proved by hand; the work in them is done by
+// functions that take one record by value.
+
+mod copy;
+mod list;
+
+ghost use mathlib.Core.Path.{_≡_};
+ghost use mathlib.Core.Bool.{true};
+ghost use mathlib.Core.List.{[], _∷_};
+ghost use Prim.Native.Nat.{_*_, _^_, _≤_, _<_};
+ghost use lib.ListN.{length};
+ghost use Rattle.spec.specs.Tests.{same};
+ghost use Rattle.spec.specs.Numbers.{pageUp};
+ghost use Rattle.spec.specs.Book.{valid, frameOf, sameSegment, used, bssSegment, procAt};
+ghost use Rattle.spec.specs.Frames.{pagesOf, place, frameBytes};
+ghost use Rattle.spec.specs.Machine.{fork, plainly};
+ghost use Rattle.spec.specs.World.{setProc, copy, Does};
+ghost use Rattle.spec.specs.declared.Answer.the-variants.{Done, Refused};
+ghost use Rattle.book.specs.Lent.{store};
+ghost use Rattle.pagealloc.specs.Lent.{Passed};
+ghost use Rattle.front.specs.Numbers.{stateOf, call, forkError};
+ghost use Rattle.forks.specs.Lent.{Copyable};
+ghost use Rattle.forks.specs.Fork.{recordOf, forkNumber};
+pub use copy::copy_segments;
+use front::left::Left;
+pub use list::same_list;
+use spec::Answer;
+use spec::Proc;
+use spec::Procs;
+use spec::UserSegment;
+
+// The record of a process; a number outside 1 to 16 has none.
+fn recorded(procs: Procs, number: u64) -> Proc
+    ensures { λ r. ⌜ r ≡ recordOf procs number ⌝ }
+{
+    if !front::record::is_number(number) {
+        return front::record::zero_proc();
+    }
+    front::record::proc_at(procs, number)
+}
+
+// What a fork is refused with: 1 to 5 and 33, or 0. `alike`: its list is the parent's record's segments.
+fn fork_number(
+    frames: &[u8],
+    book: &[u64],
+    procs: Procs,
+    number: u64,
+    child: u64,
+    alike: bool,
+) -> u64
+    ensures { λ r. ⌜ r ≡ forkNumber (stateOf (now (frames .entry)) (now (book .entry)) procs) number child alike ⌝ }
+{
+    let e = front::numbers::fork_error(frames, book, procs, number, child);
+    if !alike & (e != spec::SIZES) & front::record::is_number(number) {
+        return spec::TORN;
+    }
+    if e != 0 {
+        return e;
+    }
+    let p = front::record::proc_at(procs, number);
+    let free = book::free_count(book) as u64;
+    if front::pages::own_pages(p) > free {
+        return spec::ENOVMEM;
+    }
+    0
+}
+
+// A refusal: the records are as they were.
+fn refused(procs: Procs, e: u64) -> Left
+    ensures { λ r. ⌜ r ≡ record { procs = procs; answer = Refused e } ⌝ }
+{
+    Left {
+        procs: procs,
+        answer: Answer::Refused(e),
+    }
+}
+
+// The end of a fork: the pages of the bss are copied, and the child takes record and name.
+fn finish(
+    frames: &mut [u8],
+    book: &mut [u64],
+    top: usize,
+    procs: Procs,
+    number: u64,
+    child: u64,
+) -> Left
+    requires { ⌜ (length (now frames) ≡ 4096 * length (now book)) × (valid number ≡ true) × (valid child ≡ true) × (number ≡ child → ⊥) × (pageUp (procAt procs number .bss .start) < 2 ^ 64) × Copyable (now book) number (bssSegment (procAt procs number .bss)) × Passed top (now book) ⌝ }
+    ensures { λ r. ⌜ (store (now (frames .exit)) (now (book .exit)) ≡ place (store (now (frames .entry)) (now (book .entry))) child (pagesOf (λ a. frameBytes (now (frames .entry)) (frameOf (now (book .entry)) number a)) (bssSegment (procAt procs number .bss) ∷ []))) × (r ≡ record { procs = setProc procs child (procAt procs number); answer = Done }) ⌝ }
+{
+    let p = front::record::proc_at(procs, number);
+    let bss = p.bss;
+    let s = front::pages::bss_segment(bss);
+    pagealloc::place::copy_segment(frames, book, top, number, child, s);
+    let after = front::record::with_proc(procs, child, p);
+    Left {
+        procs: after,
+        answer: Answer::Done,
+    }
+}
+
+// A fork that nothing forbids: every page now, segments in the list's order, then the bss; the child takes record and name.
+fn forked(
+    frames: &mut [u8],
+    book: &mut [u64],
+    procs: Procs,
+    number: u64,
+    child: u64,
+    segments: &[UserSegment],
+) -> Left
+    requires { ⌜ (forkError (stateOf (now frames) (now book) procs) number child ≡ 0) × (same sameSegment (now segments) (used (procAt procs number .segments)) ≡ true) ⌝ }
+    ensures { λ r. ⌜ (stateOf (now (frames .exit)) (now (book .exit)) (r .procs) ≡ copy (stateOf (now (frames .entry)) (now (book .entry)) procs) number child (procAt procs number)) × (r .answer ≡ Done) ⌝ }
+{
+    let top = copy::copy_segments(frames, book, number, child, segments);
+    finish(frames, book, top, procs, number, child)
+}
+
+// Forks process `number` as `child`, whose memory and record are its parent's from now on its own. `segments` lists the parent's
+// recorded segments. Refused with 1 to 5, a list unlike the record with 2, or, if the free frames don't hold a copy, with 33, it
+// changes nothing.
+pub fn fork_list(
+    frames: &mut [u8],
+    book: &mut [u64],
+    procs: Procs,
+    number: u64,
+    child: u64,
+    segments: &[UserSegment],
+) -> Left
+    ensures { λ r. ⌜ Does (stateOf (now (frames .entry)) (now (book .entry)) procs) (call number (fork child (now (segments .entry)))) (stateOf (now (frames .exit)) (now (book .exit)) (r .procs)) (plainly (r .answer)) ⌝ }
+{
+    let p = recorded(procs, number);
+    let alike = list::same_list(segments, p);
+    let e = fork_number(frames, book, procs, number, child, alike);
+    if e != 0 {
+        return refused(procs, e);
+    }
+    forked(frames, book, procs, number, child, segments)
+}
