@@ -58,7 +58,8 @@ struct holthrimi_segment {
     uint64_t perm;
 };
 
-/* A process: its segments, the stack last, then unused places; its name; and its bss, which the break moves. */
+/* A process: its segments, the stack last, then unused places; its name; and its bss, which the break moves. Between the last two C
+ * leaves four bytes that mean nothing. */
 struct holthrimi_proc {
     struct holthrimi_segment segments[HOLTHRIMI_SEGMENTS];
     uint8_t text[HOLTHRIMI_NAME];

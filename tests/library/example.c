@@ -86,6 +86,12 @@ static int peek(uint64_t number, uint64_t address) {
     return accepted(holthrimi_copy_from_user(LENT, number, &byte, 1, address)) ? byte : -1;
 }
 
+/* Records are compared by their fields, since C leaves open what stands between them. */
+static bool same(const struct holthrimi_proc *a, const struct holthrimi_proc *b) {
+    return memcmp(a->segments, b->segments, sizeof a->segments) == 0 && memcmp(a->text, b->text, sizeof a->text) == 0 &&
+           memcmp(&a->bss, &b->bss, sizeof a->bss) == 0;
+}
+
 static uint64_t free_frames(void) {
     uint64_t n = 0;
     for (int i = 0; i < WORDS; i++) {
@@ -150,7 +156,7 @@ int main(void) {
 
     /* Fork: the child has its parent's bytes, and its own from then on. */
     CHECK(accepted(holthrimi_fork(LENT, 1, 2)) && free_frames() == WORDS - 16);
-    CHECK(memcmp(&procs.all[0], &procs.all[1], sizeof procs.all[0]) == 0);
+    CHECK(same(&procs.all[0], &procs.all[1]));
     CHECK(accepted(holthrimi_copy_to_user(LENT, 2, 77830, (const uint8_t *)"K", 1)));
     CHECK(peek(1, 77830) == 'k' && peek(2, 77830) == 'K' && peek(2, 77831) == 'e');
     CHECK(refused(holthrimi_fork(LENT, 1, 2), HOLTHRIMI_TAKEN) && accepted(holthrimi_fork(LENT, 1, 3)));
@@ -171,8 +177,8 @@ int main(void) {
     /* End. */
     CHECK(accepted(holthrimi_end(LENT, 1)) && accepted(holthrimi_end(LENT, 2)) && accepted(holthrimi_end(LENT, 4)));
     CHECK(free_frames() == WORDS && holthrimi_check(LENT) == 0);
-    static const struct holthrimi_procs none;
-    CHECK(memcmp(&procs, &none, sizeof procs) == 0);
+    static const struct holthrimi_proc none;
+    CHECK(same(&procs.all[0], &none) && same(&procs.all[1], &none) && same(&procs.all[2], &none));
     book[0] = 1;
     CHECK(holthrimi_check(LENT) == HOLTHRIMI_TORN && refused(holthrimi_end(LENT, 1), HOLTHRIMI_TORN));
     uint8_t short_name[HOLTHRIMI_NAME];

@@ -1,4 +1,6 @@
 -- How the exported calls are walked.
 pub mod Locals
+pub mod Params
+pub mod Telling
 pub mod Kept
 pub mod Looked

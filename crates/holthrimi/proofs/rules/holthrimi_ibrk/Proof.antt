@@ -29,7 +29,8 @@ returns : tie.Need-returns
 returns c =
     let i = c .before .before .before in
     let a = i .before .args in
-    c .ruled .ensures ∙ ap ruleOf (c .before .ibrk .ensures ∙ ap (λ (o : Option VirtRange). ibrk o (a .addr) (a .free)) (is-set (a .set) _ (range (a .start) (a .end)) (i .if1 .taken) (c .before .before .range .ensures)))
+    c .ruled .ensures ∙ ap ruleOf (c .before .ibrk .ensures ∙ ap
+    (λ (o : Option VirtRange). ibrk o (a .addr) (a .free)) (is-set (a .set) _ (range (a .start) (a .end)) (i .if1 .taken) (c .before .before .range .ensures)))
 
 ibrk-requires-2 : tie.Need-ibrk-requires-2
 ibrk-requires-2 c κs = search needs
@@ -41,7 +42,8 @@ returns-2 : tie.Need-returns-2
 returns-2 c =
     let i = c .before .before in
     let a = i .before .args in
-    c .ruled2 .ensures ∙ ap ruleOf (c .before .ibrk2 .ensures ∙ ap (λ (o : Option VirtRange). ibrk o (a .addr) (a .free)) (is-unset (a .set) (range (a .start) (a .end)) (i .if1 .left)))
+    c .ruled2 .ensures ∙ ap ruleOf (c .before .ibrk2 .ensures ∙ ap
+    (λ (o : Option VirtRange). ibrk o (a .addr) (a .free)) (is-unset (a .set) (range (a .start) (a .end)) (i .if1 .left)))
 
 pub holthrimi-ibrk-spec : {M : Type 1} → statement M
 holthrimi-ibrk-spec =

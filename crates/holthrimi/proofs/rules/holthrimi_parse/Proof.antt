@@ -23,7 +23,8 @@ returns : tie.Need-returns
 returns c = ap (λ (p : Parsed). said p .number) (sym (c .enum-told .given .1)) ∙ says-number _ (c .before .before .parse .result) (c .before .before .parse .ensures)
 
 returns-2 : tie.Need-returns-2
-returns-2 c = c .error-number .ensures ∙ ap (λ (p : Parsed). said p .number) (sym (c .before .before .p .given .1)) ∙ says-number _ (c .before .before .before .before .parse .result) (c .before .before .before .before .parse .ensures)
+returns-2 c = c .error-number .ensures ∙ ap
+    (λ (p : Parsed). said p .number) (sym (c .before .before .p .given .1)) ∙ says-number _ (c .before .before .before .before .parse .result) (c .before .before .before .before .parse .ensures)
 
 pub holthrimi-parse-spec : {M : Type 1} → statement M
 holthrimi-parse-spec =

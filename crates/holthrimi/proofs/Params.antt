@@ -1,0 +1,118 @@
+-- The parameters that an exported function may have, each with what a walk needs of it: its machine value, that its relation tells it,
+-- and that the value is of the type.
+-- Assumes nothing.
+use Prim.Native.Nat.{ℕ}
+use mathlib.Core.Bool.{Bool}
+use mathlib.Core.List.{List, [], _∷_}
+use lib.Dec.{T}
+use lib.ListN.{length}
+use mir.Syntax.{w64}
+use mir.Val.{Val, vint, vbool, vptr, WT, hasTy}
+use contract.Lifetimes.{Lfts, Within}
+use denote.RattleType.{RattleType, Denots}
+use denote.Memory.{lone}
+use denote.Laws.{Is, Ises, Are, Tells, Tellss, Spells, valss}
+use denote.Signature.{Slot, plain, nameOf, meetAt, typesAt}
+use denote.Plain.{uint-tells, bool-tells}
+use denote.Builtin.{u8, u64, bool, Ref, RefMut, SliceRef, SliceRefMut}
+use denote.Ref.{mut-tells, shr-tells}
+use denote.Slice.{sliceVal, mut-slice-tells, shr-slice-tells}
+use Rattle.spec.proofs.Procs as P
+
+pub record Par (n : ℕ) : Type 2 where
+  pub slot : Slot n
+  pub val : (κs : Lfts n) → slot .row κs .Denot → Val
+  pub tells : (κs : Lfts n) → Tells (slot .row κs) (Is (slot .row κs)) (λ x. val κs x ∷ [])
+  pub typed : (κs : Lfts n) (x : slot .row κs .Denot) → Is (slot .row κs) x (val κs x ∷ [])
+      → T (hasTy (lone (slot .row κs .mir)) (val κs x)) × WT (val κs x)
+
+module _ {n : ℕ} where
+  -- a number, and a bool
+  abbrev pub number : Par n
+  number = record {
+    slot = plain (λ _. u64);
+    val = λ κs x. vint w64 x;
+    tells = λ κs. uint-tells w64;
+    typed = λ κs x is. (tt, record { fits = is .1 });
+  }
+
+  abbrev pub flag : Par n
+  flag = record { slot = plain (λ _. bool); val = λ κs x. vbool x; tells = λ κs. bool-tells; typed = λ κs x is. (tt, tt) }
+
+  module _ (j : ℕ) (ok : Within n j) where
+    -- a lent slice of bytes or of words, to read
+    abbrev pub bytes : Par n
+    bytes = record {
+      slot = SliceRef j ok u8 tt;
+      val = λ κs x. sliceVal (x .ptr) (length (x .now));
+      tells = λ κs. shr-slice-tells (nameOf (j ∷ [])) (meetAt n (j ∷ []) ok κs) u8;
+      typed = λ κs x is. (tt, (tt, (record { fits = is .0 .1 .0 }, tt)));
+    }
+
+    abbrev pub words : Par n
+    words = record {
+      slot = SliceRef j ok u64 tt;
+      val = λ κs x. sliceVal (x .ptr) (length (x .now));
+      tells = λ κs. shr-slice-tells (nameOf (j ∷ [])) (meetAt n (j ∷ []) ok κs) u64;
+      typed = λ κs x is. (tt, (tt, (record { fits = is .0 .1 .0 }, tt)));
+    }
+
+    -- and to write
+    abbrev pub bytes-mut : Par n
+    bytes-mut = record {
+      slot = SliceRefMut j ok u8 tt;
+      val = λ κs x. sliceVal (x .ptr) (length (x .now));
+      tells = λ κs. mut-slice-tells (nameOf (j ∷ [])) (meetAt n (j ∷ []) ok κs) u8;
+      typed = λ κs x is. (tt, (tt, (record { fits = is .0 .1 .0 }, tt)));
+    }
+
+    abbrev pub words-mut : Par n
+    words-mut = record {
+      slot = SliceRefMut j ok u64 tt;
+      val = λ κs x. sliceVal (x .ptr) (length (x .now));
+      tells = λ κs. mut-slice-tells (nameOf (j ∷ [])) (meetAt n (j ∷ []) ok κs) u64;
+      typed = λ κs x is. (tt, (tt, (record { fits = is .0 .1 .0 }, tt)));
+    }
+
+    -- the records, to read and to write
+    abbrev pub records : Par n
+    records = record {
+      slot = Ref j ok P.the-row tt;
+      val = λ κs x. vptr (x .ptr .0) (x .ptr .1);
+      tells = λ κs. shr-tells (nameOf (j ∷ [])) (meetAt n (j ∷ []) ok κs) P.the-row;
+      typed = λ κs x is. (tt, tt);
+    }
+
+    abbrev pub records-mut : Par n
+    records-mut = record {
+      slot = RefMut j ok P.the-row tt;
+      val = λ κs x. vptr (x .ptr .0) (x .ptr .1);
+      tells = λ κs. mut-tells (nameOf (j ∷ [])) (meetAt n (j ∷ []) ok κs) P.the-row;
+      typed = λ κs x is. (tt, tt);
+    }
+
+  -- ---- of a list of parameters
+  abbrev pub slots : List (Par n) → List (Slot n)
+  slots [] = []
+  slots (p ∷ ps) = p .slot ∷ slots ps
+
+  module _ (κs : Lfts n) where
+    abbrev pub rows : List (Par n) → List RattleType
+    rows ps = typesAt (slots ps) κs
+
+    abbrev pub spells : (ps : List (Par n)) → Spells (rows ps)
+    spells [] = tt
+    spells (p ∷ ps) = ((λ x. p .val κs x ∷ []), spells ps)
+
+    pub all-tell : (ps : List (Par n)) → Tellss (rows ps) (Ises (rows ps)) (spells ps)
+    all-tell [] = tt
+    all-tell (p ∷ ps) = (p .tells κs, all-tell ps)
+
+    abbrev pub Fit : (ps : List (Par n)) → Denots (rows ps) → Type 0
+    Fit [] a = Unit {0}
+    Fit (p ∷ ps) a = (T (hasTy (lone (p .slot .row κs .mir)) (p .val κs (a .0))) × WT (p .val κs (a .0))) × Fit ps (a .1)
+
+    pub all-fit : (ps : List (Par n)) (a : Denots (rows ps)) → Are (rows ps) (Ises (rows ps)) a (valss (rows ps) (spells ps) a)
+        → Fit ps a
+    all-fit [] a are = tt
+    all-fit (p ∷ ps) a are = (p .typed κs (a .0) (are .0), all-fit ps (a .1) (are .1))
