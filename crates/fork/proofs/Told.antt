@@ -1,9 +1,8 @@
 -- The lists that the check leaves tell the parent's frames while pages are placed for the child.
 use Prim.Native.Nat.{ℕ, _%_, _<_}
 use mathlib.Core.Path.{_≡_, refl, sym, ap, _∙_}
-use mathlib.Core.Option.{Option, none, some}
+use mathlib.Core.Option.{some}
 use mathlib.Core.List.{List}
-use native.Mathlib.Omega.{arith}
 use lib.Dec.{eqb}
 use lib.ListN.{length, getD, set, length-set}
 use lib.Seq.{getD-set-same, getD-set-other}
@@ -11,7 +10,7 @@ use borrow.Author.Tests.{eqb-true, eqb-false}
 use Rattle.spec.specs.Book.{wordOf, ownerOf, highest, owns, frameOf}
 use Rattle.spec.specs.Frames.{Store, Page, hold}
 use Rattle.spec.specs.declared.Found.{Found}
-use Rattle.spec.specs.declared.Found.the-variants.{At, Nothing}
+use Rattle.spec.specs.declared.Found.the-variants.{At}
 use Rattle.spec.proofs.Bools.{split}
 use Rattle.spec.proofs.Search.{highest-ext}
 use Rattle.spec.proofs.Words.{unpack}

@@ -36,7 +36,8 @@ pub fn copy_segment(
     let mut page = range.start;
     let mut c = top;
     while page < end {
-        let spec::Found::At(from) = sound::frame_at(tags, bases, table, parent as usize, page) else {
+        let spec::Found::At(from) = sound::frame_at(tags, bases, table, parent as usize, page)
+        else {
             return 0;
         };
         let spec::Found::At(k) = pagealloc::place::free_below(book, c) else {
