@@ -1,1 +1,2 @@
 pub mod Forked
+pub mod Told

@@ -127,11 +127,22 @@ pub fn begin_error(frames: &[u8], book: &[u64], procs: Procs, number: u64, fits:
     0
 }
 
-// 1 to 5 of a fork whose list is the record's own.
-pub fn fork_error(frames: &[u8], book: &[u64], procs: Procs, number: u64, child: u64) -> u64
+// 1 to 5 of a fork whose list is the record's own, and the lists for its lookups.
+pub fn fork_ready(
+    frames: &[u8],
+    book: &[u64],
+    procs: Procs,
+    number: u64,
+    child: u64,
+    tags: &mut [u64; 272],
+    bases: &mut [u64; 273],
+    table: &mut [u16; 1024],
+) -> u64
+    requires { ⌜ (length (now tags) ≡ 272) × (length (now bases) ≡ 273) × (length (now table) ≡ 1024) × Blank (now table) ⌝ }
     ensures { λ r. ⌜ r ≡ forkError (stateOf (now (frames .entry)) (now (book .entry)) procs) number child ⌝ }
+    ensures { λ r. ⌜ (r ≡ 0 → Ready (now (book .entry)) (now (tags .exit)) (now (bases .exit)) (now (table .exit))) ⌝ }
 {
-    let e = number_error(frames, book, procs, number, true);
+    let e = number_ready(frames, book, procs, number, true, tags, bases, table);
     if e != 0 {
         return e;
     }
@@ -145,4 +156,23 @@ pub fn fork_error(frames: &[u8], book: &[u64], procs: Procs, number: u64, child:
         return spec::TAKEN;
     }
     0
+}
+
+// The same for a call that looks no page up.
+pub fn fork_error(frames: &[u8], book: &[u64], procs: Procs, number: u64, child: u64) -> u64
+    ensures { λ r. ⌜ r ≡ forkError (stateOf (now (frames .entry)) (now (book .entry)) procs) number child ⌝ }
+{
+    let mut tags = [0u64; 272];
+    let mut bases = [0u64; 273];
+    let mut table = [0u16; 1024];
+    fork_ready(
+        frames,
+        book,
+        procs,
+        number,
+        child,
+        &mut tags,
+        &mut bases,
+        &mut table,
+    )
 }

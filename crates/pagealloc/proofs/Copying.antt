@@ -19,16 +19,9 @@ use Rattle.laws.proofs.Contents.{length-frame, frame-same}
 use Rattle.book.specs.Lent.{foundOf}
 use Rattle.pagealloc.proofs.Placing.{found-none}
 
--- a page's frame and a free frame lie apart
-pub apart : (book : List ℕ) (n page j k : ℕ) → frameOf book n page ≡ some j → getD book k 0 ≡ 0
-    → (j < length book) × ((4096 * j + 4096 ≤ 4096 * k) ⊎ (4096 * k + 4096 ≤ 4096 * j))
-apart book n page j k e z =
-    let f = frame-found book n page j e in (
-      f .0,
-      split (eqb j k)
-          (λ q. absurd (f .1 .used (ap (λ (i : ℕ). getD book i 0) (eqb-true j k q) ∙ z)))
-          (λ q. let ne = eqb-false j k q in by-order j k (λ l. inl (omega arith)) (λ l. inr (higher ne l))),
-    )
+-- a used frame and a free frame lie apart
+pub apart : (book : List ℕ) (j k : ℕ) → (getD book j 0 ≡ 0 → ⊥) → getD book k 0 ≡ 0 → (4096 * j + 4096 ≤ 4096 * k) ⊎ (4096 * k + 4096 ≤ 4096 * j)
+apart book j k used z = by-order j k (λ l. inl (omega arith)) (λ l. inr (higher (λ e. used (ap (λ (i : ℕ). getD book i 0) e ∙ z)) l))
   where
     higher : (j ≡ k → ⊥) → k ≤ j → 4096 * k + 4096 ≤ 4096 * j
     higher ne l = omega arith
@@ -38,8 +31,8 @@ pub not-missing : {P : Type 0} (o : Option ℕ) (j : ℕ) → o ≡ some j → N
 not-missing o j e f = absurd (let n : o ≡ none = found-none o f in let z : _≡_ {A = ℕ} 0 1 = cc in omega arith)
 
 -- what a copied frame holds
-pub copied : (f f′ : List ℕ) (at from j : ℕ) (o : Option ℕ) → o ≡ some j → from ≡ 4096 * j → f′ ≡ put f at (take 4096 (drop from f)) → f′ ≡ put f at (frameBytes f o)
-copied f f′ at from j o e ef h = h ∙ rw (e, ef)
+pub copied : (f f′ : List ℕ) (at from j : ℕ) → from ≡ 4096 * j → f′ ≡ put f at (take 4096 (drop from f)) → f′ ≡ put f at (frameBytes f (some j))
+copied f f′ at from j ef h = h ∙ rw ef
 
 -- a page that a process has, it has while what it sees stays
 pub mapped-same : (m t : Store) (n page j : ℕ) → memOf t n ≡ memOf m n → page % 4096 ≡ 0 → frameOf (m .book) n page ≡ some j → (i : ℕ) × (frameOf (t .book) n page ≡ some i)

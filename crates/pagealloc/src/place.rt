@@ -16,7 +16,7 @@ ghost use Rattle.pagealloc.specs.Lent.{Passed, Mapped};
 ghost use Rattle.pagealloc.specs.Contents.{fileAt};
 
 // The highest free frame below frame `c`, as `allocate_physpage`, which leaves the book as it is.
-fn free_below(book: &[u64], c: usize) -> spec::Found
+pub fn free_below(book: &[u64], c: usize) -> spec::Found
     requires { ⌜ c ≤ length (now book) ⌝ }
     ensures { λ r. ⌜ r ≡ foundOf (highest (λ k. getD (now (book .entry)) k 0 is 0) c) ⌝ }
 {
@@ -118,8 +118,30 @@ pub fn load_segment(
     c
 }
 
+// Frame `k`, which is free, becomes the child's page with the bytes of frame `from`, which is used.
+pub fn hold_copied(
+    frames: &mut [u8],
+    book: &mut [u64],
+    from: usize,
+    k: usize,
+    child: u64,
+    perm: u64,
+    page: u64,
+)
+    requires { ⌜ (length (now frames) ≡ 4096 * length (now book)) × (k < length (now book)) × (getD (now book) k 0 ≡ 0) ⌝ }
+    requires { ⌜ (from < length (now book)) × (getD (now book) from 0 ≡ 0 → ⊥) × (child < 256) × (perm < 16) × (page < 2 ^ 63) ⌝ }
+    ensures { λ _. ⌜ store (now (frames .exit)) (now (book .exit)) ≡ hold (store (now (frames .entry)) (now (book .entry))) child (record { page = page; perm = perm; bytes = frameBytes (now (frames .entry)) (some from) }) (some k) ⌝ }
+{
+    crate::pages::copy_frame(
+        frames,
+        crate::frames::frame_addr(from),
+        crate::frames::frame_addr(k),
+    );
+    book[k] = book::pack(page, child, perm);
+}
+
 // Frame `k`, which is free, becomes the child's copy of a page of the parent's.
-fn hold_copied(
+fn hold_found(
     frames: &mut [u8],
     book: &mut [u64],
     k: usize,
@@ -136,12 +158,7 @@ fn hold_copied(
     let spec::Found::At(from) = book::frame_of(book, parent, page) else {
         return;
     };
-    crate::pages::copy_frame(
-        frames,
-        crate::frames::frame_addr(from),
-        crate::frames::frame_addr(k),
-    );
-    book[k] = book::pack(page, child, perm);
+    hold_copied(frames, book, from, k, child, perm, page);
 }
 
 // Places copies of the pages of a segment of the parent's for the child, as `copy_segments`.
@@ -169,7 +186,7 @@ pub fn copy_segment(
         let spec::Found::At(k) = free_below(book, c) else {
             return 0;
         };
-        hold_copied(frames, book, k, parent, child, perm, page);
+        hold_found(frames, book, k, parent, child, perm, page);
         c = k;
         page += spec::PAGE_SIZE_4K;
     }

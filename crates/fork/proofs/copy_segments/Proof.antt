@@ -1,4 +1,5 @@
--- `copy_segments` meets its contract: after i places the child has copies of their pages, and the parent sees what it saw.
+-- `copy_segments` meets its contract: after i places the child has copies of their pages, the parent sees what it saw, and the lists
+-- tell its frames.
 use Prim.Native.Nat.{ℕ, _-_, _≤_, _<_}
 use native.Mathlib.Omega.{arith}
 use mathlib.Core.Path.{_≡_, refl, sym, ap, ap₂, subst, _∙_}
@@ -26,16 +27,18 @@ use Rattle.front.proofs.First.{Forks, fork-none, fork-other, sizes-words}
 use Rattle.front.proofs.Living.{passed-sound, living-shape}
 use Rattle.front.proofs.Own.{take-more, pages-own}
 use Rattle.fork.proofs.Forked.{Copyable, mapped-still, Copied, copied-none, copied-more, each-at, copyable-segments, copyable-bss}
+use Rattle.fork.specs.Lent.{Tells}
+use Rattle.fork.proofs.Told.{tells-first}
 use Rattle.fork.proofs.copy_segments.Statement.{statement}
 use Rattle.fork.proofs.copy_segments.Tie as tie
 
 abbrev Inv-loop : tie.InvT-loop
-Inv-loop frames₀ book₀ number child segments bss top₀ i₀ frames book top i =
+Inv-loop frames₀ book₀ tags bases table number child segments bss top₀ i₀ frames book top i =
     (i ≤ 16) × (length segments ≡ 16) × (length frames ≡ length frames₀) × (length book ≡ length book₀)
-    × Copied (store frames₀ book₀) (store frames book) number child (take i segments) × Passed top book
+    × Copied (store frames₀ book₀) (store frames book) number child (take i segments) × Passed top book × Tells book tags bases table number
 
 abbrev μ-loop : tie.MeasureT-loop
-μ-loop frames₀ book₀ number child segments bss top₀ i₀ frames book top i = 16 - i
+μ-loop frames₀ book₀ tags bases table number child segments bss top₀ i₀ frames book top i = 16 - i
 
 -- what no number tells
 module _ (c : tie.Start Inv-loop μ-loop) where
@@ -43,7 +46,7 @@ module _ (c : tie.Start Inv-loop μ-loop) where
   state = stateOf (now (c .args .frames)) (now (c .args .book)) (c .args .procs)
 
   forks : Forks state (c .args .number) (c .args .child)
-  forks = fork-none state (c .args .number) (c .args .child) (c .pre)
+  forks = fork-none state (c .args .number) (c .args .child) (c .pre .0)
 
   other : c .args .number ≡ c .args .child → ⊥
   other = fork-other state (c .args .number) (c .args .child) forks
@@ -58,7 +61,7 @@ module _ (c : tie.Start Inv-loop μ-loop) where
   fits = sizes-words (now (c .args .frames)) (now (c .args .book)) (forks .passed .sizes) .0
 
   whole : Whole (c .args .procs)
-  whole = let g = c .good .1 .1 .0 .1 .1 .0 in whole-procs (c .args .procs) (g .0) (g .1 .1) (g .1 .0 .1)
+  whole = let g = c .good .1 .1 .1 .1 .1 .0 .1 .1 .0 in whole-procs (c .args .procs) (g .0) (g .1 .1) (g .1 .0 .1)
 
   sound : Sound (now (c .args .book)) (c .args .procs)
   sound = passed-sound state (c .args .number) _ whole (forks .passed)
@@ -78,7 +81,7 @@ proc-at-requires c κs = forks (c .before .before) .passed .number
 loop-holds : tie.Need-loop-holds Inv-loop μ-loop
 loop-holds c =
     let a = c .before .before .before .before .before in
-    (omega arith, search (needs, length-mapped), refl, refl, copied-none _ _ _ (fits a), (omega arith, λ k l h. absurd (omega arith)))
+    (omega arith, search (needs, length-mapped), refl, refl, copied-none _ _ _ (fits a), (omega arith, λ k l h. absurd (omega arith)), tells-first _ _ _ _ _ (a .pre .1))
 
 -- the segment of a turn can be copied
 at-place : (c : tie.In-loop Inv-loop μ-loop)
@@ -101,7 +104,7 @@ copy-segment-requires c κs =
     let v = t .before .loop .inv in
     let y = at-place t in
     let n = numbers a in
-    ((v .4 .fits, n .0, n .1, n .2, n .3, other a), ((y .start, y .end, y .high, y .perm), (mapped-still (store (now (a .args .frames)) (now (a .args .book))) (store (t .before .loop .frames) (t .before .loop .book)) (a .args .number) _ _ (v .4 .sees) (y .mapped), v .5)))
+    ((v .4 .fits, n .0, n .1, n .2, n .3, other a), ((y .start, y .end, y .high, y .perm), ((mapped-still (store (now (a .args .frames)) (now (a .args .book))) (store (t .before .loop .frames) (t .before .loop .book)) (a .args .number) _ _ (v .4 .sees) (y .mapped), v .6), v .5)))
 
 add-i : tie.Need-add-i Inv-loop μ-loop
 add-i c = omega arith
@@ -121,7 +124,8 @@ loop-again c =
       s .kept .1 .0 ∙ v .3,
       subst (Copied (store (now (a .args .frames)) (now (a .args .book))) _ (a .args .number) (a .args .child)) (sym (take-more _ (t .before .loop .i) (omega arith)))
           (copied-more _ (store (t .before .loop .frames) (t .before .loop .book)) _ (a .args .number) (a .args .child) _ _ (fits a) (numbers a .3) (other a) (v .4) (at-place t) (s .ensures .0)),
-      s .ensures .1,
+      s .ensures .1 .0,
+      s .ensures .1 .1,
     )
 
 bss-segment-requires : tie.Need-bss-segment-requires Inv-loop μ-loop
@@ -144,7 +148,7 @@ copy-segment-requires-2 c κs =
     let v = t .before .loop .inv in
     let y = at-bss (c .before .before) in
     let n = numbers a in
-    ((v .4 .fits, n .0, n .1, n .2, n .3, other a), ((y .start, y .end, y .high, y .perm), (mapped-still (store (now (a .args .frames)) (now (a .args .book))) (store (t .before .loop .frames) (t .before .loop .book)) (a .args .number) _ _ (v .4 .sees) (y .mapped), v .5)))
+    ((v .4 .fits, n .0, n .1, n .2, n .3, other a), ((y .start, y .end, y .high, y .perm), ((mapped-still (store (now (a .args .frames)) (now (a .args .book))) (store (t .before .loop .frames) (t .before .loop .book)) (a .args .number) _ _ (v .4 .sees) (y .mapped), v .6), v .5)))
 
 same-length : tie.Need-same-length Inv-loop μ-loop
 same-length c = c .before .before .before .before .copy-segment2 .kept .0 ∙ c .before .before .before .before .before .before .before .before .before .loop .inv .2

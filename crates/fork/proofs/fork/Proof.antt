@@ -13,6 +13,7 @@ use Rattle.spec.specs.declared.UserSegment.{UserSegment}
 use Rattle.spec.specs.declared.Proc.{Proc}
 use Rattle.laws.proofs.Record.{Whole}
 use Rattle.records.proofs.Whole.{whole-procs}
+use Rattle.sound.proofs.Lookup.{blank-zeros}
 use Rattle.front.specs.Numbers.{stateOf}
 use Rattle.front.proofs.First.{Forks, fork-none}
 use Rattle.front.proofs.Answers.{fork-refused, fork-goes}
@@ -26,13 +27,13 @@ use Rattle.fork.proofs.fork.Tie as tie
 -- where no number came first
 module _ (c : tie.Else1) where
   abbrev start : tie.Start
-  start = c .before .before .before .before .before .before
+  start = c .before .before .before .before .before .before .before .before .before
 
   abbrev state : State
   state = stateOf (now (start .args .frames)) (now (start .args .book)) (start .args .procs)
 
   forks : Forks state (start .args .number) (start .args .child)
-  forks = fork-none state (start .args .number) (start .args .child) (sym (c .before .fork-error .ensures) ∙ c .if1 .left)
+  forks = fork-none state (start .args .number) (start .args .child) (sym (c .before .fork-ready .ensures .0) ∙ c .if1 .left)
 
   whole : Whole (start .args .procs)
   whole = let g = start .good .1 .1 .0 .1 .1 .0 in whole-procs (start .args .procs) (g .0) (g .1 .1) (g .1 .0 .1)
@@ -48,8 +49,8 @@ counted c =
     c .own-pages .ensures ∙ ap (λ (p : Proc). pageCount (p .segments ++ bssSegment (p .bss) ∷ [])) (c .before .before .before .proc-at .ensures)
     ∙ count-own (procAt (start f .args .procs) (start f .args .number)) (h .0) (h .1)
 
-fork-error-requires : tie.Need-fork-error-requires
-fork-error-requires c κs = search needs
+fork-ready-requires : tie.Need-fork-ready-requires
+fork-ready-requires c κs = (refl, refl, refl, blank-zeros 1024)
 
 same-length : tie.Need-same-length
 same-length c = search needs
@@ -58,7 +59,7 @@ same-length-2 : tie.Need-same-length-2
 same-length-2 c = search needs
 
 returns : tie.Need-returns
-returns c = let e = c .before .fork-error in fork-refused _ _ _ (e .result) (e .ensures) (c .if1 .taken)
+returns c = let e = c .before .fork-ready in fork-refused _ _ _ (e .result) (e .ensures .0) (c .if1 .taken)
 
 proc-at-requires : tie.Need-proc-at-requires
 proc-at-requires c κs = forks c .passed .number
@@ -79,15 +80,17 @@ returns-2 : tie.Need-returns-2
 returns-2 c =
     let f = c .before .before .before .before .before in
     let a = start f .args in
-    let e = f .before .fork-error in
-    fork-goes (state f) (a .number) (a .child) (e .result) (e .ensures) (f .if1 .left) _ _
+    let e = f .before .fork-ready in
+    fork-goes (state f) (a .number) (a .child) (e .result) (e .ensures .0) (f .if1 .left) _ _
     (fork-short (view (state f) (a .number)) (free (now (a .book))) (a .child) (used (procAt (a .procs) (a .number) .segments)) (omega (arith, counted (c .before), c .before .before .free-count .ensures))) refl
 
 copy-segments-requires : tie.Need-copy-segments-requires
-copy-segments-requires c κs = let f = c .before .before .before .before .before .before .before in sym (f .before .fork-error .ensures) ∙ f .if1 .left
+copy-segments-requires c κs =
+    let f = c .before .before .before .before .before .before .before .before .before .before in
+    (sym (f .before .fork-ready .ensures .0) ∙ f .if1 .left, f .before .fork-ready .ensures .1 (f .if1 .left))
 
 with-proc-requires : tie.Need-with-proc-requires
-with-proc-requires c κs = forks (c .before .before .before .before .before .before .before .before .before .before .before .before) .second
+with-proc-requires c κs = forks (c .before .before .before .before .before .before .before .before .before .before .before .before .before .before .before) .second
 
 same-length-5 : tie.Need-same-length-5
 same-length-5 c = search needs
@@ -97,11 +100,11 @@ same-length-6 c = search needs
 
 returns-3 : tie.Need-returns-3
 returns-3 c =
-    let u = c .before .before .before .before .before .before .before .before in
+    let u = c .before .before .before .before .before .before .before .before .before .before .before in
     let f = u .before .before .before .before .before in
     let a = start f .args in
-    let e = f .before .fork-error in
-    fork-goes (state f) (a .number) (a .child) (e .result) (e .ensures) (f .if1 .left) _ _
+    let e = f .before .fork-ready in
+    fork-goes (state f) (a .number) (a .child) (e .result) (e .ensures .0) (f .if1 .left) _ _
     (fork-fits (view (state f) (a .number)) (free (now (a .book))) (a .child) (used (procAt (a .procs) (a .number) .segments)) (omega (arith, counted (u .before), u .before .before .free-count .ensures)))
     (state-is _ _ _ _ (c .before .before .before .before .before .copy-segments .ensures) (c .with-proc .ensures ∙ ap (setProc (a .procs) (a .child)) (u .before .before .before .before .proc-at .ensures)))
 
@@ -109,7 +112,7 @@ pub fork-spec : {M : Type 1} → statement M
 fork-spec =
     tie.close
     (tie.spec
-    fork-error-requires
+    fork-ready-requires
     same-length
     same-length-2
     returns

@@ -59,8 +59,8 @@ returns c =
     ran-full (pages m (a .parent)) (g .perm) (a .child) (g .range .end) (g .range .start) m (store (l .frames) (l .book)) (l .page) (l .c)
     (start .pre .0 .3) (l .inv .0) (sym (c .enum-told .given .1) ∙ c .before .before .free-below .ensures)
 
-hold-copied-requires : tie.Need-hold-copied-requires Inv-loop μ-loop
-hold-copied-requires c κs =
+hold-found-requires : tie.Need-hold-found-requires Inv-loop μ-loop
+hold-found-requires c κs =
     let k = c .before .before .before in
     let l = k .before .before .before .before .before .loop in
     let start = k .before .before .before .before .before .before .before .before .before in
@@ -92,8 +92,8 @@ loop-again c =
     let there = start .pre .1 .1 .0 (l .page) (l .inv .0 .aligned) (l .inv .0 .onward) (omega arith) in
     let still = mapped-same m t (a .parent) (l .page) (there .0) (l .inv .1) (l .inv .0 .aligned) (there .1) in
     let turn = copied-turn m t _ (a .parent) (a .child) (g .perm) (l .page) (still .0) (k .k .given .0 .0) (start .pre .0 .0) (omega (arith, start .pre .0 .0)) (l .inv .1) (start .pre .0 .5) (start .pre .0 .4) (start .pre .1 .0 .3)
-    (l .inv .0 .aligned) (still .1) (found .1) (held .hold-copied .ensures) in
-    (ran-turn (pages m (a .parent)) (g .perm) (a .child) (g .range .end) (g .range .start) m t (l .page) (l .c) (start .pre .0 .3) (l .inv .0) (start .pre .1 .0 .1) (omega arith) (k .k .given .0 .0) e _ (turn .0) (held .hold-copied .kept .0), turn .1)
+    (l .inv .0 .aligned) (still .1) (found .1) (held .hold-found .ensures) in
+    (ran-turn (pages m (a .parent)) (g .perm) (a .child) (g .range .end) (g .range .start) m t (l .page) (l .c) (start .pre .0 .3) (l .inv .0) (start .pre .1 .0 .1) (omega arith) (k .k .given .0 .0) e _ (turn .0) (held .hold-found .kept .0), turn .1)
 
 same-length-3 : tie.Need-same-length-3 Inv-loop μ-loop
 same-length-3 c = omega arith
@@ -124,7 +124,7 @@ copy-segment-spec =
     same-length
     same-length-2
     returns
-    hold-copied-requires
+    hold-found-requires
     add-page
     loop-less
     loop-again
