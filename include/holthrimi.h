@@ -10,8 +10,8 @@
  *   - a pointer is not null and is aligned, also with length 0, and what it points to is there, as long as the length says;
  *   - what is not const overlaps nothing else that the call is given, and nothing else touches it until the call returns;
  *   - a bool is 0 or 1.
- * The library keeps nothing between calls, allocates nothing, and needs memcpy and memset. Its calls were measured to use up to 56 KiB of
- * stack (replace; most use 20 to 30).
+ * The library keeps nothing between calls, allocates nothing, and needs memcpy, memmove and memset. Its calls were measured to use up to 56
+ * KiB of stack (replace; most use 20 to 30).
  *
  * Numbers. A page is 4,096 bytes. UTZERO is 65,536; user addresses end at 2^47, where the stack of 16,384 bytes ends too; limit is
  * 140,737,488,334,848, one guard page below the stack.

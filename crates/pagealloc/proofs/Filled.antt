@@ -1,17 +1,16 @@
 -- Frames filled: what lent parts leave, and pages of file bytes.
-use Prim.Native.Nat.{ℕ, suc, _+_, _-_, _≤_, _<_}
+use Prim.Native.Nat.{ℕ, _+_, _-_, _≤_}
 use native.Mathlib.Omega.{arith}
-use native.Mathlib.Numerals.{add-one}
 use mathlib.Core.Path.{_≡_, refl, sym, ap, _∙_}
-use mathlib.Core.Logic.{_⊎_, ⊎-elim}
 use mathlib.Core.List.{List, _++_}
-use lib.ListN.{length, take, drop, getD, set, replicate, length-append, length-replicate, length-drop}
-use lib.Seq.{paste, paste-suc, length-take-le, getD-drop}
+use lib.ListN.{length, take, drop, replicate, length-append, length-replicate, length-drop}
+use lib.Seq.{length-take-le}
 use borrow.Rule.Slice.PartMut.{putMid, midOf, mid-len}
 use Rattle.spec.specs.Numbers.{zeroPage}
 use Rattle.spec.specs.Frames.{put}
-use Rattle.laws.proofs.Lists.{put-nil, put-append, put-part, length-put, put-before, put-after}
+use Rattle.laws.proofs.Lists.{put-append, put-part, length-put}
 use Rattle.pagealloc.specs.Contents.{padded}
+use Rattle.pagealloc.proofs.Held.{passed}
 
 -- ---- zeros
 
@@ -64,25 +63,13 @@ put-padded d s x y z base from hd hs ex ey ez =
 
 -- ---- one frame copied into another
 
-put-take : (d s : List ℕ) (at n : ℕ) → n ≤ length s → put d at (take n s) ≡ paste d at s n
-put-take d s at n h = ap (λ (k : ℕ). take at d ++ take n s ++ drop (at + k) d) (length-take-le n s h)
-
--- a byte stored right behind what was put
-put-turn : (d s : List ℕ) (at j : ℕ) → j < length s → at + j < length d → set (put d at (take j s)) (at + j) (getD s j 0) ≡ put d at (take (j + 1) s)
-put-turn d s at j hs hd =
-    rw (put-take d s at j (omega arith), add-one j, put-take d s at (suc j) (omega arith)) (paste-suc d at s j 0 hd hs)
-
-pub copy-none : (d s : List ℕ) (at : ℕ) → d ≡ put d at (take 0 s)
-copy-none d s at = sym (put-nil d at)
-
--- and a byte that is read from another frame is still the one that was there
-pub copy-turn : (d : List ℕ) (from to j : ℕ) → j < 4096 → from + 4096 ≤ length d → to + 4096 ≤ length d → (from + 4096 ≤ to) ⊎ (to + 4096 ≤ from)
-    → set (put d to (take j (drop from d))) (to + j) (getD (put d to (take j (drop from d))) (from + j) 0) ≡ put d to (take (j + 1) (drop from d))
-copy-turn d from to j hj hf ht apart =
-    let ls : length (drop from d) ≡ length d - from = length-drop from d in
-    let lj : length (take j (drop from d)) ≡ j = length-take-le j (drop from d) (omega arith) in
-    let read : getD (put d to (take j (drop from d))) (from + j) 0 ≡ getD (drop from d) j 0 =
-    ⊎-elim (λ h. put-before d (take j (drop from d)) to (from + j) (omega arith) (omega arith))
-    (λ h. put-after d (take j (drop from d)) to (from + j) (omega arith) (omega arith)) apart
-    ∙ sym (getD-drop from d j 0) in
-    rw read (put-turn d (drop from d) to j (omega arith) (omega arith))
+-- by way of a page that holds the one and is given to the other
+pub put-copied : (d page rest x : List ℕ) (from to : ℕ) → page ≡ midOf from (from + 4096 - from) d ++ rest → x ≡ take (length (midOf to (to + 4096 - to) d)) page
+    → from + 4096 ≤ length d → to + 4096 ≤ length d → putMid to (to + 4096 - to) d x ≡ put d to (take 4096 (drop from d))
+put-copied d page rest x from to ep ex hf ht =
+    let kf : from + 4096 - from ≡ 4096 = omega arith in
+    let kt : to + 4096 - to ≡ 4096 = omega arith in
+    let same : x ≡ midOf from (from + 4096 - from) d = passed (midOf from (from + 4096 - from) d) page rest (midOf to (to + 4096 - to) d) x ep ex
+    (mid-len to (to + 4096) d ht ∙ kt ∙ sym (mid-len from (from + 4096) d hf ∙ kf)) in
+    let whole : x ≡ take 4096 (drop from d) = same ∙ ap (λ (n : ℕ). take n (drop from d)) kf in
+    rw (whole, kt) (put-part d (take 4096 (drop from d)) to 4096 (length-take-le 4096 (drop from d) (omega (arith, length-drop from d))))

@@ -1,4 +1,5 @@
 -- Laws that the proofs of this crate cite.
+pub mod Held
 pub mod Filled
 pub mod FilePages
 pub mod Placing

@@ -39,11 +39,11 @@ pub fn copy_frame(frames: &mut [u8], from: mem::PhysAddr, to: mem::PhysAddr)
 {
     let a = from.0 as usize;
     let b = to.0 as usize;
-    let mut j = 0;
-    while j < 4096 {
-        frames[b + j] = frames[a + j];
-        j += 1;
-    }
+    let a_end = a + 4096;
+    let b_end = b + 4096;
+    let mut page = [0u8; 4096];
+    crate::frames::hold(&mut page, &frames[a..a_end]);
+    crate::frames::give(&mut frames[b..b_end], &page);
 }
 
 // The lower and the higher of two addresses.

@@ -2,7 +2,7 @@
 // uses a user address directly, the book names the frame here.
 
 ghost use mathlib.Core.Path.{_≡_};
-ghost use Prim.Native.Nat.{_+_, _*_, _^_, _≤_, _<_, min};
+ghost use Prim.Native.Nat.{_+_, _*_, _^_, _≤_, _<_};
 ghost use lib.ListN.{length};
 ghost use Rattle.spec.specs.Numbers.{pageDown};
 ghost use Rattle.spec.specs.Frames.{put, pokes};
@@ -27,12 +27,6 @@ fn phys(k: usize, offset: u64) -> mem::PhysAddr
     crate::frames::frame_addr(k).add(offset)
 }
 
-fn least(a: usize, b: usize) -> usize
-    ensures { λ r. ⌜ r ≡ min a b ⌝ }
-{
-    if a < b { a } else { b }
-}
-
 // The process's bytes from `addr` on become `bytes`, as `copy_to_user` copies.
 pub fn write_user(frames: &mut [u8], book: &[u64], owner: u64, addr: u64, bytes: &[u8])
     requires { ⌜ (length (now frames) ≡ 4096 * length (now book)) × (1 ≤ owner) × (owner < 256) × (addr + length (now bytes) < 2 ^ 64) ⌝ }
@@ -46,7 +40,7 @@ pub fn write_user(frames: &mut [u8], book: &[u64], owner: u64, addr: u64, bytes:
         let spec::Found::At(k) = book::frame_of(book, owner, mem::page_down(a)) else {
             return;
         };
-        let e = i + least((spec::PAGE_SIZE_4K - offset) as usize, bytes.len() - i);
+        let e = i + crate::frames::least((spec::PAGE_SIZE_4K - offset) as usize, bytes.len() - i);
         write_phys(frames, phys(k, offset), &bytes[i..e]);
         i = e;
     }

@@ -2,5 +2,6 @@
 pub mod Found
 pub mod Ranges
 pub mod Copies
+pub mod Plain
 pub mod Chunk
 pub mod Strings

@@ -1,72 +1,69 @@
--- `pagealloc::pages::copy_frame` meets its contract. The loop's invariant: `j` bytes are copied, and all others as they were.
-use mathlib.Core.Path.{_≡_, refl, ap, _∙_}
-use Prim.Native.Nat.{ℕ, _-_, _≤_}
+-- `pagealloc::pages::copy_frame` meets its contract.
 use native.Mathlib.Omega.{arith}
+use Prim.Native.Nat.{_+_, _-_}
 use denote.Ref.{now}
-use lib.ListN.{length, length-set, take, drop}
-use Rattle.spec.specs.Frames.{put}
-use Rattle.pagealloc.proofs.Filled.{copy-none, copy-turn}
+use borrow.Rule.Slice.PartMut.{midOf}
+use borrow.Author.Needs.{needs}
+use Rattle.pagealloc.proofs.Held.{length-held}
+use Rattle.pagealloc.proofs.Filled.{put-copied}
 use Rattle.pagealloc.proofs.pages.copy_frame.Statement.{statement}
 use Rattle.pagealloc.proofs.pages.copy_frame.Tie as tie
 
-abbrev Inv-loop : tie.InvT-loop
-Inv-loop frames₀ a b j₀ frames j = (j ≤ 4096) × (length frames ≡ length frames₀) × (frames ≡ put frames₀ b (take j (drop a frames₀)))
+add-a-end : tie.Need-add-a-end
+add-a-end c = search needs
 
-abbrev μ-loop : tie.MeasureT-loop
-μ-loop frames₀ a b j₀ frames j = 4096 - j
+add-b-end : tie.Need-add-b-end
+add-b-end c = search needs
 
-loop-holds : tie.Need-loop-holds Inv-loop μ-loop
-loop-holds c = (omega arith, refl, copy-none (now (c .args .frames)) (drop (c .args .from .0) (now (c .args .frames))) (c .args .to .0))
+sub-hold : tie.Need-sub-hold
+sub-hold c = search needs
 
-add-frames : tie.Need-add-frames Inv-loop μ-loop
-add-frames c = omega arith
+part-hold-start : tie.Need-part-hold-start
+part-hold-start c = search needs
 
-slice-read-frames : tie.Need-slice-read-frames Inv-loop μ-loop
-slice-read-frames c = omega arith
+part-hold-end : tie.Need-part-hold-end
+part-hold-end c = search needs
 
-add-frames-2 : tie.Need-add-frames-2 Inv-loop μ-loop
-add-frames-2 c = omega arith
+hold-requires : tie.Need-hold-requires
+hold-requires c κs = search needs
 
-slice-write-frames : tie.Need-slice-write-frames Inv-loop μ-loop
-slice-write-frames c = omega arith
+sub-give : tie.Need-sub-give
+sub-give c = search needs
 
-add-j : tie.Need-add-j Inv-loop μ-loop
-add-j c = omega arith
+part-give-start : tie.Need-part-give-start
+part-give-start c = search needs
 
-loop-less : tie.Need-loop-less Inv-loop μ-loop
-loop-less c = omega arith
+part-give-end : tie.Need-part-give-end
+part-give-end c = search needs
 
-loop-again : tie.Need-loop-again Inv-loop μ-loop
-loop-again c =
-    let start = c .before .before .before in
-    let l = c .before .before .loop in (
-      omega arith,
-      simp length-set (omega arith),
-      rw (l .inv .2) (copy-turn (now (start .args .frames)) (start .args .from .0) (start .args .to .0) (l .j) (omega arith) (omega arith) (omega arith) (start .pre .2)),
-    )
+give-requires : tie.Need-give-requires
+give-requires c κs =
+    let a = c .before .before .before .before .before .before .before .args in
+    let from = midOf (a .from .0) (a .from .0 + 4096 - a .from .0) (now (a .frames)) in
+    (length-held from _ _ (c .before .before .hold .ensures) (omega arith) (omega arith), omega arith)
 
-same-length : tie.Need-same-length Inv-loop μ-loop
-same-length c = omega arith
+same-length : tie.Need-same-length
+same-length c = search needs
 
-returns : tie.Need-returns Inv-loop μ-loop
+returns : tie.Need-returns
 returns c =
-    let a = c .before .before .args in
-    let e : c .before .loop .j ≡ 4096 = omega arith in
-    c .before .loop .inv .2 ∙ ap (λ (n : ℕ). put (now (a .frames)) (a .to .0) (take n (drop (a .from .0) (now (a .frames))))) e
+    let start = c .before .before .before .before .before .before .before .before .before .before in
+    let a = start .args in
+    put-copied (now (a .frames)) _ _ _ (a .from .0) (a .to .0) (c .before .before .before .before .before .hold .ensures) (c .before .before .give .ensures) (start .pre .0) (start .pre .1)
 
 pub copy-frame-spec : {M : Type 1} → statement M
 copy-frame-spec =
     tie.close
     (tie.spec
-    Inv-loop
-    μ-loop
-    loop-holds
-    add-frames
-    slice-read-frames
-    add-frames-2
-    slice-write-frames
-    add-j
-    loop-less
-    loop-again
+    add-a-end
+    add-b-end
+    sub-hold
+    part-hold-start
+    part-hold-end
+    hold-requires
+    sub-give
+    part-give-start
+    part-give-end
+    give-requires
     same-length
     returns)
