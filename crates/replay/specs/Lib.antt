@@ -1,3 +1,1 @@
 pub mod Rooms
-pub mod Given
-pub mod Lists

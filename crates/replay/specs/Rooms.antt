@@ -1,11 +1,6 @@
 -- What is held between lines stays within the buffers.
 -- Assumes nothing.
-use mathlib.Core.Path.{_≡_}
-use mathlib.Core.List.{List}
 use Prim.Native.Nat.{ℕ, _*_, _≤_}
-use lib.ListN.{length, take}
-use Rattle.spec.specs.Tests.{sum}
-use Rattle.replay.specs.declared.arguments.Args.{Args}
 use Rattle.replay.specs.declared.input.Input.{Input}
 use Rattle.replay.specs.declared.lent.World.{World}
 
@@ -20,9 +15,3 @@ pub record Within (i : Input) (buffer line : ℕ) : Type 0 where
   pub taken : i .at ≤ i .end
   pub filled : i .end ≤ buffer
   pub held : i .size ≤ line
-
--- arguments lie in their buffers, and their lengths sum to their bytes
-pub record Fits (a : Args) (bytes lengths : List ℕ) : Type 0 where
-  pub counted : a .count ≤ length lengths
-  pub sized : a .size ≤ length bytes
-  pub summed : sum (take (a .count) lengths) ≡ a .size

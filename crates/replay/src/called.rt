@@ -1,7 +1,7 @@
 // The lines of calls on a living process.
 ghost use Prim.Native.Nat.{_≤_};
 ghost use lib.ListN.{length};
-use crate::words::Taken;
+use asked::Taken;
 use front::left::Left;
 use script::Number;
 use spec::Procs;
@@ -27,10 +27,10 @@ const BUFFER_MAX: u64 = 65536;
 
 // break NUMBER ADDRESS
 pub fn brk(frames: &mut [u8], book: &mut [u64], procs: Procs, line: &[u8]) -> Procs {
-    let Number::Is(number) = crate::words::number(line, 1) else {
+    let Number::Is(number) = asked::number(line, 1) else {
         return bad(procs);
     };
-    let Number::Is(addr) = crate::words::number(line, 2) else {
+    let Number::Is(addr) = asked::number(line, 2) else {
         return bad(procs);
     };
     said(calls::brk(frames, book, procs, number, addr))
@@ -38,7 +38,7 @@ pub fn brk(frames: &mut [u8], book: &mut [u64], procs: Procs, line: &[u8]) -> Pr
 
 // end NUMBER
 pub fn end(frames: &mut [u8], book: &mut [u64], procs: Procs, line: &[u8]) -> Procs {
-    let Number::Is(number) = crate::words::number(line, 1) else {
+    let Number::Is(number) = asked::number(line, 1) else {
         return bad(procs);
     };
     said(calls::end(frames, book, procs, number))
@@ -46,32 +46,32 @@ pub fn end(frames: &mut [u8], book: &mut [u64], procs: Procs, line: &[u8]) -> Pr
 
 // fork PARENT CHILD [START END PERM ..]
 pub fn fork(frames: &mut [u8], book: &mut [u64], procs: Procs, line: &[u8]) -> Procs {
-    let Number::Is(number) = crate::words::number(line, 1) else {
+    let Number::Is(number) = asked::number(line, 1) else {
         return bad(procs);
     };
-    let Number::Is(child) = crate::words::number(line, 2) else {
+    let Number::Is(child) = asked::number(line, 2) else {
         return bad(procs);
     };
     // Seventeen segments are one more than a record has.
     let mut list = [0u64; 51];
-    let Taken::Size(n) = crate::arguments::numbers(&mut list, line) else {
+    let Taken::Size(n) = asked::numbers(&mut list, line) else {
         return bad(procs);
     };
     if n == 0 {
         return said(calls::fork(frames, book, procs, number, child));
     }
-    said(crate::lists::fork_list(frames, book, procs, number, child, &list[..n]))
+    said(asked::fork_list(frames, book, procs, number, child, &list[..n]))
 }
 
 // range NUMBER ADDRESS LENGTH r|w
 pub fn range(frames: &mut [u8], book: &mut [u64], procs: Procs, line: &[u8]) -> Procs {
-    let Number::Is(number) = crate::words::number(line, 1) else {
+    let Number::Is(number) = asked::number(line, 1) else {
         return bad(procs);
     };
-    let Number::Is(addr) = crate::words::number(line, 2) else {
+    let Number::Is(addr) = asked::number(line, 2) else {
         return bad(procs);
     };
-    let Number::Is(len) = crate::words::number(line, 3) else {
+    let Number::Is(len) = asked::number(line, 3) else {
         return bad(procs);
     };
     let write = script::same(script::word(line, 4), b"w");
@@ -93,7 +93,7 @@ fn from_buffer(
 ) -> Procs
     requires { ⌜ length (now buffer) ≤ 65536 ⌝ }
 {
-    crate::words::fill(buffer, BLANK);
+    asked::fill(buffer, BLANK);
     let left = calls::copy_from_user(frames, book, procs, number, buffer, src);
     let says = left.answer;
     crate::say::copied(says, buffer);
@@ -110,13 +110,13 @@ pub fn from(
 ) -> Procs
     requires { ⌜ 65536 ≤ length (now space) ⌝ }
 {
-    let Number::Is(number) = crate::words::number(line, 1) else {
+    let Number::Is(number) = asked::number(line, 1) else {
         return bad(procs);
     };
-    let Number::Is(src) = crate::words::number(line, 2) else {
+    let Number::Is(src) = asked::number(line, 2) else {
         return bad(procs);
     };
-    let Number::Is(len) = crate::words::number(line, 3) else {
+    let Number::Is(len) = asked::number(line, 3) else {
         return bad(procs);
     };
     if len > BUFFER_MAX {
@@ -134,13 +134,13 @@ pub fn to(
     procs: Procs,
     line: &[u8],
 ) -> Procs {
-    let Number::Is(number) = crate::words::number(line, 1) else {
+    let Number::Is(number) = asked::number(line, 1) else {
         return bad(procs);
     };
-    let Number::Is(dst) = crate::words::number(line, 2) else {
+    let Number::Is(dst) = asked::number(line, 2) else {
         return bad(procs);
     };
-    let Taken::Size(n) = crate::words::bytes(space, script::word(line, 3)) else {
+    let Taken::Size(n) = asked::bytes(space, script::word(line, 3)) else {
         return bad(procs);
     };
     said(calls::copy_to_user(frames, book, procs, number, dst, &space[..n]))
@@ -157,7 +157,7 @@ fn string_buffer(
 ) -> Procs
     requires { ⌜ length (now buffer) ≤ 65536 ⌝ }
 {
-    crate::words::fill(buffer, BLANK);
+    asked::fill(buffer, BLANK);
     let says = calls::try_copy_str_from_user(frames, book, procs, number, buffer, src);
     crate::say::string(says, buffer);
     procs
@@ -173,13 +173,13 @@ pub fn string(
 ) -> Procs
     requires { ⌜ 65536 ≤ length (now space) ⌝ }
 {
-    let Number::Is(number) = crate::words::number(line, 1) else {
+    let Number::Is(number) = asked::number(line, 1) else {
         return bad(procs);
     };
-    let Number::Is(src) = crate::words::number(line, 2) else {
+    let Number::Is(src) = asked::number(line, 2) else {
         return bad(procs);
     };
-    let Number::Is(len) = crate::words::number(line, 3) else {
+    let Number::Is(len) = asked::number(line, 3) else {
         return bad(procs);
     };
     if len > BUFFER_MAX {

@@ -48,7 +48,7 @@ fn append(line: &mut [u8], at: usize, bytes: &[u8]) -> usize
     requires { ⌜ at ≤ length (now line) ⌝ }
     ensures { λ r. ⌜ r ≤ length (now (line .entry)) ⌝ }
 {
-    at + crate::words::first(&mut line[at..], bytes)
+    at + asked::first(&mut line[at..], bytes)
 }
 
 // Takes bytes up to the end of the line, or all there are.

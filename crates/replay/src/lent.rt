@@ -62,7 +62,7 @@ fn fill_of(line: &[u8]) -> Number {
     if script::spaces(line) < 2 {
         return Number::Is(0);
     }
-    crate::words::number(line, 2)
+    asked::number(line, 2)
 }
 
 // frames N [FILL]
@@ -72,7 +72,7 @@ pub fn frames(frames: &mut [u8], book: &mut [u64], w: World, line: &[u8]) -> Wor
     requires { ⌜ Lends w ⌝ }
     ensures { λ r. ⌜ Lends r ⌝ }
 {
-    let Number::Is(n) = crate::words::number(line, 1) else {
+    let Number::Is(n) = asked::number(line, 1) else {
         return bad(w);
     };
     let Number::Is(fill) = fill_of(line) else {
@@ -86,7 +86,7 @@ pub fn frames(frames: &mut [u8], book: &mut [u64], w: World, line: &[u8]) -> Wor
     }
     let count = n as usize;
     let bytes = 4096 * count;
-    crate::words::fill(&mut frames[..bytes], fill as u8);
+    asked::fill(&mut frames[..bytes], fill as u8);
     clear_words(&mut book[..count]);
     crate::say::ok();
     World {
@@ -102,10 +102,10 @@ pub fn lend(w: World, line: &[u8]) -> World
     requires { ⌜ Lends w ⌝ }
     ensures { λ r. ⌜ Lends r ⌝ }
 {
-    let Number::Is(bytes) = crate::words::number(line, 1) else {
+    let Number::Is(bytes) = asked::number(line, 1) else {
         return bad(w);
     };
-    let Number::Is(words) = crate::words::number(line, 2) else {
+    let Number::Is(words) = asked::number(line, 2) else {
         return bad(w);
     };
     let count = w.count;
@@ -131,10 +131,10 @@ pub fn word(book: &mut [u64], w: World, line: &[u8]) -> World
     requires { ⌜ Lends w ⌝ }
     ensures { λ r. ⌜ Lends r ⌝ }
 {
-    let Number::Is(i) = crate::words::number(line, 1) else {
+    let Number::Is(i) = asked::number(line, 1) else {
         return bad(w);
     };
-    let Number::Is(x) = crate::words::number(line, 2) else {
+    let Number::Is(x) = asked::number(line, 2) else {
         return bad(w);
     };
     if i >= w.count as u64 {
@@ -170,7 +170,7 @@ pub fn map(book: &mut [u64], w: World, line: &[u8]) -> World
     requires { ⌜ Lends w ⌝ }
     ensures { λ r. ⌜ Lends r ⌝ }
 {
-    let Number::Is(number) = crate::words::number(line, 1) else {
+    let Number::Is(number) = asked::number(line, 1) else {
         return bad(w);
     };
     let count = w.count;

@@ -4,15 +4,12 @@ ghost use Prim.Native.Nat.{_≤_};
 ghost use lib.ListN.{length};
 ghost use Rattle.replay.specs.Rooms.{Lends, Within};
 
-mod arguments;
 mod called;
 mod input;
 mod lent;
-mod lists;
 mod program;
 mod say;
 mod shown;
-mod words;
 
 use input::Input;
 use lent::World;

@@ -1,7 +1,7 @@
 // The lines of calls that have an image or arguments.
 use crate::called::bad;
 use crate::called::said;
-use crate::words::Taken;
+use asked::Taken;
 use script::Number;
 use spec::Procs;
 
@@ -13,17 +13,17 @@ pub fn start(
     procs: Procs,
     line: &[u8],
 ) -> Procs {
-    let Number::Is(number) = crate::words::number(line, 1) else {
+    let Number::Is(number) = asked::number(line, 1) else {
         return bad(procs);
     };
     let mut name = [0u8; 28];
-    let Taken::Size(n) = crate::arguments::name(space, &mut name, script::word(line, 2)) else {
+    let Taken::Size(n) = asked::name(space, &mut name, script::word(line, 2)) else {
         return bad(procs);
     };
     let mut bytes = [0u8; 4096];
     let mut lengths = [0u64; 512];
-    let a = crate::arguments::take(space, &mut bytes, &mut lengths, line);
-    let Taken::Size(m) = crate::words::bytes(space, script::word(line, 3)) else {
+    let a = asked::take_args(space, &mut bytes, &mut lengths, line);
+    let Taken::Size(m) = asked::bytes(space, script::word(line, 3)) else {
         return bad(procs);
     };
     if a.bad {
@@ -51,17 +51,17 @@ pub fn replace(
     procs: Procs,
     line: &[u8],
 ) -> Procs {
-    let Number::Is(number) = crate::words::number(line, 1) else {
+    let Number::Is(number) = asked::number(line, 1) else {
         return bad(procs);
     };
-    let Number::Is(argv) = crate::words::number(line, 4) else {
+    let Number::Is(argv) = asked::number(line, 4) else {
         return bad(procs);
     };
     let mut name = [0u8; 28];
-    let Taken::Size(n) = crate::arguments::name(space, &mut name, script::word(line, 2)) else {
+    let Taken::Size(n) = asked::name(space, &mut name, script::word(line, 2)) else {
         return bad(procs);
     };
-    let Taken::Size(m) = crate::words::bytes(space, script::word(line, 3)) else {
+    let Taken::Size(m) = asked::bytes(space, script::word(line, 3)) else {
         return bad(procs);
     };
     said(replace::replace(frames, book, procs, number, &space[..m], &name[..n], argv))
@@ -75,18 +75,18 @@ pub fn push(
     procs: Procs,
     line: &[u8],
 ) -> Procs {
-    let Number::Is(number) = crate::words::number(line, 1) else {
+    let Number::Is(number) = asked::number(line, 1) else {
         return bad(procs);
     };
-    let Number::Is(pc) = crate::words::number(line, 2) else {
+    let Number::Is(pc) = asked::number(line, 2) else {
         return bad(procs);
     };
-    let Number::Is(top) = crate::words::number(line, 3) else {
+    let Number::Is(top) = asked::number(line, 3) else {
         return bad(procs);
     };
     let mut bytes = [0u8; 4096];
     let mut lengths = [0u64; 512];
-    let a = crate::arguments::take(space, &mut bytes, &mut lengths, line);
+    let a = asked::take_args(space, &mut bytes, &mut lengths, line);
     if a.bad {
         return bad(procs);
     }

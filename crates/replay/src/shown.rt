@@ -1,6 +1,6 @@
 // The lines of rules by themselves, and of what is shown.
 ghost use Prim.Native.Nat.{_≤_, _^_};
-use crate::words::Taken;
+use asked::Taken;
 use script::Number;
 use segment::Bss;
 use spec::Proc;
@@ -37,11 +37,11 @@ pub fn rule(line: &[u8]) {
         crate::say::bad_line();
         return;
     };
-    let Number::Is(free) = crate::words::number(line, 3) else {
+    let Number::Is(free) = asked::number(line, 3) else {
         crate::say::bad_line();
         return;
     };
-    let Number::Is(addr) = crate::words::number(line, 4) else {
+    let Number::Is(addr) = asked::number(line, 4) else {
         crate::say::bad_line();
         return;
     };
@@ -61,7 +61,7 @@ pub fn rule(line: &[u8]) {
 
 // name BYTES
 pub fn name(space: &mut [u8], line: &[u8]) {
-    let Taken::Size(n) = crate::words::bytes(space, script::word(line, 1)) else {
+    let Taken::Size(n) = asked::bytes(space, script::word(line, 1)) else {
         crate::say::bad_line();
         return;
     };

@@ -7,7 +7,7 @@ use native.Mathlib.Omega.{arith}
 use denote.Ref.{now}
 use lib.ListN.{length, set, drop, replicate, length-set}
 use borrow.Author.Fill.{fill-none, fill-more}
-use Rattle.replay.proofs.Filled.{fill-end}
+use Rattle.asked.proofs.Filled.{fill-end}
 use borrow.Author.Needs.{needs}
 use Rattle.replay.proofs.lent.clear_words.Statement.{statement}
 use Rattle.replay.proofs.lent.clear_words.Tie as tie

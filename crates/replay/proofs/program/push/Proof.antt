@@ -7,10 +7,10 @@ use Rattle.replay.proofs.program.push.Statement.{statement}
 use Rattle.replay.proofs.program.push.Tie as tie
 
 slice-aggregate-push : tie.Need-slice-aggregate-push
-slice-aggregate-push c = sym (length-take-le _ _ (c .before .before .before .before .before .before .before .before .take .ensures .sized))
+slice-aggregate-push c = sym (length-take-le _ _ (c .before .before .before .before .before .before .before .before .take-args .ensures .sized))
 
 slice-aggregate-push-2 : tie.Need-slice-aggregate-push-2
-slice-aggregate-push-2 c = sym (length-take-le _ _ (c .before .before .before .before .before .before .before .before .before .take .ensures .counted))
+slice-aggregate-push-2 c = sym (length-take-le _ _ (c .before .before .before .before .before .before .before .before .before .take-args .ensures .counted))
 
 pub push-spec : {M : Type 1} → statement M
 push-spec =

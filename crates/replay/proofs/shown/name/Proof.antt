@@ -5,7 +5,7 @@ use native.Mathlib.Omega.{arith}
 use lib.ListN.{length}
 use lib.Seq.{length-take-le}
 use Rattle.laws.proofs.Started.{name-long}
-use Rattle.replay.specs.Given.{sizeOf}
+use Rattle.asked.specs.Given.{sizeOf}
 use borrow.Author.Needs.{needs}
 use Rattle.replay.proofs.shown.name.Statement.{statement}
 use Rattle.replay.proofs.shown.name.Tie as tie

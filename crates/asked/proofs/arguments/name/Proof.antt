@@ -1,0 +1,32 @@
+-- `asked::arguments::name` meets its contract: the bytes that were taken lie in their buffer.
+-- Assumes nothing.
+use mathlib.Core.Path.{sym, ap}
+use native.Mathlib.Omega.{arith}
+use lib.Seq.{length-take-le}
+use Rattle.asked.specs.Given.{sizeOf}
+use borrow.Author.Needs.{needs}
+use Rattle.asked.proofs.arguments.name.Statement.{statement}
+use Rattle.asked.proofs.arguments.name.Tie as tie
+
+slice-reshare-prefix-elem : tie.Need-slice-reshare-prefix-elem
+slice-reshare-prefix-elem c = omega (arith, ap sizeOf (c .before .before .t .given .1), c .before .before .before .before .before .before .bytes .ensures .0)
+
+slice-aggregate-elem : tie.Need-slice-aggregate-elem
+slice-aggregate-elem c = sym (length-take-le _ _ (omega (arith, ap sizeOf (c .before .before .before .t .given .1), c .before .before .before .before .before .before .before .bytes .ensures .0)))
+
+pub name-spec : {M : Type 1} → statement M
+name-spec =
+    tie.close
+    (tie.spec
+    (λ c κs. search needs)
+    (λ c. search needs)
+    (λ c. search needs)
+    (λ c. search needs)
+    (λ c. search needs)
+    slice-reshare-prefix-elem
+    slice-aggregate-elem
+    (λ c κs. search needs)
+    (λ c κs. search needs)
+    (λ c. search needs)
+    (λ c. search needs)
+    (λ c. search needs))

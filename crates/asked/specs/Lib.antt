@@ -1,0 +1,3 @@
+pub mod Given
+pub mod Lists
+pub mod Fitting
