@@ -1,0 +1,138 @@
+#!/usr/bin/env python3
+"""Runs a replay program on every script here, and compares what it answers with the oracle's answers.
+
+  against.py PROGRAM [ARGUMENT..]     as against.py ../../target/bin/replay
+
+Standard input is a file, then a pipe that is written in pieces. Scripts that are too long to be kept are made here, and answered
+by ../compare/model.py. All run on a stack of 8 MiB.
+"""
+import os
+import resource
+import subprocess
+import sys
+import tempfile
+import time
+
+HERE = os.path.dirname(os.path.abspath(__file__))
+ROOT = os.path.dirname(os.path.dirname(HERE))
+sys.path.insert(0, os.path.join(ROOT, 'tests', 'compare'))
+from model import FILE_MAX, LINE_MAX, Script  # noqa: E402
+
+STACK = 8 << 20
+
+
+def small_stack():
+    resource.setrlimit(resource.RLIMIT_STACK, (STACK, resource.getrlimit(resource.RLIMIT_STACK)[1]))
+
+
+def from_file(command, script):
+    with tempfile.TemporaryFile() as file:
+        file.write(script)
+        file.seek(0)
+        return subprocess.run(command, stdin=file, capture_output=True, cwd=ROOT, preexec_fn=small_stack).stdout
+
+
+def in_pieces(command, script, size, pause=0):
+    """Each piece is written by itself; `pause` lets the program read it before the next one comes."""
+    with tempfile.TemporaryFile() as out:
+        process = subprocess.Popen(command, stdin=subprocess.PIPE, stdout=out, bufsize=0, cwd=ROOT, preexec_fn=small_stack)
+        for at in range(0, len(script), size):
+            process.stdin.write(script[at:at + size])
+            if pause:
+                time.sleep(pause)
+        process.stdin.close()
+        process.wait()
+        out.seek(0)
+        return out.read()
+
+
+def answered(script):
+    """The model's answers."""
+    model = Script()
+    os.chdir(ROOT)
+    return b''.join(a.encode() + b'\n' for a in map(model.answer, script.split(b'\n')) if a is not None)
+
+
+def recorded():
+    """Each script with its answers."""
+    for name in sorted(os.listdir(HERE)):
+        if name.endswith('.txt'):
+            with open(os.path.join(HERE, name), 'rb') as script, open(os.path.join(HERE, name[:-4] + '.out'), 'rb') as out:
+                yield name, script.read(), out.read()
+
+
+def made(folder):
+    """Lines, files and arguments at the limits of the form."""
+    def file(name, data):
+        path = os.path.join(folder, name)
+        with open(path, 'wb') as f:
+            f.write(data)
+        return b'@' + path.encode()
+    with open(os.path.join(ROOT, 'tests', 'compare', 'example.elf'), 'rb') as f:
+        example = f.read()
+    elf = file('elf', example)
+    most, over = file('most', example + bytes(FILE_MAX - len(example))), file('over', bytes(FILE_MAX + 1))
+    name, nul, letters = file('name', b'/bin/' + b'x' * 100000), file('nul', b'a\0'), file('letters', b'a' * 5000)
+    empty = file('empty', b'')
+    full = b"to 1 69632 '" + b'x' * (LINE_MAX - 12)
+    yield 'lines', b'\n'.join([
+        b'frames 40', b"start 1 'x " + elf, full[:LINE_MAX - 60000], full, full + b'x', b'#' * 200000, b'x' * 200000, b' ' * LINE_MAX,
+        b"start 2 'x " + elf + b' -' * 453, b"start 3 'x " + elf + b' -' * 454, b"start 3 'x " + elf + b' -' * 20000,
+        b'fork 1 3' + b' 1 2 3' * 9000, b'fork 1 3' + b' 1 2 3' * 17, b'sum', b'map 1', b'map 2', b'map 3', b'map 17'])
+    yield 'files', b'\n'.join([
+        b'frames 600', b'start 1 ' + name + b' ' + most + b' ' + empty, b'map 1', b'start 2 ' + most + b' ' + elf, b'map 2', b'sum',
+        b"start 3 'x " + over, b'start 3 ' + over + b' ' + elf, b"start 3 'x " + elf + b' ' + over, b"start 3 'x " + elf + b' ' + nul,
+        b"start 3 'x " + elf + b' ' + letters, b"start 3 'x " + elf + b' ' + letters + b' ' + nul, b"start 3 'x " + elf + b' ' + most * 1,
+        b'push 1 0 140737488355328 ' + letters, b'push 1 0 140737488355328 ' + nul, b'push 1 0 140737488355328 ' + empty,
+        b'to 1 69632 @' + folder.encode(), b'to 1 69632 ' + empty, b'to 1 69632 @', b'to 1 69632 @' + b'x' * 5000,
+        b'to 1 140737488338944 ' + elf, b'to 1 69632 ' + over, b'from 1 140737488338944 184', b'name ' + name, b'name ' + most,
+        b'replace 1 ' + name + b' ' + elf + b' 140737488355304', b'to 1 69632 ' + most, b'sum'])
+    yield 'tails', b'frames 1\n\n\n#\nsum\nend 1\r\nsum\0\nname \'\xff\xfe\nmap 1'
+    yield 'nothing', b''
+    yield 'a line feed', b'\n'
+
+
+def short(command):
+    """How long a thousand short calls take, beside the program's own start."""
+    lines = [b'frames 1024', b"start 1 'lex @tests/compare/example.elf"]
+    for i in range(250):
+        lines += [b'break 1 %d' % (77824 + 4096 * (i % 5)), b'from 1 69632 8', b'range 1 65536 100 r', b'string 1 65536 4']
+    best = 9
+    for _ in range(3):
+        start = time.time()
+        from_file(command, b'\n'.join(lines) + b'\n')
+        best = min(best, time.time() - start)
+    return best
+
+
+def main(command):
+    command[0] = os.path.abspath(command[0])
+    bad = runs = 0
+    with tempfile.TemporaryDirectory() as folder:
+        scripts = list(recorded())
+        for name, script, wanted in scripts + [(name, script, answered(script)) for name, script in made(folder)]:
+            ways = [('a file', from_file(command, script)), ('pieces of 65536', in_pieces(command, script, 65536)),
+                    ('pieces of 4095', in_pieces(command, script, 4095)), ('no last line feed', from_file(command, script.rstrip(b'\n')))]
+            if len(script) < 4500:
+                ways.append(('pieces of 7', in_pieces(command, script, 7, 0.0002)))
+            for way, out in ways:
+                runs += 1
+                if out != wanted:
+                    a, b = out.split(b'\n'), wanted.split(b'\n')
+                    at = next(i for i in range(max(len(a), len(b)) + 1) if a[i:i + 1] != b[i:i + 1])
+                    print(f'against.py: {name} from {way}: answer {at + 1} is {a[at:at + 1]!r:.200}, not {b[at:at + 1]!r:.200}', file=sys.stderr)
+                    bad += 1
+    took = short(command)
+    if took > 1:
+        print(f'against.py: a thousand short calls took {took:.2f} s', file=sys.stderr)
+        bad += 1
+    if not bad:
+        print(f'replay: {os.path.relpath(command[0], ROOT)}: {runs} runs of {len(scripts)} recorded scripts and others, all as answered;'
+              f' a thousand short calls in {1000 * took:.0f} ms')
+    return min(bad, 1)
+
+
+if __name__ == '__main__':
+    if len(sys.argv) < 2:
+        sys.exit(__doc__)
+    sys.exit(main(sys.argv[1:]))
