@@ -3,3 +3,4 @@ pub mod Taking
 pub mod Adding
 pub mod Recorded
 pub mod Forking
+pub mod Short

@@ -4,6 +4,7 @@ ghost use mathlib.Core.Path.{_≡_};
 ghost use Prim.Native.Nat.{_≤_};
 ghost use lib.ListN.{length, take};
 ghost use Rattle.spec.specs.Tests.{sum};
+ghost use Rattle.spec.specs.Name.{elem, kstrcpy};
 ghost use Rattle.asked.specs.Given.{sizeOf};
 ghost use Rattle.asked.specs.Fitting.{Fits};
 use crate::words::Taken;
@@ -19,15 +20,25 @@ pub struct Args {
     pub bad: bool,
 }
 
-// Puts the name that a word gives, as far as a process keeps it: of what follows the last `/`, the first 28 bytes.
+// Puts as much of a name as a process keeps: of what follows the last `/`, the first 28 bytes.
+fn short_name(dst: &mut [u8], name: &[u8]) -> usize
+    requires { ⌜ length (now dst) ≡ 28 ⌝ }
+    ensures { λ r. ⌜ r ≤ 28 ⌝ }
+    ensures { λ r. ⌜ kstrcpy (elem (take r (now (dst .exit)))) ≡ kstrcpy (elem (now (name .entry))) ⌝ }
+{
+    crate::words::first(dst, kstr::elem(name))
+}
+
+// Puts the name that a word gives, as much of it as a process keeps.
 pub fn name(space: &mut [u8], dst: &mut [u8], word: &[u8]) -> Taken
-    ensures { λ r. ⌜ sizeOf r ≤ length (now (dst .exit)) ⌝ }
+    requires { ⌜ length (now dst) ≡ 28 ⌝ }
+    ensures { λ r. ⌜ sizeOf r ≤ 28 ⌝ }
 {
     let t = crate::words::bytes(space, word);
     let Taken::Size(n) = t else {
         return Taken::Bad;
     };
-    Taken::Size(crate::words::first(dst, kstr::elem(&space[..n])))
+    Taken::Size(short_name(dst, &space[..n]))
 }
 
 // Adds an argument, if there is room.
