@@ -1,17 +1,23 @@
 -- One argument more.
 -- Assumes nothing.
-use mathlib.Core.Path.{_≡_, refl, sym, ap, _∙_}
-use mathlib.Core.Bool.{Bool, false, _||_}
+use mathlib.Core.Path.{_≡_, refl, sym, ap, ap₂, _∙_}
+use mathlib.Core.Bool.{Bool, true, false, _||_}
 use mathlib.Core.List.{List, [], _∷_, _++_}
 use Prim.Native.Nat.{ℕ, suc, _+_, _-_, _≤_, _<_}
 use native.Mathlib.Numerals.{add-one}
 use native.Mathlib.Omega.{arith}
 use lib.Dec.{eqb, ltb}
-use lib.ListN.{length, take, set}
-use lib.Seq.{take-suc-set}
-use borrow.Author.Tests.{eqb-false, ltb-false}
-use Rattle.spec.specs.Tests.{sum}
-use Rattle.spec.proofs.Bools.{neither}
+use lib.ListN.{length, take, set, length-append}
+use lib.Seq.{take-suc-set, length-take-le, take-append-add, take-append-le}
+use borrow.Author.Tests.{eqb-true, eqb-false, ltb-true, ltb-false}
+use borrow.Rule.Slice.PartMut.{putMid, postOf}
+use Rattle.spec.specs.Tests.{any, has, sum}
+use Rattle.spec.specs.Numbers.{argLimit}
+use Rattle.spec.specs.Exec.{argsOf, strings, stackSize}
+use Rattle.spec.proofs.Bools.{split, neither, or-fact}
+use Rattle.args.proofs.Cut.{cut-count, cut-size, cut-snoc}
+use Rattle.asked.specs.declared.arguments.Args.{Args}
+use Rattle.asked.specs.Fitting.{Fits, Keeps}
 
 sum-more : (xs : List ℕ) (n : ℕ) → sum (xs ++ n ∷ []) ≡ sum xs + n
 sum-more [] n = omega arith
@@ -21,9 +27,72 @@ pub sum-set : (l : List ℕ) (i n : ℕ) → i < length l → sum (take (i + 1) 
 sum-set l i n h = rw (add-one i, take-suc-set l i n h) (sum-more (take i l) n)
 
 -- there is room
-pub room : (over : Bool) (count most left size : ℕ) → ((over || eqb count most) || ltb left size) ≡ false → count ≤ most → (count < most) × (size ≤ left)
+pub room : (over : Bool) (count most left size : ℕ) → ((over || eqb count most) || ltb left size) ≡ false → count ≤ most → (over ≡ false) × (count < most) × (size ≤ left)
 room over count most left size t h =
     let two = neither (over || eqb count most) (ltb left size) t in
     let one = neither over (eqb count most) (two .0) in
     let ne : count ≡ most → ⊥ = eqb-false count most (one .1) in
-    (omega (arith, ne), ltb-false left size (two .1))
+    (one .0, omega (arith, ne), ltb-false left size (two .1))
+
+-- ---- arguments behind others
+
+or-last : (a b : Bool) → (a || (b || false)) ≡ (a || b)
+or-last true b = refl
+or-last false true = refl
+or-last false false = refl
+
+or-assoc : (a b c : Bool) → (a || (b || c)) ≡ ((a || b) || c)
+or-assoc true b c = refl
+or-assoc false b c = refl
+
+any-more : (args : List (List ℕ)) (b : List ℕ) → any (has 0) (args ++ b ∷ []) ≡ (any (has 0) args || has 0 b)
+any-more [] b = or-last false (has 0 b)
+any-more (a ∷ args) b = ap (λ (t : Bool). has 0 a || t) (any-more args b) ∙ or-assoc (has 0 a) (any (has 0) args) (has 0 b)
+
+strings-more : (args : List (List ℕ)) (b : List ℕ) → length (strings (args ++ b ∷ [])) ≡ length (strings args) + length b + 1
+strings-more [] b = omega (arith, length-append b (0 ∷ []))
+strings-more (a ∷ args) b = omega (arith, strings-more args b, length-append a (0 ∷ strings args), length-append a (0 ∷ strings (args ++ b ∷ [])))
+
+module _ (a : Args) (bytes lengths b : List ℕ) (args : List (List ℕ)) (f : Fits a bytes lengths) (k : Keeps a bytes lengths args) where
+  fitting : sum (take (a .count) lengths) ≡ length (take (a .size) bytes)
+  fitting = f .summed ∙ sym (length-take-le (a .size) bytes (f .sized))
+
+  -- how many there are, and how long
+  count-is : a .over ≡ false → length args ≡ a .count
+  count-is o = ap length (sym (k .whole o)) ∙ cut-count (take (a .size) bytes) (take (a .count) lengths) ∙ length-take-le (a .count) lengths (f .counted)
+
+  size-is : a .over ≡ false → length (strings args) ≡ a .size + a .count
+  size-is o =
+      ap (λ (x : List (List ℕ)). length (strings x)) (sym (k .whole o)) ∙ cut-size (take (a .size) bytes) (take (a .count) lengths) fitting
+      ∙ ap₂ (λ (x : ℕ) (y : ℕ). x + y) (length-take-le (a .size) bytes (f .sized)) (length-take-le (a .count) lengths (f .counted))
+
+  -- what doesn't fit is over the limit
+  pub over-more : length bytes ≡ 4096 → length lengths ≡ 512 → ((a .over || eqb (a .count) (length lengths)) || ltb (length bytes - a .size) (length b)) ≡ true
+      → argLimit < stackSize (length (strings (args ++ b ∷ []))) (length (args ++ b ∷ []))
+  over-more wide long t =
+      let s = strings-more args b in
+      let n = length-append args (b ∷ []) in
+      split (a .over)
+      (λ o. let m = k .more o in omega arith)
+      (λ o. let c = count-is o in
+      let z = size-is o in
+      let u : (eqb (a .count) (length lengths) || ltb (length bytes - a .size) (length b)) ≡ true = rw o at t in
+      split (eqb (a .count) (length lengths))
+      (λ q. let e = eqb-true (a .count) (length lengths) q in omega arith)
+      (λ q. let l = ltb-true (length bytes - a .size) (length b) (or-fact (eqb (a .count) (length lengths)) (ltb (length bytes - a .size) (length b)) u q) in omega arith))
+
+  pub nuls-more : (h : Bool) → h ≡ has 0 b → (a .nul || h) ≡ any (has 0) (args ++ b ∷ [])
+  nuls-more h e = ap₂ (λ (x : Bool) (y : Bool). x || y) (k .nuls) e ∙ sym (any-more args b)
+
+  -- what fits is kept
+  pub whole-more : (d : List ℕ) (n : ℕ) → n ≡ length b → take (a .size + n) d ≡ take (a .size) bytes ++ b → a .count < length lengths → a .over ≡ false
+      → argsOf (take (a .size + n) d) (take (a .count + 1) (set lengths (a .count) n)) ≡ args ++ b ∷ []
+  whole-more d n e t h o =
+      ap₂ argsOf t (ap (λ (i : ℕ). take i (set lengths (a .count) n)) (add-one (a .count)) ∙ take-suc-set lengths (a .count) n h ∙ ap (λ (i : ℕ). take (a .count) lengths ++ i ∷ []) e)
+      ∙ cut-snoc (take (a .size) bytes) b (take (a .count) lengths) fitting ∙ ap (λ (x : List (List ℕ)). x ++ b ∷ []) (k .whole o)
+
+-- bytes put behind the first
+pub put-behind : (at n m : ℕ) (bytes ys b : List ℕ) → at ≤ length bytes → n ≤ length ys → take n ys ≡ b → take (at + n) (putMid at m bytes ys) ≡ take at bytes ++ b
+put-behind at n m bytes ys b h l e =
+    let t = length-take-le at bytes h in
+    rw t at (take-append-add (take at bytes) (ys ++ postOf at m bytes) n) ∙ ap (λ (x : List ℕ). take at bytes ++ x) (take-append-le n ys (postOf at m bytes) l ∙ e)

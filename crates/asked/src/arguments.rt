@@ -1,11 +1,14 @@
 // Names, arguments and lists of numbers, as far as a call looks at them. They may come from files, and be longer than there is room
 // for; what is kept of them then has the same answer.
 ghost use mathlib.Core.Path.{_≡_};
-ghost use Prim.Native.Nat.{_≤_};
+ghost use mathlib.Core.List.{List, [], _∷_, _++_};
+ghost use Prim.Native.Nat.{ℕ, _≤_};
 ghost use lib.ListN.{length, take};
-ghost use Rattle.spec.specs.Tests.{sum};
+ghost use Rattle.spec.specs.Tests.{_⇒_else_};
+ghost use Rattle.spec.specs.Exec.{argsError};
+ghost use Rattle.spec.specs.Name.{elem, kstrcpy};
 ghost use Rattle.asked.specs.Given.{sizeOf};
-ghost use Rattle.asked.specs.Fitting.{Fits};
+ghost use Rattle.asked.specs.Fitting.{Fits, Keeps, held};
 use crate::words::Taken;
 use script::Number;
 
@@ -19,21 +22,33 @@ pub struct Args {
     pub bad: bool,
 }
 
-// Puts the name that a word gives, as far as a process keeps it: of what follows the last `/`, the first 28 bytes.
+// Puts as much of a name as a process keeps: of what follows the last `/`, the first 28 bytes.
+fn short_name(dst: &mut [u8], name: &[u8]) -> usize
+    requires { ⌜ length (now dst) ≡ 28 ⌝ }
+    ensures { λ r. ⌜ r ≤ 28 ⌝ }
+    ensures { λ r. ⌜ kstrcpy (elem (take r (now (dst .exit)))) ≡ kstrcpy (elem (now (name .entry))) ⌝ }
+{
+    crate::words::first(dst, kstr::elem(name))
+}
+
+// Puts the name that a word gives, as much of it as a process keeps.
 pub fn name(space: &mut [u8], dst: &mut [u8], word: &[u8]) -> Taken
-    ensures { λ r. ⌜ sizeOf r ≤ length (now (dst .exit)) ⌝ }
+    requires { ⌜ length (now dst) ≡ 28 ⌝ }
+    ensures { λ r. ⌜ sizeOf r ≤ 28 ⌝ }
 {
     let t = crate::words::bytes(space, word);
     let Taken::Size(n) = t else {
         return Taken::Bad;
     };
-    Taken::Size(crate::words::first(dst, kstr::elem(&space[..n])))
+    Taken::Size(short_name(dst, &space[..n]))
 }
 
 // Adds an argument, if there is room.
 fn add(bytes: &mut [u8], lengths: &mut [u64], a: Args, arg: &[u8]) -> Args
+    requires { ⌜ (length (now bytes) ≡ 4096) × (length (now lengths) ≡ 512) ⌝ }
     requires { ⌜ Fits a (now bytes) (now lengths) ⌝ }
     ensures { λ r. ⌜ Fits r (now (bytes .exit)) (now (lengths .exit)) ⌝ }
+    ensures { λ r. ⌜ ((args : List (List ℕ)) → Keeps a (now (bytes .entry)) (now (lengths .entry)) args → Keeps r (now (bytes .exit)) (now (lengths .exit)) (args ++ now (arg .entry) ∷ [])) ⌝ }
 {
     let count = a.count;
     let size = a.size;
@@ -60,6 +75,7 @@ fn add(bytes: &mut [u8], lengths: &mut [u64], a: Args, arg: &[u8]) -> Args
 
 // Adds the argument that a word gives.
 fn add_word(space: &mut [u8], bytes: &mut [u8], lengths: &mut [u64], a: Args, word: &[u8]) -> Args
+    requires { ⌜ (length (now bytes) ≡ 4096) × (length (now lengths) ≡ 512) ⌝ }
     requires { ⌜ Fits a (now bytes) (now lengths) ⌝ }
     ensures { λ r. ⌜ Fits r (now (bytes .exit)) (now (lengths .exit)) ⌝ }
 {
@@ -78,6 +94,7 @@ fn add_word(space: &mut [u8], bytes: &mut [u8], lengths: &mut [u64], a: Args, wo
 
 // Adds the words of a line behind its first four.
 fn add_words(space: &mut [u8], bytes: &mut [u8], lengths: &mut [u64], line: &[u8]) -> Args
+    requires { ⌜ (length (now bytes) ≡ 4096) × (length (now lengths) ≡ 512) ⌝ }
     ensures { λ r. ⌜ Fits r (now (bytes .exit)) (now (lengths .exit)) ⌝ }
 {
     let mut a = Args {
@@ -97,17 +114,28 @@ fn add_words(space: &mut [u8], bytes: &mut [u8], lengths: &mut [u64], line: &[u8
     a
 }
 
-// Takes the words of a line behind its first four as arguments. Of those that don't fit it leaves one that doesn't either, with a
-// NUL if one has.
-pub fn take_args(space: &mut [u8], bytes: &mut [u8], lengths: &mut [u64], line: &[u8]) -> Args
-    requires { ⌜ (length (now bytes) ≡ 4096) × (length (now lengths) ≡ 512) ⌝ }
-    ensures { λ r. ⌜ Fits r (now (bytes .exit)) (now (lengths .exit)) ⌝ }
+// A NUL, or another byte.
+fn filler(nul: bool) -> u8
+    ensures { λ r. ⌜ r ≡ (nul ⇒ 0 else 1) ⌝ }
 {
-    let a = add_words(space, bytes, lengths, line);
+    if nul {
+        return 0;
+    }
+    1
+}
+
+// The arguments that a call is given: of those that don't fit, one that doesn't either, with a NUL if one has. Its answer is the same.
+fn given(bytes: &mut [u8], lengths: &mut [u64], a: Args) -> Args
+    requires { ⌜ (length (now bytes) ≡ 4096) × (length (now lengths) ≡ 512) ⌝ }
+    requires { ⌜ Fits a (now bytes) (now lengths) ⌝ }
+    ensures { λ r. ⌜ Fits r (now (bytes .exit)) (now (lengths .exit)) ⌝ }
+    ensures { λ r. ⌜ ((args : List (List ℕ)) → Keeps a (now (bytes .entry)) (now (lengths .entry)) args → argsError (held r (now (bytes .exit)) (now (lengths .exit))) ≡ argsError args) ⌝ }
+    ensures { λ r. ⌜ ((args : List (List ℕ)) → Keeps a (now (bytes .entry)) (now (lengths .entry)) args → argsError args ≡ 0 → held r (now (bytes .exit)) (now (lengths .exit)) ≡ args) ⌝ }
+{
     if !a.over {
         return a;
     }
-    crate::words::fill(bytes, if a.nul { 0 } else { 1 });
+    crate::words::fill(bytes, filler(a.nul));
     lengths[0] = 4096;
     Args {
         count: 1,
@@ -116,6 +144,15 @@ pub fn take_args(space: &mut [u8], bytes: &mut [u8], lengths: &mut [u64], line: 
         nul: a.nul,
         bad: a.bad,
     }
+}
+
+// Takes the words of a line behind its first four as arguments.
+pub fn take_args(space: &mut [u8], bytes: &mut [u8], lengths: &mut [u64], line: &[u8]) -> Args
+    requires { ⌜ (length (now bytes) ≡ 4096) × (length (now lengths) ≡ 512) ⌝ }
+    ensures { λ r. ⌜ Fits r (now (bytes .exit)) (now (lengths .exit)) ⌝ }
+{
+    let a = add_words(space, bytes, lengths, line);
+    given(bytes, lengths, a)
 }
 
 // Puts a number at place n, if there is room, and answers the next place.

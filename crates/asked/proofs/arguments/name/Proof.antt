@@ -8,11 +8,11 @@ use borrow.Author.Needs.{needs}
 use Rattle.asked.proofs.arguments.name.Statement.{statement}
 use Rattle.asked.proofs.arguments.name.Tie as tie
 
-slice-reshare-prefix-elem : tie.Need-slice-reshare-prefix-elem
-slice-reshare-prefix-elem c = omega (arith, ap sizeOf (c .before .before .t .given .1), c .before .before .before .before .before .before .bytes .ensures .0)
+slice-reshare-prefix-short-name : tie.Need-slice-reshare-prefix-short-name
+slice-reshare-prefix-short-name c = omega (arith, ap sizeOf (c .before .before .t .given .1), c .before .before .before .before .before .before .bytes .ensures .0)
 
-slice-aggregate-elem : tie.Need-slice-aggregate-elem
-slice-aggregate-elem c = sym (length-take-le _ _ (omega (arith, ap sizeOf (c .before .before .before .t .given .1), c .before .before .before .before .before .before .before .bytes .ensures .0)))
+slice-aggregate-short-name : tie.Need-slice-aggregate-short-name
+slice-aggregate-short-name c = sym (length-take-le _ _ (omega (arith, ap sizeOf (c .before .before .before .t .given .1), c .before .before .before .before .before .before .before .bytes .ensures .0)))
 
 pub name-spec : {M : Type 1} → statement M
 name-spec =
@@ -23,9 +23,8 @@ name-spec =
     (λ c. search needs)
     (λ c. search needs)
     (λ c. search needs)
-    slice-reshare-prefix-elem
-    slice-aggregate-elem
-    (λ c κs. search needs)
+    slice-reshare-prefix-short-name
+    slice-aggregate-short-name
     (λ c κs. search needs)
     (λ c. search needs)
     (λ c. search needs)
