@@ -54,7 +54,6 @@ unsafe extern "C" {
     fn measured_zero(d: *mut u8, n: usize);
     fn measured_copy(d: *mut u8, n: usize, s: *const u8, m: usize);
     fn measured_free(book: *const u64, n: usize) -> usize;
-    fn measured_frame(book: *const u64, n: usize, owner: u64, page: u64) -> u64;
     fn measured_sound(book: *const u64, n: usize, procs: Procs) -> bool;
     fn measured_parse(image: *const u8, n: usize) -> u64;
 }
@@ -72,11 +71,6 @@ pub fn copy(d: &mut [u8], s: &[u8]) {
 pub fn free(book: &[u64]) -> usize {
     // SAFETY: as above.
     unsafe { measured_free(book.as_ptr(), book.len()) }
-}
-
-pub fn frame(book: &[u64], owner: u64, page: u64) -> u64 {
-    // SAFETY: as above.
-    unsafe { measured_frame(book.as_ptr(), book.len(), owner, page) }
 }
 
 pub fn parse(image: &[u8]) -> u64 {

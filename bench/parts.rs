@@ -56,7 +56,7 @@ fn full_book(n: usize, nproc: usize) -> (Vec<u64>, Procs) {
     (words, procs)
 }
 
-/// The check of a full book, and the searches of it.
+/// The check of a full book, and the count of its free frames.
 pub fn check() {
     std::println!("\n{:<40} {:>10} {:>10}   noise %", "full book", "ours ns", "ns a word");
     for (n, nproc) in [(64, 1), (1_024, 1), (1_024, 16)] {
@@ -65,9 +65,8 @@ pub fn check() {
         let t: Vec<Time> = times(&mut [
             &mut || repeated(|| ours::sound(black_box(&book), black_box(&procs))),
             &mut || repeated(|| ours::free(black_box(&book))),
-            &mut || repeated(|| ours::frame(black_box(&book), nproc as u64, (1 << 47) - 4_096)),
         ]);
-        for (name, t) in ["check", "free count", "last frame by search"].iter().zip(&t) {
+        for (name, t) in ["check", "free count"].iter().zip(&t) {
             let name = format!("{name}, {n} words, {nproc} processes");
             std::println!("{name:<40} {:>10.1} {:>10.2}   {:.0}", t.ns(), t.ns() / n as f64, t.noise());
         }

@@ -1,17 +1,30 @@
-// Exported functions for bench/: the loops over frames and book, and the check of the book, as C calls them. Each tests what the
-// function that it calls asks of its caller.
+// Exported functions for bench/: the loops over frames and book, as C calls them. Each tests what the function that it calls asks of
+// its caller.
 
+ghost use mathlib.Core.Path.{_≡_};
+ghost use mathlib.Core.Bool.{false};
+ghost use Prim.Native.Nat.{_≤_, _<_};
+ghost use lib.ListN.{length, replicate};
+ghost use Rattle.spec.specs.Tests.{_is_, _⇒_else_};
+ghost use Rattle.spec.specs.Book.{free};
+ghost use Rattle.spec.specs.Sound.{soundBook};
+ghost use Rattle.spec.specs.Elf.{elfError};
 use elf::Parsed;
-use spec::Found;
 use spec::Procs;
 
+// Every byte becomes 0.
 #[no_mangle]
-pub extern "C" fn measured_zero(d: &mut [u8]) {
+pub extern "C" fn measured_zero(d: &mut [u8])
+    ensures { λ _. ⌜ now (d .exit) ≡ replicate (length (now (d .entry))) 0 ⌝ }
+{
     pagealloc::frames::zero(d);
 }
 
+// `d` becomes `s` if they are equally long, and stays otherwise.
 #[no_mangle]
-pub extern "C" fn measured_copy(d: &mut [u8], s: &[u8]) {
+pub extern "C" fn measured_copy(d: &mut [u8], s: &[u8])
+    ensures { λ _. ⌜ now (d .exit) ≡ (length (now (d .entry)) is length (now (s .entry)) ⇒ now (s .entry) else now (d .entry)) ⌝ }
+{
     if d.len() == s.len() {
         pagealloc::frames::copy(d, s);
     }
@@ -19,39 +32,27 @@ pub extern "C" fn measured_copy(d: &mut [u8], s: &[u8]) {
 
 // How many frames are free.
 #[no_mangle]
-pub extern "C" fn measured_free(book: &[u64]) -> usize {
+pub extern "C" fn measured_free(book: &[u64]) -> usize
+    ensures { λ r. ⌜ r ≡ free (now (book .entry)) ⌝ }
+{
     book::free_count(book)
 }
-
-// One more than the frame of an owner's page, or 0.
+// Whether the book is sound; one of more than 1,024 words is not.
 #[no_mangle]
-pub extern "C" fn measured_frame(book: &[u64], owner: u64, page: u64) -> u64 {
-    if owner < 1 {
-        return 0;
+pub extern "C" fn measured_sound(book: &[u64], procs: Procs) -> bool
+    ensures { λ r. ⌜ (length (now (book .entry)) ≤ 1024 → r ≡ soundBook (now (book .entry)) procs) × (1024 < length (now (book .entry)) → r ≡ false) ⌝ }
+{
+    if 1024 < book.len() {
+        return false;
     }
-    if 16 < owner {
-        return 0;
-    }
-    let aligned = mem::page_down(page);
-    match book::frame_of(book, owner, aligned) {
-        Found::At(k) => k as u64,
-        Found::Nothing => 0,
-    }
-}
-
-// Whether the book is sound.
-#[no_mangle]
-pub extern "C" fn measured_sound(book: &[u64], procs: Procs) -> bool {
-    if book.len() <= 1024 {
-        sound::sound(book, procs)
-    } else {
-        false
-    }
+    sound::sound(book, procs)
 }
 
 // The number that an image is refused with by the ELF reader, or 0.
 #[no_mangle]
-pub extern "C" fn measured_parse(image: &[u8]) -> u64 {
+pub extern "C" fn measured_parse(image: &[u8]) -> u64
+    ensures { λ r. ⌜ r ≡ elfError (now (image .entry)) ⌝ }
+{
     match elf::parse(image) {
         Parsed::Elf(_) => 0,
         Parsed::Refused(e) => elf::error_number(e),
