@@ -1,4 +1,5 @@
 // The lines of calls on a living process.
+ghost use mathlib.Core.Path.{_≡_};
 ghost use Prim.Native.Nat.{_≤_};
 ghost use lib.ListN.{length};
 use asked::Taken;
@@ -7,13 +8,17 @@ use script::Number;
 use spec::Procs;
 
 // Answers a line that is no call, with the records as they are.
-pub fn bad(procs: Procs) -> Procs {
+pub fn bad(procs: Procs) -> Procs
+    ensures { λ r. ⌜ r ≡ procs ⌝ }
+{
     crate::say::bad_line();
     procs
 }
 
 // Answers what a call says, and gives the records that it leaves.
-pub fn said(left: Left) -> Procs {
+pub fn said(left: Left) -> Procs
+    ensures { λ r. ⌜ r ≡ left .procs ⌝ }
+{
     let says = left.answer;
     crate::say::answer(says);
     left.procs

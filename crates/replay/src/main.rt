@@ -1,4 +1,4 @@
-// Replays a script of calls from standard input, one call a line, and answers each line: tests/compare/README.md has the form.
+// Replays a script of calls from standard input, one call a line, and answers each line: docs/REPLAY.md has the form.
 ghost use mathlib.Core.Path.{_≡_};
 ghost use Prim.Native.Nat.{_≤_};
 ghost use lib.ListN.{length};
