@@ -1,10 +1,11 @@
 //! Document 01's listing program, from what elf.rs and exec.rs say of an image.
-use crate::dat::Perm;
-use crate::elf::{self, ElfError};
-use crate::inside::{Exec, Inside};
-use crate::machine::{Host, USTKSIZE};
-use crate::mem::PAGE_SIZE_4K;
-use crate::world::{SEGMENTS, number};
+use crate::answer::number;
+use crate::world::{Machine, SEGMENTS};
+use r9::dat::Perm;
+use r9::elf::{self, ElfError};
+use r9::inside::Exec;
+use r9::machine::USTKSIZE;
+use r9::mem::PAGE_SIZE_4K;
 use std::fmt::Write;
 
 /// The number of an image's refusal.
@@ -52,8 +53,8 @@ fn lines(image: &[u8]) -> Result<String, u32> {
         return Err(1);
     }
     let e = elf::parse(image).map_err(elf_number)?;
-    let bss = <Exec as Inside<Host>>::layout(&e).map_err(number)?;
-    let segments = <Exec as Inside<Host>>::segments(&e, bss);
+    let bss = Exec::layout::<Machine>(&e).map_err(number)?;
+    let segments = Exec::segments(&e, bss);
     // The harness's own: a record's room.
     if segments.len() > SEGMENTS - 1 {
         return Err(31);

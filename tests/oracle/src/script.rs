@@ -1,12 +1,17 @@
 //! A script's lines and their answers.
-use crate::dat::UserRegs;
+use crate::answer::{Answer, Stop};
 use crate::listing::kind;
-use crate::machine::{FRAMES, m};
-use crate::mem::{PAGE_SIZE_4K, VirtRange};
+use crate::names::kstrcpy;
+use crate::sound::{record_pages, within};
 use crate::text::{bytes, crc, hex, number};
-use crate::world::{Answer, NONE, PROCS, Stop, World, kstrcpy, record_pages, within};
+use crate::world::{NONE, World};
+use r9::dat::{Perm, UserRegs};
+use r9::mem::{PAGE_SIZE_4K, VirtRange};
+use r9::procs::PROCS;
 use std::fmt::Write;
 
+/// The most frames there are: one more than a book may have.
+const FRAMES: u64 = 1_025;
 /// The longest line, and the longest buffer of `from` and `string`.
 const MAX: usize = 65_536;
 /// What a buffer holds at first.
@@ -49,7 +54,7 @@ fn call(w: &mut World, name: &[u8], words: &[&[u8]]) -> Option<String> {
     let many = |from: &[&[u8]]| from.iter().map(|b| bytes(b)).collect::<Option<Vec<_>>>();
     Some(match (name, words) {
         (b"frames", [n, fill @ ..]) => {
-            let n = number(n).filter(|n| *n <= FRAMES as u64)?;
+            let n = number(n).filter(|n| *n <= FRAMES)?;
             let fill = match fill {
                 [] => 0,
                 [f] => u8::try_from(number(f)?).ok()?,
@@ -139,8 +144,7 @@ fn sum(w: &World) -> String {
         records.extend(r.bss.iter().flat_map(|v| v.to_le_bytes()));
     }
     let book: Vec<u8> = w.book.iter().flat_map(|v| v.to_le_bytes()).collect();
-    let frames = &m().mem[..w.frames * PAGE_SIZE_4K];
-    format!("records={:08x} book={:08x} frames={:08x}", crc(&records), crc(&book), crc(frames))
+    format!("records={:08x} book={:08x} frames={:08x}", crc(&records), crc(&book), crc(&w.frames))
 }
 
 /// What a process holds, for a person: its name, each segment and the bss, and
@@ -163,7 +167,7 @@ fn map(w: &World, n: u64) -> String {
             write!(s, "\n    page {va} frame {}", frame.map_or("none".into(), |f| f.to_string())).unwrap();
         }
     };
-    let p = [crate::dat::Perm::Text, crate::dat::Perm::Rodata, crate::dat::Perm::Data];
+    let p = [Perm::Text, Perm::Rodata, Perm::Data];
     for [start, end, perm] in r.segments.iter().filter(|s| **s != [0; 3]) {
         write!(s, "\n  {} {start} {end} size {}", kind(p[*perm as usize - 1]), end - start).unwrap();
         pages(&mut s, *start, *end);
