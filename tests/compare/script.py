@@ -17,6 +17,7 @@ class BadLine(Exception):
 
 
 def number(word):
+    """A decimal number up to 2^64 - 1."""
     if not word or any(c not in b'0123456789' for c in word):
         raise BadLine
     word = word.lstrip(b'0') or b'0'
@@ -26,6 +27,7 @@ def number(word):
 
 
 def bytes_of(word):
+    """BYTES: hex digits, `-`, a quote and the bytes themselves, or `@FILE`."""
     if word == b'-':
         return b''
     if word[:1] == b"'":
@@ -45,7 +47,27 @@ def bytes_of(word):
 
 
 def shown(b):
+    """Bytes as BYTES."""
     return b.hex() or '-'
+
+
+def buffer_length(word):
+    n = number(word)
+    if n > BUFFER_MAX:
+        raise BadLine
+    return n
+
+
+def take(words, *kinds):
+    """The words by their kinds; the last kind may be a list, for any further ones."""
+    rest = kinds[-1] if kinds and isinstance(kinds[-1], list) else None
+    fixed = kinds[:-1] if rest else kinds
+    if len(words) < len(fixed) or not rest and len(words) > len(fixed):
+        raise BadLine
+    out = [kind(w) for kind, w in zip(fixed, words)]
+    if rest:
+        out.append([rest[0](w) for w in words[len(fixed):]])
+    return out
 
 
 def sums(world):
@@ -63,7 +85,7 @@ def sums(world):
         zlib.crc32(b) for b in (records, words(world.book), world.frames))
 
 
-def table(world, n):
+def held(world, n):
     """What a process holds, for a person."""
     world.living(n)
     r = world.records[n]
@@ -105,33 +127,22 @@ class Script:
             self.w.finish(int(words[0]))
             return 'ended %d' % e.args
 
-    def take(words, *kinds):
-        """The words by their kinds; the last kind may be a list, for any further ones."""
-        rest = kinds[-1] if kinds and isinstance(kinds[-1], list) else None
-        fixed = kinds[:-1] if rest else kinds
-        if len(words) < len(fixed) or not rest and len(words) > len(fixed):
-            raise BadLine
-        out = [kind(w) for kind, w in zip(fixed, words)]
-        if rest:
-            out.append([rest[0](w) for w in words[len(fixed):]])
-        return out
-
     def frames(self, words):
-        n, fill = Script.take(words, number, [number])
+        n, fill = take(words, number, [number])
         if n > FRAMES_MAX or len(fill) > 1 or any(f > 255 for f in fill):
             raise BadLine
         self.w = World(n, *fill)
         return 'ok'
 
     def lend(self, words):
-        size, count = Script.take(words, number, number)
+        size, count = take(words, number, number)
         if size > PAGE * self.w.n or count > self.w.n:
             raise BadLine
         self.w.bytes, self.w.words = size, count
         return 'ok'
 
     def word(self, words):
-        i, word = Script.take(words, number, number)
+        i, word = take(words, number, number)
         if i >= self.w.n:
             raise BadLine
         self.w.book[i] = word
@@ -141,20 +152,20 @@ class Script:
         return 'ok pc=%d sp=%d argc=%d argv=%d' % r
 
     def start(self, words):
-        n, name, image, args = Script.take(words, number, bytes_of, bytes_of, [bytes_of])
+        n, name, image, args = take(words, number, bytes_of, bytes_of, [bytes_of])
         return self.regs(self.w.start(n, name, image, args))
 
     def replace(self, words):
-        return self.regs(self.w.replace(*Script.take(words, number, bytes_of, bytes_of, number)))
+        return self.regs(self.w.replace(*take(words, number, bytes_of, bytes_of, number)))
 
     def push(self, words):
-        return self.regs(self.w.push(*Script.take(words, number, number, number, [bytes_of])))
+        return self.regs(self.w.push(*take(words, number, number, number, [bytes_of])))
 
     def brk(self, words):
-        return 'ok %d' % self.w.brk(*Script.take(words, number, number))
+        return 'ok %d' % self.w.brk(*take(words, number, number))
 
     def fork(self, words):
-        parent, child, rest = Script.take(words, number, number, [number])
+        parent, child, rest = take(words, number, number, [number])
         if len(rest) % 3:
             raise BadLine
         lent = list(zip(rest[::3], rest[1::3], rest[2::3]))
@@ -162,30 +173,24 @@ class Script:
         return 'ok'
 
     def end(self, words):
-        self.w.end(*Script.take(words, number))
+        self.w.end(*take(words, number))
         return 'ok'
 
     def range(self, words):
-        n, address, length, access = Script.take(words, number, number, number, bytes)
+        n, address, length, access = take(words, number, number, number, bytes)
         if access not in (b'r', b'w'):
             raise BadLine
         return 'ok yes' if self.w.range(n, address, length, access == b'w') else 'ok no'
 
-    def buffer(word):
-        n = number(word)
-        if n > BUFFER_MAX:
-            raise BadLine
-        return n
-
     def copy_from(self, words):
-        return 'ok ' + shown(self.w.copy_from(*Script.take(words, number, number, Script.buffer)))
+        return 'ok ' + shown(self.w.copy_from(*take(words, number, number, buffer_length)))
 
     def copy_to(self, words):
-        self.w.copy_to(*Script.take(words, number, number, bytes_of))
+        self.w.copy_to(*take(words, number, number, bytes_of))
         return 'ok'
 
     def string(self, words):
-        n, address, length = Script.take(words, number, number, Script.buffer)
+        n, address, length = take(words, number, number, buffer_length)
         buffer = bytearray([BLANK]) * length
         k = self.w.string(n, address, buffer)
         return 'refused 35 ' + shown(buffer) if k is None else 'ok %d %s' % (k, shown(buffer))
@@ -194,19 +199,19 @@ class Script:
         if words[:2] == [b'none', b'none']:
             bss, rest = None, words[2:]
         else:
-            bss, rest = tuple(Script.take(words[:2], number, number)), words[2:]
-        value, new = rule(bss, *Script.take(rest, number, number))
+            bss, rest = tuple(take(words[:2], number, number)), words[2:]
+        value, new = rule(bss, *take(rest, number, number))
         return 'ok %d %d %d' % (value, *new)
 
     def name(self, words):
-        return 'ok ' + shown(kstrcpy(*Script.take(words, bytes_of)))
+        return 'ok ' + shown(kstrcpy(*take(words, bytes_of)))
 
     def sum(self, words):
-        Script.take(words)
+        take(words)
         return sums(self.w)
 
     def map(self, words):
-        return table(self.w, *Script.take(words, number))
+        return held(self.w, *take(words, number))
 
     CALLS = {b'frames': frames, b'lend': lend, b'word': word, b'start': start, b'replace': replace, b'push': push,
              b'break': brk, b'fork': fork, b'end': end, b'range': range, b'from': copy_from, b'to': copy_to,

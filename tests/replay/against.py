@@ -16,7 +16,7 @@ import time
 HERE = os.path.dirname(os.path.abspath(__file__))
 ROOT = os.path.dirname(os.path.dirname(HERE))
 sys.path.insert(0, os.path.join(ROOT, 'tests', 'compare'))
-from model import FILE_MAX, LINE_MAX, Script  # noqa: E402
+from script import FILE_MAX, LINE_MAX, Script  # noqa: E402
 
 STACK = 8 << 20
 
