@@ -2,7 +2,7 @@
 """Compares the listings in ../../crates/listing_cases/stdout with what `readelf -hlW` says of the same images.
 
 Every executable of the linker is compared, and every other image that has a listing. Kinds, starts, ends, bss and pages
-come from readelf's LOAD lines by the numbers of the pages touched, not by rules.py. Says 'skipped' where readelf is
+come from readelf's LOAD lines by the numbers of the pages touched, not by the model. Says 'skipped' where readelf is
 missing.
 """
 import os

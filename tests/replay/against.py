@@ -6,9 +6,9 @@
 Standard input is a file, then a pipe that is written in pieces. Scripts that are too long to be kept are made here, and answered
 by ../compare/model.py. All run on a stack of 8 MiB.
 """
+import functools
 import os
 import resource
-import subprocess
 import sys
 import tempfile
 import time
@@ -16,6 +16,7 @@ import time
 HERE = os.path.dirname(os.path.abspath(__file__))
 ROOT = os.path.dirname(os.path.dirname(HERE))
 sys.path.insert(0, os.path.join(ROOT, 'tests', 'compare'))
+import feed  # noqa: E402
 from script import FILE_MAX, LINE_MAX, Script  # noqa: E402
 
 STACK = 8 << 20
@@ -25,25 +26,8 @@ def small_stack():
     resource.setrlimit(resource.RLIMIT_STACK, (STACK, resource.getrlimit(resource.RLIMIT_STACK)[1]))
 
 
-def from_file(command, script):
-    with tempfile.TemporaryFile() as file:
-        file.write(script)
-        file.seek(0)
-        return subprocess.run(command, stdin=file, capture_output=True, cwd=ROOT, preexec_fn=small_stack).stdout
-
-
-def in_pieces(command, script, size, pause=0):
-    """Each piece is written by itself; `pause` lets the program read it before the next one comes."""
-    with tempfile.TemporaryFile() as out:
-        process = subprocess.Popen(command, stdin=subprocess.PIPE, stdout=out, bufsize=0, cwd=ROOT, preexec_fn=small_stack)
-        for at in range(0, len(script), size):
-            process.stdin.write(script[at:at + size])
-            if pause:
-                time.sleep(pause)
-        process.stdin.close()
-        process.wait()
-        out.seek(0)
-        return out.read()
+from_file = functools.partial(feed.from_file, cwd=ROOT, preexec_fn=small_stack)
+in_pieces = functools.partial(feed.in_pieces, cwd=ROOT, preexec_fn=small_stack)
 
 
 def answered(script):
