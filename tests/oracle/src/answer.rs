@@ -1,19 +1,10 @@
-//! What a call answers, and how a piece of the Rust that refuses, ends the process or panics becomes one.
+//! How a piece of the Rust that refuses, ends the process or panics becomes an answer.
+use crate::script::{Answer, Stop};
 use r9::{error, proc};
 use std::panic::{AssertUnwindSafe, catch_unwind};
 
-/// Why a call has no value to answer with.
-pub enum Stop {
-    Refused(u32),
-    Ended(u32),
-    /// A panic of the Rust or the harness: outside what can be compared.
-    Assert(String),
-}
-
-pub type Answer<T> = Result<T, Stop>;
-
 /// An error string's number.
-pub fn number(e: &str) -> u32 {
+pub fn number(e: &str) -> u64 {
     match e {
         error::EBADEXEC => 30,
         error::EBADARG => 32,

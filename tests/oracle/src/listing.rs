@@ -1,15 +1,15 @@
 //! Document 01's listing program, from what elf.rs and exec.rs say of an image.
 use crate::answer::number;
+use crate::script::KINDS;
 use crate::world::{Machine, SEGMENTS};
-use r9::dat::Perm;
 use r9::elf::{self, ElfError};
 use r9::inside::Exec;
-use r9::machine::USTKSIZE;
+use r9::machine::{USTKSIZE, code};
 use r9::mem::PAGE_SIZE_4K;
 use std::fmt::Write;
 
 /// The number of an image's refusal.
-fn elf_number(e: ElfError) -> u32 {
+fn elf_number(e: ElfError) -> u64 {
     use ElfError::*;
     match e {
         Truncated => 11,
@@ -32,14 +32,6 @@ fn elf_number(e: ElfError) -> u32 {
     }
 }
 
-pub fn kind(p: Perm) -> &'static str {
-    match p {
-        Perm::Text => "text",
-        Perm::Rodata => "rodata",
-        Perm::Data => "data",
-    }
-}
-
 pub fn listing(image: &[u8]) -> String {
     match lines(image) {
         Ok(s) => s,
@@ -47,7 +39,7 @@ pub fn listing(image: &[u8]) -> String {
     }
 }
 
-fn lines(image: &[u8]) -> Result<String, u32> {
+fn lines(image: &[u8]) -> Result<String, u64> {
     // The harness's own: the longest image the program reads.
     if image.len() > 32_768 {
         return Err(1);
@@ -62,7 +54,7 @@ fn lines(image: &[u8]) -> Result<String, u32> {
     let mut s = format!("entry={}\n", e.entry());
     let mut pages = USTKSIZE / PAGE_SIZE_4K;
     for g in &segments {
-        writeln!(s, "segment={} {} {}", kind(g.perm), g.range.start, g.range.end).unwrap();
+        writeln!(s, "segment={} {} {}", KINDS[code(g.perm) as usize], g.range.start, g.range.end).unwrap();
         pages += g.range.size() / PAGE_SIZE_4K;
     }
     pages += (bss.end - bss.start.next_multiple_of(PAGE_SIZE_4K)) / PAGE_SIZE_4K;

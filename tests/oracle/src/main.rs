@@ -29,7 +29,7 @@ fn main() {
     let args: Vec<&str> = args.iter().map(String::as_str).collect();
     match args[..] {
         [] => {
-            let mut w = world::World::new(0, 0);
+            let mut w = <world::World as script::Calls>::new(0, 0);
             for line in input.split(|&b| b == b'\n') {
                 if let Some(answer) = script::answer(&mut w, line) {
                     writeln!(out, "{answer}").unwrap();

@@ -1,5 +1,6 @@
 //! Names: the Rust's are strings, document 01's any bytes.
-use crate::answer::{Answer, rust};
+use crate::answer::rust;
+use crate::script::Answer;
 use crate::world::{Machine, World};
 use r9::dat::KNAMELEN;
 use r9::inside::{self, Exec};

@@ -1,19 +1,15 @@
 //! The harness's own: numbers 1 to 5. The Rust has neither a lent book nor process numbers.
-use crate::answer::{Answer, Stop};
-use crate::world::{NONE, PAGE, Record, World};
+use crate::script::{Answer, Calls, Record, Stop, within};
+use crate::world::{PAGE, World};
 use r9::machine::{LIMIT, STACK, USTKTOP, UTZERO};
+use r9::mem::PAGE_SIZE_4K;
 use r9::procs::PROCS;
 use std::collections::BTreeMap;
-
-/// Number 3.
-pub fn within(n: u64) -> Answer<usize> {
-    if (1..=PROCS as u64).contains(&n) { Ok(n as usize) } else { Err(Stop::Refused(3)) }
-}
 
 impl World {
     /// Numbers 1 and 2.
     pub fn enter(&self) -> Answer<()> {
-        if self.bytes != PAGE * self.words || !(1..=1_024).contains(&self.words) {
+        if self.bytes != PAGE_SIZE_4K * self.words || !(1..=1_024).contains(&self.words) {
             return Err(Stop::Refused(1));
         }
         if !self.sound() {
@@ -25,7 +21,7 @@ impl World {
     /// Whether the lent book is sound, by document 01's item 2.
     fn sound(&self) -> bool {
         let mut pages: [BTreeMap<u64, u64>; PROCS + 1] = [const { BTreeMap::new() }; PROCS + 1];
-        for &w in &self.book[..self.words as usize] {
+        for &w in &self.book[..self.words] {
             if w == 0 {
                 continue;
             }
@@ -40,7 +36,7 @@ impl World {
         }
         (1..=PROCS).all(|n| {
             let r = self.record(n);
-            if r == NONE { pages[n].is_empty() } else { shape(&r) && pages[n] == record_pages(&r) }
+            if r == Record::default() { pages[n].is_empty() } else { shape(&r) && pages[n] == record_pages(&r) }
         })
     }
 
@@ -77,11 +73,11 @@ fn shape(r: &Record) -> bool {
 }
 
 /// A record's pages, each with its permission.
-pub fn record_pages(r: &Record) -> BTreeMap<u64, u64> {
+fn record_pages(r: &Record) -> BTreeMap<u64, u64> {
     let bss = [r.bss[0].next_multiple_of(PAGE), r.bss[1], 3];
     let mut pages = BTreeMap::new();
     for s in r.segments.iter().chain([&bss]) {
-        pages.extend((s[0]..s[1]).step_by(PAGE as usize).map(|va| (va, s[2])));
+        pages.extend((s[0]..s[1]).step_by(PAGE_SIZE_4K).map(|va| (va, s[2])));
     }
     pages
 }

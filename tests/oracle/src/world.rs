@@ -3,9 +3,8 @@
 //! The book is what holds between calls. Before a call the address spaces and the page allocator are made from it, then the Rust
 //! runs, and after it the book is written again from the address spaces. The records are the Rust's own processes: segments, bss
 //! and text.
-use crate::answer::{Answer, Stop};
-use r9::dat::KNAMELEN;
-use r9::machine::{Host, Space, code};
+use crate::script::{Answer, Stop};
+use r9::machine::{Host, Space};
 use r9::mem::{PAGE_SIZE_4K, PhysRange};
 use r9::pagealloc;
 use r9::procs::{Procs, free_frames};
@@ -41,56 +40,18 @@ impl Space for Pages {
 /// The machine that the Rust runs on here.
 pub type Machine = Host<Pages>;
 
-/// A process's record.
-#[derive(Clone, Copy, PartialEq)]
-pub struct Record {
-    pub segments: [[u64; 3]; SEGMENTS],
-    pub name: [u8; KNAMELEN],
-    pub bss: [u64; 2],
-}
-
-pub const NONE: Record = Record { segments: [[0; 3]; SEGMENTS], name: [0; KNAMELEN], bss: [0; 2] };
-
 pub struct World {
     /// All frames' bytes, and how many of them and of the book's words are lent.
     pub frames: Vec<u8>,
-    pub bytes: u64,
-    pub words: u64,
+    pub bytes: usize,
+    pub words: usize,
     pub book: Vec<u64>,
     pub procs: Procs<Pages>,
     /// Whether frame bytes stay as the Rust leaves them after a failure.
-    as_left: bool,
+    pub as_left: bool,
 }
 
 impl World {
-    pub fn new(count: usize, fill: u8) -> Self {
-        let mut frames = vec![fill; count * PAGE_SIZE_4K];
-        let words = count as u64;
-        let procs = Procs::new(frames.as_mut_ptr());
-        let as_left = std::env::var_os("ORACLE_AS_LEFT").is_some();
-        World { frames, bytes: PAGE * words, words, book: vec![0; count], procs, as_left }
-    }
-
-    /// Lend only so much; None if there isn't as much.
-    pub fn lend(&mut self, bytes: u64, words: u64) -> Option<()> {
-        if bytes > self.frames.len() as u64 || words > self.book.len() as u64 {
-            return None;
-        }
-        (self.bytes, self.words) = (bytes, words);
-        Some(())
-    }
-
-    pub fn record(&self, n: usize) -> Record {
-        let Some(p) = self.procs.record(n) else { return NONE };
-        let mut r = NONE;
-        for (to, s) in r.segments.iter_mut().zip(p.segments) {
-            *to = [s.range.start as u64, s.range.end as u64, code(s.perm)];
-        }
-        r.name = *p.name;
-        r.bss = p.bss.map_or([0; 2], |b| [b.start as u64, b.end as u64]);
-        r
-    }
-
     /// The address spaces and the page allocator, from the book.
     fn load(&mut self) {
         for n in 1..=r9::procs::PROCS {
@@ -99,17 +60,17 @@ impl World {
             }
         }
         let mut used = Vec::new();
-        for (i, &w) in self.book[..self.words as usize].iter().enumerate().filter(|(_, w)| **w != 0) {
+        for (i, &w) in self.book[..self.words].iter().enumerate().filter(|(_, w)| **w != 0) {
             let pa = i as u64 * PAGE;
             self.procs.space_mut((w % PAGE / 16) as usize).set((w / PAGE * PAGE) as usize, pa + w % 16);
             used.push(PhysRange::with_len(pa, PAGE_SIZE_4K));
         }
-        free_frames(self.words, used.into_iter());
+        free_frames(self.words as u64, used.into_iter());
     }
 
     /// The book, from the address spaces; every frame in use must be in it.
     fn store(&mut self) -> Answer<()> {
-        let words = self.words as usize;
+        let words = self.words;
         self.book[..words].copy_from_slice(&self.procs.book(words));
         if self.procs.spaces().any(|(n, _)| self.procs.record(n).unwrap().segments.len() > SEGMENTS) {
             return Err(Stop::Assert("oracle: too many segments".into()));
