@@ -30,7 +30,7 @@ def main(argv):
             print('directed: %s is not what directed.py writes' % os.path.relpath(path), file=sys.stderr)
             other += 1
     if not other:
-        print('directed: %d scripts' % len(SCRIPTS))
+        print('directed: %d scripts%s' % (len(SCRIPTS), ', as directed.py writes them' if argv == ['--check'] else ' written'))
     return min(other, 1)
 
 

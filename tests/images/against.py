@@ -8,14 +8,14 @@ Standard input is a file, then a pipe that is written in pieces. Inputs longer t
 import pathlib
 import sys
 
-from readelf_check import cases
+from readelf_check import read_cases
 
 sys.path.insert(0, str(pathlib.Path(__file__).resolve().parents[1] / 'compare'))
 from feed import from_file, in_pieces  # noqa: E402
 
 
 def main(command):
-    found = cases()
+    found = read_cases()
     example = found[0]
     long = [(f'1-length-{n}', example[1] + bytes(n - 184), ['refused=1']) for n in (65536, 65720, 131256, 3000000)]
     bad = runs = 0

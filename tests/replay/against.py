@@ -60,16 +60,19 @@ def made(folder):
     empty = file('empty', b'')
     full = b"to 1 69632 '" + b'x' * (LINE_MAX - 12)
     yield 'lines', b'\n'.join([
-        b'frames 40', b"start 1 'x " + elf, full[:LINE_MAX - 60000], full, full + b'x', b'#' * 200000, b'x' * 200000, b' ' * LINE_MAX,
-        b"start 2 'x " + elf + b' -' * 453, b"start 3 'x " + elf + b' -' * 454, b"start 3 'x " + elf + b' -' * 20000,
-        b'fork 1 3' + b' 1 2 3' * 9000, b'fork 1 3' + b' 1 2 3' * 17, b'sum', b'map 1', b'map 2', b'map 3', b'map 17'])
+        b'frames 40', b"start 1 'x " + elf, full[:LINE_MAX - 60000], full, full + b'x', b'#' * 200000, b'x' * 200000,
+        b' ' * LINE_MAX, b"start 2 'x " + elf + b' -' * 453, b"start 3 'x " + elf + b' -' * 454,
+        b"start 3 'x " + elf + b' -' * 20000, b'fork 1 3' + b' 1 2 3' * 9000, b'fork 1 3' + b' 1 2 3' * 17, b'sum',
+        b'map 1', b'map 2', b'map 3', b'map 17'])
+    top, low = b'140737488355328', b'140737488338944'
     yield 'files', b'\n'.join([
-        b'frames 600', b'start 1 ' + name + b' ' + most + b' ' + empty, b'map 1', b'start 2 ' + most + b' ' + elf, b'map 2', b'sum',
-        b"start 3 'x " + over, b'start 3 ' + over + b' ' + elf, b"start 3 'x " + elf + b' ' + over, b"start 3 'x " + elf + b' ' + nul,
-        b"start 3 'x " + elf + b' ' + letters, b"start 3 'x " + elf + b' ' + letters + b' ' + nul, b"start 3 'x " + elf + b' ' + most * 1,
-        b'push 1 0 140737488355328 ' + letters, b'push 1 0 140737488355328 ' + nul, b'push 1 0 140737488355328 ' + empty,
+        b'frames 600', b'start 1 ' + name + b' ' + most + b' ' + empty, b'map 1', b'start 2 ' + most + b' ' + elf, b'map 2',
+        b'sum', b"start 3 'x " + over, b'start 3 ' + over + b' ' + elf, b"start 3 'x " + elf + b' ' + over,
+        b"start 3 'x " + elf + b' ' + nul, b"start 3 'x " + elf + b' ' + letters,
+        b"start 3 'x " + elf + b' ' + letters + b' ' + nul, b"start 3 'x " + elf + b' ' + most,
+        b'push 1 0 ' + top + b' ' + letters, b'push 1 0 ' + top + b' ' + nul, b'push 1 0 ' + top + b' ' + empty,
         b'to 1 69632 @' + folder.encode(), b'to 1 69632 ' + empty, b'to 1 69632 @', b'to 1 69632 @' + b'x' * 5000,
-        b'to 1 140737488338944 ' + elf, b'to 1 69632 ' + over, b'from 1 140737488338944 184', b'name ' + name, b'name ' + most,
+        b'to 1 ' + low + b' ' + elf, b'to 1 69632 ' + over, b'from 1 ' + low + b' 184', b'name ' + name, b'name ' + most,
         b'replace 1 ' + name + b' ' + elf + b' 140737488355304', b'to 1 69632 ' + most, b'sum'])
     yield 'tails', b'frames 1\n\n\n#\nsum\nend 1\r\nsum\0\nname \'\xff\xfe\nmap 1'
     yield 'nothing', b''
@@ -96,7 +99,8 @@ def main(command):
         scripts = list(recorded())
         for name, script, wanted in scripts + [(name, script, answered(script)) for name, script in made(folder)]:
             ways = [('a file', from_file(command, script)), ('pieces of 65536', in_pieces(command, script, 65536)),
-                    ('pieces of 4095', in_pieces(command, script, 4095)), ('no last line feed', from_file(command, script.rstrip(b'\n')))]
+                    ('pieces of 4095', in_pieces(command, script, 4095)),
+                    ('no last line feed', from_file(command, script.rstrip(b'\n')))]
             if len(script) < 4500:
                 ways.append(('pieces of 7', in_pieces(command, script, 7, 0.0002)))
             for way, out in ways:
@@ -104,15 +108,16 @@ def main(command):
                 if out != wanted:
                     a, b = out.split(b'\n'), wanted.split(b'\n')
                     at = next(i for i in range(max(len(a), len(b)) + 1) if a[i:i + 1] != b[i:i + 1])
-                    print(f'against.py: {name} from {way}: answer {at + 1} is {a[at:at + 1]!r:.200}, not {b[at:at + 1]!r:.200}', file=sys.stderr)
+                    print(f'against.py: {name} from {way}: answer {at + 1} is {a[at:at + 1]!r:.200}, not {b[at:at + 1]!r:.200}',
+                          file=sys.stderr)
                     bad += 1
     took = short(command)
     if took > 1:
         print(f'against.py: a thousand short calls took {took:.2f} s', file=sys.stderr)
         bad += 1
     if not bad:
-        print(f'replay: {os.path.relpath(command[0], ROOT)}: {runs} runs of {len(scripts)} recorded scripts and others, all as answered;'
-              f' a thousand short calls in {1000 * took:.0f} ms')
+        print(f'replay: {os.path.relpath(command[0], ROOT)}: {runs} runs of {len(scripts)} recorded scripts and others, '
+              f'all as answered; a thousand short calls in {1000 * took:.0f} ms')
     return min(bad, 1)
 
 

@@ -52,10 +52,9 @@ pub trait Calls: Sized {
 
 /// Number 3.
 pub fn within(n: u64) -> Answer<usize> {
-    if (1..=16).contains(&n) {
-        Ok(n as usize)
-    } else {
-        Err(Stop::Refused(3))
+    match n {
+        1..=16 => Ok(n as usize),
+        _ => Err(Stop::Refused(3)),
     }
 }
 
