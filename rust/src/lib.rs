@@ -2,8 +2,8 @@
 //! each does, in which order it refuses, and what it changes).
 //!
 //! [`Lent`] is what every call is lent: frames, a book with a word for each, and the records of processes 1 to 16. The library keeps
-//! nothing between calls and allocates nothing. A call that is refused gives [`Refusal`]: either nothing changed, or the process has
-//! ended.
+//! nothing between calls and allocates nothing; the header's head says what it needs of the machine, its stack among it. A call that is
+//! refused gives [`Refusal`]: either nothing changed, or the process has ended.
 
 #![cfg_attr(not(test), no_std)]
 
