@@ -58,7 +58,7 @@ pub fn within(n: u64) -> Answer<usize> {
     }
 }
 
-/// A list of segments must be the record's, which goes up to its first unused place.
+/// Whether a lent list is the record's segments, which go up to its first unused place.
 pub fn same_list(list: &[[u64; 3]], r: &Record) -> bool {
     let used = r.segments.iter().take_while(|s| **s != [0; 3]).count();
     list == &r.segments[..used]
@@ -66,7 +66,7 @@ pub fn same_list(list: &[[u64; 3]], r: &Record) -> bool {
 
 /// What kinds of segments are called, by their permissions.
 pub const KINDS: [&str; 4] = ["", "text", "rodata", "data"];
-const PAGE: usize = 4_096;
+const PAGE: u64 = 4_096;
 /// The most frames there are: one more than a book may have.
 const FRAMES: u64 = 1_025;
 /// The longest line, and the longest buffer of `from` and `string`.
@@ -222,8 +222,8 @@ fn map(w: &mut impl Calls, n: u64) -> String {
     for [start, end, perm] in r.segments.iter().filter(|s| **s != [0; 3]).chain([&bss]) {
         let kind = if *perm == 0 { "bss" } else { KINDS[*perm as usize] };
         write!(s, "\n  {kind} {start} {end} size {}", end - start).unwrap();
-        for va in (start.next_multiple_of(PAGE as u64)..*end).step_by(PAGE) {
-            let frame = w.book().iter().position(|w| w / 4_096 * 4_096 == va && w % 4_096 / 16 == n);
+        for va in (start.next_multiple_of(PAGE)..*end).step_by(PAGE as usize) {
+            let frame = w.book().iter().position(|word| word / PAGE * PAGE == va && word % PAGE / 16 == n);
             write!(s, "\n    page {va} frame {}", frame.map_or("none".into(), |f| f.to_string())).unwrap();
             pages += 1;
         }
