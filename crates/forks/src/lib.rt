@@ -61,16 +61,7 @@ fn fork_number(
     ensures { λ r. ⌜ r ≡ forkNumber (stateOf (now (frames .entry)) (now (book .entry)) procs) number child alike ⌝ }
     ensures { λ r. ⌜ (r ≡ 0 → Ready (now (book .entry)) (now (tags .exit)) (now (bases .exit)) (now (table .exit))) ⌝ }
 {
-    let e = front::numbers::fork_ready(
-        frames,
-        book,
-        procs,
-        number,
-        child,
-        tags,
-        bases,
-        table,
-    );
+    let e = front::numbers::fork_ready(frames, book, procs, number, child, tags, bases, table);
     if !alike & (e != spec::SIZES) & front::record::is_number(number) {
         return spec::TORN;
     }
