@@ -31,23 +31,15 @@ use Rattle.laws.proofs.Shape.{Image, shape-image}
 use Rattle.laws.proofs.Pieces.{shape-pieces}
 use Rattle.history.proofs.Stored.{own-pieces}
 use Rattle.pagealloc.specs.Lent.{Mapped}
+use Rattle.fork.specs.Lent.{Copyable}
 
--- ---- pieces that can be copied
-
-pub record Copyable (book : List ℕ) (n : ℕ) (g : UserSegment) : Type 0 where
-  pub start : g .range .start % 4096 ≡ 0
-  pub end : g .range .end % 4096 ≡ 0
-  pub high : g .range .end < 2 ^ 63
-  pub perm : g .perm < 16
-  pub mapped : Mapped book n (g .range .start) (g .range .end)
+-- ---- copies so far
 
 -- pages that a process has stay mapped while it sees the same
 pub mapped-still : (m t : Store) (n low high : ℕ) → memOf t n ≡ memOf m n → Mapped (m .book) n low high → Mapped (t .book) n low high
 mapped-still m t n low high e h page z l u =
     let k = h page z l u in
     frame-perm (t .book) n page _ (perm-same t m n e page z ∙ ap (permIn (m .book)) (k .1))
-
--- ---- copies so far
 
 -- what has been placed for the child: copies of the pages of gs, while the parent sees what it saw
 pub record Copied (m₀ m : Store) (parent child : ℕ) (gs : List UserSegment) : Type 0 where

@@ -157,22 +157,3 @@ pub fn fork_ready(
     }
     0
 }
-
-// The same for a call that looks no page up.
-pub fn fork_error(frames: &[u8], book: &[u64], procs: Procs, number: u64, child: u64) -> u64
-    ensures { λ r. ⌜ r ≡ forkError (stateOf (now (frames .entry)) (now (book .entry)) procs) number child ⌝ }
-{
-    let mut tags = [0u64; 272];
-    let mut bases = [0u64; 273];
-    let mut table = [0u16; 1024];
-    fork_ready(
-        frames,
-        book,
-        procs,
-        number,
-        child,
-        &mut tags,
-        &mut bases,
-        &mut table,
-    )
-}

@@ -26,8 +26,8 @@ use Rattle.front.specs.Numbers.{stateOf}
 use Rattle.front.proofs.First.{Forks, fork-none, fork-other, sizes-words}
 use Rattle.front.proofs.Living.{passed-sound, living-shape}
 use Rattle.front.proofs.Own.{take-more, pages-own}
-use Rattle.fork.proofs.Forked.{Copyable, mapped-still, Copied, copied-none, copied-more, each-at, copyable-segments, copyable-bss}
-use Rattle.fork.specs.Lent.{Tells}
+use Rattle.fork.proofs.Forked.{mapped-still, Copied, copied-none, copied-more, each-at, copyable-segments, copyable-bss}
+use Rattle.fork.specs.Lent.{Copyable, Tells}
 use Rattle.fork.proofs.Told.{tells-first}
 use Rattle.fork.proofs.copy_segments.Statement.{statement}
 use Rattle.fork.proofs.copy_segments.Tie as tie
