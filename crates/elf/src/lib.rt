@@ -7,7 +7,7 @@ ghost use Prim.Native.Nat.{_+_, _*_, _≤_};
 ghost use lib.ListN.{length};
 ghost use Rattle.spec.specs.Elf.{phdrAt};
 ghost use Rattle.header.specs.Header.{verdictNumber, phdrOf};
-ghost use Rattle.elf.specs.Reader.{left, scanError, imageError, Steps, said, parsed, loadOf};
+ghost use Rattle.elf.specs.Reader.{left, scanError, imageError, Steps, said, parsed, loadOf, loadIn};
 pub use field::error_number;
 use header::Ehdr;
 pub use header::PHDR_SIZE;
@@ -136,9 +136,8 @@ pub fn parse(image: &[u8]) -> Parsed
     }
 }
 
-// The segment that the program header at a place of an image describes, unless it is skipped: what r9's `Elf::segments` yields.
-// Its fields are checked only where `parse` accepted the image.
-pub fn segment_at(image: &[u8], at: usize) -> Load
+// The segment that the program header at a place of an image describes, unless it is skipped.
+fn segment_at(image: &[u8], at: usize) -> Load
     requires { ⌜ at + 56 ≤ length (now image) ⌝ }
     ensures { λ r. ⌜ r ≡ loadOf (phdrAt (now (image .entry)) at) ⌝ }
 {
@@ -154,4 +153,15 @@ pub fn segment_at(image: &[u8], at: usize) -> Load
         filesz: p.filesz as usize,
         perm,
     })
+}
+
+// The segment that header `i` of a table of program headers describes, unless it is skipped: what r9's `Elf::segments` yields. A header
+// that isn't in the table describes none. The fields are checked only where `parse` accepted the image.
+pub fn segment_in(table: &[u8], i: usize) -> Load
+    ensures { λ r. ⌜ r ≡ loadIn (now (table .entry)) i ⌝ }
+{
+    if i >= table.len() / PHDR_SIZE {
+        return Load::Skip;
+    }
+    segment_at(table, PHDR_SIZE * i)
 }

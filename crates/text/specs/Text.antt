@@ -4,9 +4,9 @@ use mathlib.Core.Path.{_≡_}
 use mathlib.Core.List.{List, [], _∷_, _++_}
 use Prim.Native.Nat.{ℕ, _+_, _≤_}
 use lib.ListN.{length, take}
-use Rattle.spec.specs.Tests.{ascii}
+use Rattle.spec.specs.Tests.{ascii, _below_, _⇒_else_}
 use Rattle.spec.specs.Frames.{put}
-use Rattle.spec.specs.Listing.{decimal, rangeText, kindText, segmentLines}
+use Rattle.spec.specs.Listing.{decimal, rangeText, kindText, segmentLines, listing}
 use Rattle.spec.specs.declared.VirtRange.{VirtRange}
 use Rattle.spec.specs.declared.UserSegment.{UserSegment}
 use Rattle.exec.specs.declared.Plan.{Plan}
@@ -39,3 +39,7 @@ fieldText name n = name ++ numberText n ++ (10 ∷ [])
 abbrev pub planText : Plan → List ℕ
 planText p =
     fieldText (ascii "entry=") (p .entry) ++ linesText (take (p .count) (p .segments)) ++ ascii "bss=" ++ spanText (p .bss) ++ fieldText (ascii "pages=") (p .pages)
+
+-- what is put of an image's listing into a buffer of n bytes: all of it, or nothing where the longest would not fit
+abbrev pub listingIn : ℕ → List ℕ → List ℕ
+listingIn n image = n below 1024 ⇒ [] else listing image

@@ -4,10 +4,13 @@ ghost use Prim.Native.Nat.{_+_, _*_, _≤_};
 ghost use mathlib.Core.Path.{_≡_};
 ghost use lib.ListN.{length, take};
 ghost use Rattle.spec.specs.Listing.{kindText, listing};
-ghost use Rattle.text.specs.Text.{Puts, numberText, spanText, linesText, lineText, fieldText, planText};
+ghost use Rattle.text.specs.Text.{Puts, numberText, spanText, linesText, lineText, fieldText, planText, listingIn};
 use exec::Plan;
 use spec::UserSegment;
 use spec::VirtRange;
+
+// Room for the longest listing: fifteen segments, with numbers of twenty digits.
+const LISTING_MAX: usize = 1024;
 
 // Puts bytes.
 pub fn put(out: &mut [u8], at: usize, s: &[u8]) -> usize
@@ -123,10 +126,9 @@ fn put_plan(out: &mut [u8], p: Plan) -> usize
 
 // Puts the whole listing of an image, as the listing program prints it: a refusal's number, or its entry point, segments, bss and pages.
 // Images of over 32,768 bytes aren't listed.
-pub fn list_into(image: &[u8], out: &mut [u8]) -> usize
+fn put_listing(image: &[u8], out: &mut [u8]) -> usize
     requires { ⌜ 1024 ≤ length (now out) ⌝ }
     ensures { λ r. ⌜ Puts (now (out .entry)) 0 (listing (now (image .entry))) (now (out .exit)) r ⌝ }
-    ensures { λ r. ⌜ (r ≤ length (now (out .exit))) × (r ≡ length (take r (now (out .exit)))) ⌝ }
 {
     if image.len() > 32768 {
         return put_field(out, 0, b"refused=", spec::SIZES);
@@ -139,4 +141,15 @@ pub fn list_into(image: &[u8], out: &mut [u8]) -> usize
         return put_field(out, 0, b"refused=", p.number);
     }
     put_plan(out, p)
+}
+
+// Puts the whole listing of an image, and answers its length. A buffer without room for the longest is left as it is, and the answer is 0.
+pub fn list_into(image: &[u8], out: &mut [u8]) -> usize
+    ensures { λ r. ⌜ Puts (now (out .entry)) 0 (listingIn (length (now (out .entry))) (now (image .entry))) (now (out .exit)) r ⌝ }
+    ensures { λ r. ⌜ (r ≤ length (now (out .exit))) × (r ≡ length (take r (now (out .exit)))) ⌝ }
+{
+    if out.len() < LISTING_MAX {
+        return 0;
+    }
+    put_listing(image, out)
 }
