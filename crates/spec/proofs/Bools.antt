@@ -1,8 +1,8 @@
 -- Laws of tests: how a test that passed, or did not, is taken apart.
-use Prim.Native.Nat.{ℕ, zero, suc, _+_, _-_, _≤_, _<_}
+use Prim.Native.Nat.{ℕ, zero, suc, _≤_, _<_}
 use native.Mathlib.Omega.{arith}
 use native.Mathlib.Nat.{not-suc-le-zero}
-use mathlib.Core.Path.{_≡_, refl, sym, ap, _∙_}
+use mathlib.Core.Path.{_≡_, refl, sym, _∙_}
 use mathlib.Core.Bool.{Bool, true, false, not, _&&_, _||_}
 use mathlib.Core.List.{List, [], _∷_, _++_}
 use lib.Dec.{eqb, ltb}
@@ -31,13 +31,13 @@ pub neither : (a b : Bool) → (a || b) ≡ false → (a ≡ false) × (b ≡ fa
 neither true b e = clash true refl e
 neither false b e = (refl, e)
 
-pub or-not : (a b : Bool) → (a || b) ≡ true → not a ≡ true → b ≡ true
-or-not true b e n = clash false n refl
-or-not false b e n = e
-
 pub or-fact : (a b : Bool) → (a || b) ≡ true → a ≡ false → b ≡ true
 or-fact true b e h = clash true refl h
 or-fact false b e h = e
+
+pub or-first : (a b : Bool) → (a || b) ≡ true → b ≡ false → a ≡ true
+or-first true b e h = refl
+or-first false b e h = clash b e h
 
 pub or-test : (a b : Bool) → (a ≡ false → b ≡ true) → (a || b) ≡ true
 or-test true b f = refl
@@ -78,6 +78,9 @@ within-means low high a e =
 
 pub within-test : (low high a : ℕ) → low ≤ a → a < high → within low high a ≡ true
 within-test low high a l h = rw (le-ltb a low l, lt-ltb a high h)
+
+pub within-not : (low high a : ℕ) → (low ≤ a → a < high → ⊥) → within low high a ≡ false
+within-not low high a out = split (within low high a) (λ q. let r = within-means low high a q in absurd (out (r .0) (r .1))) (λ q. q)
 
 -- every number below a count, and every element of a list
 pub below-at : (c : ℕ) (t : ℕ → Bool) → allBelow c t ≡ true → (i : ℕ) → i < c → t i ≡ true
