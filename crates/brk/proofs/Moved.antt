@@ -16,9 +16,8 @@ use Rattle.spec.specs.World.{State, brk}
 use Rattle.spec.specs.declared.VirtRange.{VirtRange}
 use Rattle.spec.specs.declared.Answer.{Answer}
 use Rattle.spec.specs.declared.Answer.the-variants.{Value, Refused}
-use Rattle.spec.proofs.Bools.{split, within-means}
+use Rattle.spec.proofs.Bools.{split, within-means, within-not}
 use Rattle.spec.proofs.Chain.{isnt-holds, isnt-fails}
-use Rattle.laws.proofs.Frame.{within-not}
 
 -- ---- pages
 

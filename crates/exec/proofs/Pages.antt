@@ -9,7 +9,7 @@ use lib.ListN.{length, take, getD}
 use lib.Seq.{take-suc}
 use Rattle.spec.specs.Book.{pageCount}
 use Rattle.spec.specs.declared.UserSegment.{UserSegment}
-use Rattle.laws.proofs.Apart.{count-append}
+use Rattle.laws.proofs.Pieces.{count-append}
 
 pub count-next : (us : List UserSegment) (d : UserSegment) (i : ℕ) → i < length us
     → pageCount (take (i + 1) us) ≡ pageCount (take i us) + (getD us i d .range .end - getD us i d .range .start) / 4096

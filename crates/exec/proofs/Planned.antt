@@ -15,8 +15,9 @@ use Rattle.spec.specs.Elf.{entry, elfError, Segment, segmentsOf}
 use Rattle.spec.specs.Exec.{layoutOk, bssOf, imageSegments, imageBss, imageError, startPieces}
 use Rattle.spec.specs.declared.VirtRange.{VirtRange}
 use Rattle.spec.specs.declared.UserSegment.{UserSegment}
-use Rattle.laws.proofs.Apart.{count-append}
-use Rattle.laws.proofs.Accepted.{accepted-means, AllLoad, elf-loads, recorded-all}
+use Rattle.laws.proofs.Accepted.{accepted-means, recorded-all}
+use Rattle.laws.proofs.Pieces.{count-append}
+use Rattle.laws.proofs.Headers.{AllLoad, elf-loads}
 use Rattle.spec.proofs.Bools.{split}
 use Rattle.exec.specs.Plan.{recorded, refusedPlan, planOf}
 use Rattle.exec.specs.declared.Plan.{Plan}

@@ -11,9 +11,10 @@ use Rattle.spec.specs.Sound.{Shape}
 use Rattle.spec.specs.Frames.{Page, pagesOf}
 use Rattle.spec.specs.declared.UserSegment.{UserSegment}
 use Rattle.spec.specs.declared.Proc.{Proc}
-use Rattle.laws.proofs.Apart.{count-append}
-use Rattle.laws.proofs.Pages.{length-pages, pages-append}
+use Rattle.spec.proofs.Free.{length-pages}
+use Rattle.laws.proofs.Pages.{pages-append}
 use Rattle.laws.proofs.Shape.{shape-used}
+use Rattle.laws.proofs.Pieces.{count-append}
 
 -- ---- place by place
 

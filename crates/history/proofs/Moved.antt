@@ -7,7 +7,7 @@ use mathlib.Core.Option.{Option, none, some}
 use mathlib.Core.List.{List, [], _∷_}
 use lib.ListN.{getD}
 use borrow.Author.Tests.{eq-eqb, ne-eqb, lt-ltb, le-ltb}
-use Rattle.spec.proofs.Bools.{split, clash, within-means, within-test}
+use Rattle.spec.proofs.Bools.{split, clash, within-means, within-test, within-not}
 use Rattle.spec.specs.Tests.{_is_, _below_, within, _⇒_else_}
 use Rattle.spec.specs.Numbers.{utzero, limit, pageDown, pageUp, zeroPage}
 use Rattle.spec.specs.Book.{ownerOf, pageOf, valid, free, range, segment, used, stack, bssSegment, permAt, pageCount, procAt}
@@ -20,13 +20,12 @@ use Rattle.spec.specs.History.{permIn}
 use Rattle.spec.specs.declared.UserSegment.{UserSegment}
 use Rattle.spec.specs.declared.Proc.{Proc}
 use Rattle.laws.proofs.Lists.{by-order}
-use Rattle.laws.proofs.Frame.{within-not}
 use Rattle.laws.proofs.Shape.{shape-made, shape-image, shape-bss, shape-used}
-use Rattle.laws.proofs.Pieces.{outside-low, perm-past, perm-there, perm-tail, image-high}
-use Rattle.laws.proofs.Apart.{within-page}
+use Rattle.laws.proofs.Pieces.{outside-low, perm-past, perm-there, tail-same, within-page}
 use Rattle.laws.proofs.Pages.{cellOr}
 use Rattle.laws.proofs.Contents.{length-zero, zero-byte}
 use Rattle.laws.proofs.Count.{free-release}
+use Rattle.laws.proofs.OwnPieces.{image-high}
 use Rattle.history.proofs.Passed.{Good}
 use Rattle.history.proofs.Accepted.{Moves}
 use Rattle.history.proofs.OneState.{known, living-shape, pages}
@@ -74,7 +73,7 @@ moved-exact p image h top l u mem e a =
     let r = within-means top end a t in
     rw (q, t) (sym (perm-past (used (p .segments)) (bssSegment (range start top) ∷ []) a (above-segments p image h a (omega (arith, r .0)) (omega (arith, r .1, h .bss-end .1)))
     ∙ rw (within-not (pageUp start) top a (λ x y. omega (arith, r .0))))))
-    (λ t. rw (q, t) (e a ∙ perm-tail (used (p .segments)) (bssSegment (p .bss) ∷ []) (bssSegment (range start top) ∷ []) a (ap (λ (b : Bool). not (a below pageUp start) && b ⇒ some 3 else none) (same-below end top a q t)))))
+    (λ t. rw (q, t) (e a ∙ tail-same (used (p .segments)) (bssSegment (p .bss) ∷ []) (bssSegment (range start top) ∷ []) a (ap (λ (b : Bool). not (a below pageUp start) && b ⇒ some 3 else none) (same-below end top a q t)))))
   where
     start : ℕ
     start = p .bss .start

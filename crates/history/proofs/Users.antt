@@ -8,7 +8,7 @@ use mathlib.Core.Option.{none, some}
 use mathlib.Core.List.{List, [], _∷_}
 use lib.ListN.{length}
 use borrow.Author.Tests.{eq-eqb, ne-eqb, ltb-false}
-use Rattle.spec.proofs.Bools.{clash, neither, not-true, not-above, not-false, within-test}
+use Rattle.spec.proofs.Bools.{clash, neither, not-true, not-above, not-false, within-test, within-not}
 use Rattle.spec.specs.Tests.{_is_, _isnt_, _above_, within, _⇒_else_, any, has, same, sum}
 use Rattle.spec.specs.Numbers.{argLimit, ustktop, pageUp}
 use Rattle.spec.specs.Book.{valid, free, sameSegment, permAt, pageCount}
@@ -22,7 +22,6 @@ use Rattle.spec.specs.declared.UserSegment.{UserSegment}
 use Rattle.spec.specs.declared.Answer.{Answer}
 use Rattle.spec.specs.declared.Answer.the-variants.{Regs, Done, Refused}
 use Rattle.laws.proofs.Lists.{Each}
-use Rattle.laws.proofs.Frame.{within-not}
 use Rattle.history.proofs.Passed.{Good, answered, accepted≢, weighs}
 use Rattle.history.proofs.Whole.{effect}
 use Rattle.history.proofs.OneState.{reads, numbers}

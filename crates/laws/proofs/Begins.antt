@@ -17,7 +17,7 @@ use Rattle.spec.specs.History.{Begin}
 use Rattle.spec.specs.declared.Proc.{Proc}
 use Rattle.spec.specs.declared.Procs.{Procs}
 use Rattle.laws.proofs.Record.{typed-whole}
-use Rattle.laws.proofs.Pieces.{zero-pieces}
+use Rattle.laws.proofs.OwnPieces.{zero-pieces}
 use Rattle.laws.proofs.Facts.{facts-sound}
 
 -- n free frames with any bytes, and no process

@@ -13,10 +13,10 @@ use Rattle.spec.specs.Tests.{_is_, _isnt_, within, _⇒_else_}
 use Rattle.spec.specs.Book.{pageOf, ownerOf, permOf, owns, frameOf, permIn, bookPerm, free, inSegment, permAt, pageCount}
 use Rattle.spec.specs.Frames.{Store, release}
 use Rattle.spec.specs.declared.UserSegment.{UserSegment}
-use Rattle.spec.proofs.Bools.{split, clash, both, not-true, within-means, within-test}
+use Rattle.spec.proofs.Bools.{split, clash, both, not-true, within-means, within-test, within-not}
 use Rattle.laws.proofs.Lists.{by-order}
-use Rattle.laws.proofs.Frame.{owns-means, owns-test, frame-found, frame-some, frame-perm, Once, within-not}
-use Rattle.laws.proofs.Apart.{Pieces, perm-tail}
+use Rattle.laws.proofs.Frame.{owns-means, owns-test, frame-found, frame-some, frame-perm, Once}
+use Rattle.laws.proofs.Pieces.{Pieces, perm-tail}
 
 -- ---- counts
 

@@ -16,7 +16,8 @@ use Rattle.spec.specs.declared.Proc.{Proc}
 use Rattle.spec.specs.declared.Procs.{Procs}
 use Rattle.laws.proofs.Record.{WholeProc, Whole, dead-zero}
 use Rattle.laws.proofs.Shape.{segments-shape, shape-segments}
-use Rattle.laws.proofs.Pieces.{perm-page, aligned, shape-aligned, shape-apart, zero-pieces}
+use Rattle.laws.proofs.Pieces.{Pieces, perm-page}
+use Rattle.laws.proofs.OwnPieces.{own-pieces, zero-apart, zero-pieces}
 use Rattle.laws.proofs.Frame.{Once, once-means, once-words, frame-found}
 use Rattle.laws.proofs.Owned.{valid-means, valid-test, word-means, word-test, in-range, once-tells, once-test}
 use Rattle.laws.proofs.Exact.{some-none, exact-means, exact-recorded, exact-booked}
@@ -50,15 +51,15 @@ proc-exact book n p w e page z =
     (λ l.
     let t = living-parts book n p e l in
     let s = proc-shape book n p w e l in
-    exact-means book n (piecesOf p) (shape-aligned p (s .0) (s .1)) (t .1) (t .2) page z)
-    (λ l. exact-means book n [] refl refl (dead-parts book n p e l) page z ∙ sym (zero-pieces page) ∙ ap (λ (x : Proc). permAt (piecesOf x) page) (sym (dead-zero p w l)))
+    exact-means book n (piecesOf p) (own-pieces p (s .0) (s .1)) (t .1) (t .2) page z)
+    (λ l. exact-means book n [] tt refl (dead-parts book n p e l) page z ∙ sym (zero-pieces page) ∙ ap (λ (x : Proc). permAt (piecesOf x) page) (sym (dead-zero p w l)))
 
 pub proc-test : (book : List ℕ) (n : ℕ) (p : Proc) → WholeProc p → Once book → (lives p ≡ true → Shaped p) → Exact book n p → procOk book n p ≡ true
 proc-test book n p w once shape x =
     split (lives p)
     (λ l.
     let s = shape l in
-    rw (l, shape-segments p (s .0) (s .1), exact-booked book n (piecesOf p) (shape-aligned p (s .0) (s .1)) (shape-apart p (s .0) (s .1)) x) (exact-recorded book n (piecesOf p) once x))
+    rw (l, shape-segments p (s .0) (s .1), exact-booked book n (piecesOf p) (own-pieces p (s .0) (s .1)) x) (exact-recorded book n (piecesOf p) once x))
     (λ l. rw l (exact-recorded book n [] once (λ page z. x page z ∙ ap (λ (y : Proc). permAt (piecesOf y) page) (dead-zero p w l) ∙ zero-pieces page)))
 
 -- ---- the whole book
@@ -107,16 +108,16 @@ facts-sound book ps w s =
 
 -- ---- what a sound book says of one process
 
--- a living process's pieces are aligned, and so are a dead one's, which has none but an empty bss
-pub sound-aligned : (book : List ℕ) (ps : Procs) → Whole ps → Sound book ps → (n : ℕ) → valid n ≡ true → all aligned (piecesOf (procAt ps n)) ≡ true
-sound-aligned book ps w s n v =
+-- a living process's pieces are aligned and disjoint, and so are a dead one's, which has none but an empty bss
+sound-pieces : (book : List ℕ) (ps : Procs) → Whole ps → Sound book ps → (n : ℕ) → valid n ≡ true → Pieces (piecesOf (procAt ps n))
+sound-pieces book ps w s n v =
     split (lives (procAt ps n))
-    (λ l. let h = s .shape n v l in shape-aligned (procAt ps n) (h .0) (h .1))
-    (λ l. ap (λ (p : Proc). all aligned (piecesOf p)) (dead-zero (procAt ps n) (w .each (n - 1)) l))
+    (λ l. let h = s .shape n v l in own-pieces (procAt ps n) (h .0) (h .1))
+    (λ l. rw (dead-zero (procAt ps n) (w .each (n - 1)) l) zero-apart)
 
 -- the book gives each address's page what the record gives the address
 pub sound-perm : (book : List ℕ) (ps : Procs) → Whole ps → Sound book ps → (n a : ℕ) → valid n ≡ true → bookPerm book n (pageDown a) ≡ permAt (piecesOf (procAt ps n)) a
-sound-perm book ps w s n a v = s .exact n (pageDown a) v (omega arith) ∙ sym (perm-page (piecesOf (procAt ps n)) a (sound-aligned book ps w s n v))
+sound-perm book ps w s n a v = s .exact n (pageDown a) v (omega arith) ∙ perm-page (piecesOf (procAt ps n)) a (sound-pieces book ps w s n v)
 
 -- a dead process owns nothing
 pub dead-frame : (book : List ℕ) (ps : Procs) → Whole ps → Sound book ps → (n : ℕ) → valid n ≡ true → lives (procAt ps n) ≡ false → (page : ℕ) → frameOf book n page ≡ none

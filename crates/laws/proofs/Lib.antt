@@ -4,7 +4,7 @@ pub mod Frame
 pub mod Pokes
 pub mod Release
 pub mod Place
-pub mod Apart
+pub mod Pieces
 pub mod Pages
 pub mod Placed
 pub mod Contents
@@ -14,12 +14,14 @@ pub mod Count
 -- Of records and soundness: the test and the facts are equivalent.
 pub mod Record
 pub mod Shape
-pub mod Pieces
+pub mod OwnPieces
 pub mod Owned
 pub mod Exact
 pub mod Facts
 -- Theorems of the definitions alone.
 pub mod Begins
+pub mod Checks
+pub mod Headers
 pub mod Accepted
 pub mod Started
 pub mod Turns

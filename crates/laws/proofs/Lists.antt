@@ -1,7 +1,7 @@
 -- Lists: what holds of each element, and bytes put over a list.
-use Prim.Native.Nat.{ℕ, _+_, _-_, _≤_, _<_}
+use Prim.Native.Nat.{ℕ, zero, suc, _+_, _-_, _≤_, _<_}
 use native.Mathlib.Omega.{arith}
-use native.Mathlib.Nat.{add-zero, add-assoc}
+use native.Mathlib.Nat.{add-zero, add-assoc, not-suc-le-zero, le-of-suc-le-suc}
 use native.Mathlib.Numerals.{add-one}
 use mathlib.Core.Path.{_≡_, refl, sym, ap, _∙_}
 use mathlib.Core.List.{List, [], _∷_, _++_, append-assoc, append-nil}
@@ -29,6 +29,11 @@ each-map P Q f (x ∷ xs) h = (f x (h .0), each-map P Q f xs (h .1))
 pub each-append : {A : Type 0} (P : A → Type 0) (xs ys : List A) → Each P xs → Each P ys → Each P (xs ++ ys)
 each-append P [] ys h k = k
 each-append P (x ∷ xs) ys h k = (h .0, each-append P xs ys (h .1) k)
+
+pub each-at : {A : Type 0} (P : A → Type 0) (d : A) (xs : List A) → Each P xs → (i : ℕ) → i < length xs → P (getD xs i d)
+each-at P d [] e i h = absurd (not-suc-le-zero h)
+each-at P d (x ∷ xs) e zero h = e .0
+each-at P d (x ∷ xs) e (suc i) h = each-at P d xs (e .1) i (le-of-suc-le-suc h)
 
 -- ---- what put is
 

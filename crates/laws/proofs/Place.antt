@@ -1,4 +1,4 @@
--- Pages placed: what every process sees, which words stand in the book, how many frames are free.
+-- Pages placed: what every process sees, which words stand in the book.
 use Prim.Native.Nat.{ℕ, zero, suc, _+_, _*_, _%_, _≤_, _<_}
 use native.Mathlib.Omega.{arith}
 use native.Mathlib.Nat.{not-suc-le-zero, le-of-suc-le-suc}
@@ -15,8 +15,9 @@ use Rattle.spec.specs.Numbers.{pageDown}
 use Rattle.spec.specs.Book.{wordOf, pageOf, permOf, highest, freeFrame, owns, frameOf, free}
 use Rattle.spec.specs.Frames.{Store, sized, Cell, cellIn, memOf, put, Page, hold, place}
 use Rattle.spec.proofs.Bools.{split}
-use Rattle.spec.proofs.Search.{hit, miss, highest-ext}
+use Rattle.spec.proofs.Search.{highest-ext}
 use Rattle.spec.proofs.Words.{unpack, used-word}
+use Rattle.spec.proofs.Free.{free-frame, none-free, free-set}
 use Rattle.laws.proofs.Lists.{Each, length-put, put-in, put-outside}
 use Rattle.laws.proofs.Frame.{Fits, sized-same, Owns, owns-not, frame-found, frame-none, frame-some, Once, cell-eq}
 
@@ -25,7 +26,7 @@ use Rattle.laws.proofs.Frame.{Fits, sized-same, Owns, owns-not, frame-f
 -- the word of frame k, which was free, is w
 module _ (book : List ℕ) (k w : ℕ) (low : k < length book) (was : getD book k 0 ≡ 0) where
   -- a page that w doesn't name has its frame as before
-  frame-else : (p page : ℕ) → (Owns p page w → ⊥) → frameOf (set book k w) p page ≡ frameOf book p page
+  pub frame-else : (p page : ℕ) → (Owns p page w → ⊥) → frameOf (set book k w) p page ≡ frameOf book p page
   frame-else p page out =
       ap (highest (λ j. owns p page (getD (set book k w) j 0))) (length-set book k w)
       ∙ highest-ext (λ j. owns p page (getD (set book k w) j 0)) (λ j. owns p page (getD book j 0)) (length book) (λ j l. same j)
@@ -71,16 +72,6 @@ module _ (book : List ℕ) (k w : ℕ) (low : k < length book) (was : getD book 
       go true x false y = absurd (apart j (at-k i (eqb-true i k x) a) (off-k j (eqb-false j k y) b))
       go false x true y = absurd (apart i (at-k j (eqb-true j k y) b) (off-k i (eqb-false i k x) a))
       go false x false y = once p q i j (off-k i (eqb-false i k x) a) (off-k j (eqb-false j k y) b)
-
-  free-set : ¬ (w ≡ 0) → free (set book k w) + 1 ≡ free book
-  free-set nz = go book k low was
-    where
-      go : (l : List ℕ) (j : ℕ) → j < length l → getD l j 0 ≡ 0 → free (set l j w) + 1 ≡ free l
-      go [] j h z = absurd (not-suc-le-zero h)
-      go (x ∷ l) zero h z = rw (ne-eqb w 0 nz, eq-eqb x 0 z)
-      go (x ∷ l) (suc j) h z =
-          let ih = go l j (le-of-suc-le-suc h) z in
-          split (eqb x 0) (λ q. rw q (omega arith)) (λ q. rw q ih)
 
 -- ---- one page in a free frame (for loops, which place a page a turn)
 
@@ -132,17 +123,6 @@ module _ (m : Store) (n : ℕ) (p : Page) (k : ℕ) (fits : Fits m) (low : k < l
 
 -- ---- a list of pages
 
--- the frame that a search finds is free, and one is found while one is free
-free-frame : (book : List ℕ) (k : ℕ) → freeFrame book ≡ some k → (k < length book) × (getD book k 0 ≡ 0)
-free-frame book k e = let r = hit (λ j. getD book j 0 is 0) (length book) k e in (r .0, eqb-true (getD book k 0) 0 (r .1))
-
-none-free : (book : List ℕ) → freeFrame book ≡ none → free book ≡ 0
-none-free book e = go book (miss (λ j. getD book j 0 is 0) (length book) e)
-  where
-    go : (l : List ℕ) → ((k : ℕ) → k < length l → (getD l k 0 is 0) ≡ false) → free l ≡ 0
-    go [] h = refl
-    go (w ∷ ws) h = rw (h 0 (omega arith)) (go ws (λ k l. h (suc k) (omega arith)))
-
 -- pages one after the other
 pub place-append : (m : Store) (n : ℕ) (ps qs : List Page) → place m n (ps ++ qs) ≡ place (place m n ps) n qs
 unfolding place
@@ -180,21 +160,6 @@ fits-place m n ps fits w = place-frames m n ps fits w ∙ fits ∙ ap (λ (i : �
 
 pub sized-place : (m : Store) (n : ℕ) (ps : List Page) → Fits m → WholePages ps → sized (place m n ps) ≡ sized m
 sized-place m n ps fits w = sized-same (place m n ps) m (place-frames m n ps fits w) (place-length m n ps)
-
--- each page takes a free frame
-pub free-place : (m : Store) (n : ℕ) (ps : List Page) → 1 ≤ n → length ps ≤ free (m .book) → free (place m n ps .book) + length ps ≡ free (m .book)
-unfolding place
-free-place m n [] lo room = omega arith
-free-place m n (p ∷ ps) lo room = go (freeFrame (m .book)) refl (λ t. free-place t n ps lo)
-  where
-    go : (o : Option ℕ) → freeFrame (m .book) ≡ o → ((t : Store) → length ps ≤ free (t .book) → free (place t n ps .book) + length ps ≡ free (t .book))
-        → free (place (hold m n p o) n ps .book) + length (p ∷ ps) ≡ free (m .book)
-    go none e more = absurd (omega (arith, none-free (m .book) e))
-    go (some k) e more =
-        let r = free-frame (m .book) k e in
-        let f = free-set (m .book) k (wordOf (p .page) n (p .perm)) (r .0) (r .1) (used-word (p .page) n (p .perm) lo) in
-        let ih = more (hold m n p (some k)) (omega arith) in
-        omega arith
 
 -- what held of each word and holds of each page's word holds of each word
 pub each-place : (m : Store) (n : ℕ) (ps : List Page) (P : ℕ → Type 0) → ((k : ℕ) → ¬ (getD (m .book) k 0 ≡ 0) → P (getD (m .book) k 0))

@@ -10,11 +10,12 @@ use Rattle.spec.specs.Book.{wordOf, bookPerm, free, permAt, pageCount}
 use Rattle.spec.specs.Frames.{Store, sized, memOf, pagesOf, place}
 use Rattle.spec.specs.History as history
 use Rattle.spec.specs.declared.UserSegment.{UserSegment}
+use Rattle.spec.proofs.Free.{free-place, length-pages}
 use Rattle.laws.proofs.Lists.{Each}
 use Rattle.laws.proofs.Frame.{Fits, Once, frame-unmapped, page-perm, perm-same}
-use Rattle.laws.proofs.Place.{Ready, Fresh, WholePages, fits-place, sized-place, free-place, each-place, mem-place-other, mem-place, once-place}
-use Rattle.laws.proofs.Apart.{Pieces, orPerm}
-use Rattle.laws.proofs.Pages.{length-pages, each-pages, distinct-pages, cellOr, over-pages}
+use Rattle.laws.proofs.Place.{Ready, Fresh, WholePages, fits-place, sized-place, each-place, mem-place-other, mem-place, once-place}
+use Rattle.laws.proofs.Pages.{each-pages, distinct-pages, cellOr, over-pages}
+use Rattle.laws.proofs.Pieces.{Pieces, orPerm}
 
 -- pages of pieces that may be placed for process n: each is whole and has a permission that a word can hold
 pub record Whole (n : ℕ) (f : ℕ → List ℕ) (gs : List UserSegment) : Type 0 where

@@ -14,15 +14,12 @@ use Rattle.spec.specs.Numbers.{pageDown}
 use Rattle.spec.specs.Book.{frameOf}
 use Rattle.spec.specs.Frames.{Store, sized, cellIn, memOf, put, poke, pokes}
 use Rattle.spec.specs.Access.{rewrite, write}
-use Rattle.spec.proofs.Bools.{split, clash, within-means, within-test}
+use Rattle.spec.proofs.Bools.{split, clash, within-means, within-test, within-not}
+use Rattle.spec.proofs.Free.{poke-book, pokes-book}
 use Rattle.laws.proofs.Lists.{put-sets}
-use Rattle.laws.proofs.Frame.{Fits, sized-same, frame-found, cell-eq, within-not}
+use Rattle.laws.proofs.Frame.{Fits, sized-same, frame-found, cell-eq}
 
 -- ---- one byte
-
-poke-book : (m : Store) (a b : ℕ) (o : Option ℕ) → poke m a b o .book ≡ m .book
-poke-book m a b none = refl
-poke-book m a b (some k) = refl
 
 poke-frames : (m : Store) (a b : ℕ) (o : Option ℕ) → length (poke m a b o .frames) ≡ length (m .frames)
 poke-frames m a b none = refl
@@ -55,11 +52,6 @@ module _ (m : Store) (n a b p x : ℕ) (fits : Fits m) where
           out (cc) (omega (arith, u .page, v .page)))))
 
 -- ---- bytes
-
-pub pokes-book : (m : Store) (n a : ℕ) (bs : List ℕ) → pokes m n a bs .book ≡ m .book
-unfolding pokes
-pokes-book m n a [] = refl
-pokes-book m n a (b ∷ bs) = pokes-book (poke m a b (frameOf (m .book) n (pageDown a))) n (a + 1) bs ∙ poke-book m a b (frameOf (m .book) n (pageDown a))
 
 pub pokes-length : (m : Store) (n a : ℕ) (bs : List ℕ) → length (pokes m n a bs .frames) ≡ length (m .frames)
 unfolding pokes

@@ -12,13 +12,14 @@ use Rattle.spec.specs.Numbers.{utzero, limit, pageUp, pageDown, bytesFrom, page
 use Rattle.spec.specs.Book.{segment, stack, bssSegment}
 use Rattle.spec.specs.Frames.{Page, pagesFrom, pagesOf}
 use Rattle.spec.specs.Elf.{Segment, segmentsOf}
-use Rattle.spec.specs.Exec.{layoutOk, bssOf, userSegment, imageSegments, imageBss, imageError, startPieces, fileByte}
+use Rattle.spec.specs.Exec.{layoutOk, bssOf, userSegment, imageSegments, imageBss, imageError, startPieces, fileByte, kept}
 use Rattle.spec.specs.declared.VirtRange.{VirtRange}
 use Rattle.spec.specs.declared.UserSegment.{UserSegment}
 use Rattle.spec.proofs.Bools.{split, both, clash}
 use Rattle.laws.proofs.Lists.{Each}
 use Rattle.laws.proofs.Pages.{pages-append}
-use Rattle.laws.proofs.Accepted.{Loads, AllLoad, Accepted, accepted-means, elf-loads, nonEmpty, kept, Recorded, image-recorded}
+use Rattle.laws.proofs.Accepted.{Accepted, accepted-means, nonEmpty, Recorded, image-recorded}
+use Rattle.laws.proofs.Headers.{Loads, AllLoad, elf-loads}
 use Rattle.pagealloc.specs.Contents.{fileAt}
 use Rattle.load.specs.Pages.{onePages, segmentPages}
 use Rattle.load.proofs.FileBytes.{file-head, file-tail, file-high}

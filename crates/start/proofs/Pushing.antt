@@ -8,10 +8,11 @@ use lib.ListN.{length, take}
 use Rattle.spec.specs.Numbers.{ustktop, ustksize, argLimit, pageDown}
 use Rattle.spec.specs.Frames.{put}
 use Rattle.spec.specs.Exec.{argsOf, strings, stringsAt, argvAt, pointers}
+use Rattle.spec.proofs.Args.{length-pointers}
 use Rattle.pagealloc.specs.Lent.{Mapped}
 use Rattle.args.specs.Sizes.{pointersBy, belowZeroBy}
 use Rattle.args.proofs.Cut.{cut-count, cut-size, cut-pointers}
-use Rattle.args.proofs.Places.{passed-strings, passed-size, passed-stack, length-pointers, strings-at, argv-at, below-zero-at, put-begins}
+use Rattle.args.proofs.Places.{passed-strings, passed-size, passed-stack, strings-at, argv-at, below-zero-at, put-begins}
 use Rattle.start.specs.Installing.{Fitting}
 
 -- a range inside the stack is mapped where the stack is
