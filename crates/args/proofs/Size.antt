@@ -13,7 +13,7 @@ use Rattle.spec.proofs.Bools.{split}
 use Rattle.args.specs.declared.ArgsSize.{ArgsSize}
 use Rattle.args.specs.Sizes.{argsSize}
 use Rattle.args.proofs.Cut.{cut-count, cut-size, cut-has}
-use Rattle.args.proofs.Places.{passed-size}
+use Rattle.spec.proofs.Args.{args-means}
 
 -- the arguments' refusal, in numbers
 abbrev errorBy : List ℕ → List ℕ → ℕ
@@ -80,6 +80,6 @@ size-passed bytes lengths r e z =
       passed = none;
       strings-size = size ∙ sym (cut-size bytes lengths fit);
       bytes-size = size;
-      limit = rw (size ∙ sym (cut-size bytes lengths fit), ← cut-count bytes lengths) (passed-size (argsOf bytes lengths) none);
+      limit = rw (size ∙ sym (cut-size bytes lengths fit), ← cut-count bytes lengths) (args-means (argsOf bytes lengths) none .1);
     })
     (λ q. absurd (let w : r .error ≡ 1 = ap (λ (x : ArgsSize). x .error) (e ∙ size-unfit bytes lengths q) in omega arith))

@@ -1,22 +1,22 @@
 -- An accepted image: its segments and bss have the shape that soundness asks of a record.
-use Prim.Native.Nat.{ℕ, suc, _+_, _-_, _%_, _^_, _≤_, _<_}
+use Prim.Native.Nat.{ℕ, suc, _+_, _≤_, _<_}
 use native.Mathlib.Omega.{arith}
 use mathlib.Core.Path.{_≡_, refl, sym, subst}
 use mathlib.Core.Bool.{Bool, true, false, not, _&&_, _||_}
-use mathlib.Core.List.{List, [], _∷_, map}
-use lib.ListN.{length, drop, length-take, length-drop}
-use borrow.Author.Tests.{eqb-true, eqb-false, ltb-true, ltb-false, ne-eqb, lt-ltb}
+use mathlib.Core.List.{List, [], _∷_}
+use lib.ListN.{length}
+use borrow.Author.Tests.{eqb-true, ltb-true, ltb-false, ne-eqb, lt-ltb}
 use Rattle.spec.proofs.Bools.{split, both, or-first, not-true, un-not, not-below}
-use Rattle.spec.specs.Tests.{_is_, _isnt_, _below_, _above_, _⇒_else_, _orElse_, all, filter}
+use Rattle.spec.specs.Tests.{_is_, _isnt_, _below_, _above_, _⇒_else_, filter}
 use Rattle.spec.specs.Numbers.{utzero, limit, pageUp, pageDown}
 use Rattle.spec.specs.Book.{range, segment}
 use Rattle.spec.specs.Sound.{ImageSegment, Shape}
-use Rattle.spec.specs.Elf.{Phdr, phdrsFrom, loads, phdrs, flagPerm, flagTable, phoff, phnum, ehdrError, phdrError, Segment, segmentOf, segmentsOf, entryInText, elfError}
+use Rattle.spec.specs.Elf.{Segment, segmentsOf, elfError}
 use Rattle.spec.specs.Exec.{layoutOk, bssOf, userSegment, kept, imageSegments, imageBss, imageError}
 use Rattle.spec.specs.World.{procOf}
 use Rattle.spec.specs.declared.VirtRange.{VirtRange}
 use Rattle.spec.specs.declared.UserSegment.{UserSegment}
-use Rattle.laws.proofs.Checks.{checks, passes, failed}
+use Rattle.laws.proofs.Checks.{passes, failed}
 use Rattle.laws.proofs.Headers.{Loads, AllLoad, elf-loads}
 use Rattle.laws.proofs.Shape.{Image, imageEnd, Bss, shape-made}
 
@@ -47,6 +47,10 @@ layout-first g gs e =
     let q = both (not (g .vaddr below utzero) && not (g .vaddr + g .memsz above limit)) (g .perm isnt 3 || length gs is 0) (p .0) in
     let r = both (not (g .vaddr below utzero)) (not (g .vaddr + g .memsz above limit)) (q .0) in
     (record { start = not-below (g .vaddr) utzero (r .0); end = not-below limit (g .vaddr + g .memsz) (r .1) }, q .1, p .1)
+
+-- a segment that others follow is no data
+pub no-data : (g h : Segment) (gs : List Segment) → layoutOk (g ∷ h ∷ gs) ≡ true → (g .perm is 3) ≡ false
+no-data g h gs e = not-true (g .perm is 3) (or-first (g .perm isnt 3) (length (h ∷ gs) is 0) (layout-first g (h ∷ gs) e .1) (ne-eqb (suc (length gs)) 0 (λ z. omega arith)))
 
 abbrev pub nonEmpty : UserSegment → Bool
 nonEmpty s = s .range .start below s .range .end
@@ -106,7 +110,7 @@ recorded-all end g (h ∷ gs) l e =
     let u : UserSegment = segment (pageDown (g .vaddr)) top (g .perm) in
     let more = recorded-all top h gs (l .1) (p .2) in
     let k : nonEmpty u ≡ true = lt-ltb (pageDown (g .vaddr)) top (omega (arith, l .0 .some-byte)) in
-    let q : (g .perm is 3) ≡ false = not-true (g .perm is 3) (or-first (g .perm isnt 3) (length (h ∷ gs) is 0) (p .1) (ne-eqb (suc (length gs)) 0 (λ z. omega arith))) in
+    let q = no-data g h gs e in
     let eu : userSegment b g ≡ u = rw q in
     subst (λ (y : UserSegment). Recorded end b (nonEmpty y ⇒ y ∷ kept b (h ∷ gs) else kept b (h ∷ gs))) (sym eu)
     (rw k (record { ascends = (other-image end g (l .0) (p .0), l .0 .ordered, more .ascends); bss-ok = more .bss-ok }))

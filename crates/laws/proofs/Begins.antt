@@ -2,7 +2,7 @@
 use Prim.Native.Nat.{ℕ, zero, suc, _+_, _*_, _-_, _≤_}
 use native.Mathlib.Omega.{arith}
 use mathlib.Core.Path.{_≡_, refl, sym, ap, _∙_}
-use mathlib.Core.Bool.{Bool, true, false, _&&_}
+use mathlib.Core.Bool.{_&&_, and-false}
 use mathlib.Core.List.{List}
 use lib.ListN.{length, getD, replicate, length-replicate}
 use borrow.Author.Tests.{eq-eqb}
@@ -50,9 +50,5 @@ blank-begins n frames l h e = record {
       and-test (length frames is 4096 * length (replicate n 0)) (within 1 (maxFrames + 1) (length (replicate n 0)))
       (eq-eqb (length frames) (4096 * length (replicate n 0)) (omega arith)) (within-test 1 (maxFrames + 1) (length (replicate n 0)) (omega arith) (omega arith));
   book = facts-sound (replicate n 0) noProcs (typed-whole (blank n frames) refl) (zero-book n);
-  nobody = λ p. ap (λ (x : Proc). valid p && lives x) (getD-same 16 (p - 1) zeroProc) ∙ never (valid p);
+  nobody = λ p. ap (λ (x : Proc). valid p && lives x) (getD-same 16 (p - 1) zeroProc) ∙ and-false (valid p);
 }
-  where
-    never : (b : Bool) → (b && false) ≡ false
-    never true = refl
-    never false = refl

@@ -9,10 +9,10 @@ use lib.ListN.{length, getD, List·getD-eq-default}
 use borrow.Author.Tests.{eqb-true, eqb-false, eq-eqb, ne-eqb}
 use Rattle.spec.specs.Tests.{_is_, _isnt_, within}
 use Rattle.spec.specs.Numbers.{pageDown}
-use Rattle.spec.specs.Book.{pageOf, ownerOf, permOf, owns, frameOf, permIn, bookPerm}
+use Rattle.spec.specs.Book.{pageOf, ownerOf, owns, frameOf, permIn, bookPerm}
 use Rattle.spec.specs.Frames.{Store, sized, Cell, Mem, memOf}
 use Rattle.spec.specs.History as history
-use Rattle.spec.proofs.Bools.{split, both, clash, not-true, within-means}
+use Rattle.spec.proofs.Bools.{split, both, clash, not-true}
 use Rattle.spec.proofs.Search.{hit, miss}
 use Rattle.laws.proofs.Lists.{by-order}
 

@@ -1,5 +1,6 @@
 -- Laws of the definitions. Of frames and book: above these nothing reasons about frame numbers or words.
 pub mod Lists
+pub mod Overwrite
 pub mod Frame
 pub mod Pokes
 pub mod Release

@@ -1,12 +1,12 @@
 -- The pieces of a living record: its image's segments, the stack and the bss, in the record's order and in a start's.
-use Prim.Native.Nat.{ℕ, _%_, _≤_, _<_}
+use Prim.Native.Nat.{ℕ, _≤_, _<_}
 use native.Mathlib.Omega.{arith}
 use mathlib.Core.Path.{_≡_, refl, sym, ap, _∙_}
 use mathlib.Core.Bool.{true, false}
 use mathlib.Core.Option.{none, some}
 use mathlib.Core.List.{List, [], _∷_, _++_, append-assoc}
 use Rattle.spec.proofs.Bools.{split, within-means}
-use Rattle.spec.specs.Numbers.{utzero, uaddrtop, limit, pageUp}
+use Rattle.spec.specs.Numbers.{utzero, uaddrtop, pageUp}
 use Rattle.spec.specs.Book.{stack, bssSegment, inSegment, permAt, zeroProc, piecesOf}
 use Rattle.spec.specs.Sound.{Shape}
 use Rattle.spec.specs.declared.VirtRange.{VirtRange}

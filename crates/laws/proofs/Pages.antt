@@ -6,11 +6,11 @@ use mathlib.Core.Bool.{Bool, true}
 use mathlib.Core.Option.{Option, none, some}
 use mathlib.Core.List.{List, [], _∷_, _++_, append-assoc}
 use lib.Dec.{eqb}
-use lib.ListN.{length, getD, length-append}
+use lib.ListN.{getD}
 use borrow.Author.Tests.{eqb-true, eqb-false}
 use Rattle.spec.specs.Tests.{_is_, within, _⇒_else_}
 use Rattle.spec.specs.Numbers.{pageDown}
-use Rattle.spec.specs.Book.{inSegment, permAt, pageCount}
+use Rattle.spec.specs.Book.{inSegment, permAt}
 use Rattle.spec.specs.Frames.{Cell, Page, pagesFrom, pagesOf}
 use Rattle.spec.specs.declared.UserSegment.{UserSegment}
 use Rattle.spec.proofs.Bools.{split, clash, within-means, within-test, within-not}

@@ -2,13 +2,12 @@
 use Prim.Native.Nat.{ℕ, zero, suc, _+_, _-_, _≤_, _<_}
 use native.Mathlib.Omega.{arith}
 use mathlib.Core.Path.{_≡_, sym, ap, _∙_}
-use mathlib.Core.Bool.{true}
 use mathlib.Core.Option.{some}
 use mathlib.Core.List.{List, [], _∷_, _++_}
 use lib.ListN.{length, getD, take, replicate, length-append, length-replicate, length-take}
 use borrow.Author.Tests.{ltb-true}
-use Rattle.spec.proofs.Bools.{split, all-app}
-use Rattle.spec.specs.Tests.{_below_, within, all, ascii}
+use Rattle.spec.proofs.Bools.{split}
+use Rattle.spec.specs.Tests.{_below_, within, ascii}
 use Rattle.spec.specs.Numbers.{utzero, uaddrtop, pageUp}
 use Rattle.spec.specs.Name.{elem, cut, padded, kstrcpy}
 use Rattle.spec.specs.Book.{zeroSegment, stack, bssSegment, permAt, piecesOf, pageCount}

@@ -7,6 +7,7 @@ use mathlib.Core.Bool.{Bool, true, false, not, _&&_, _||_}
 use mathlib.Core.List.{List, [], _∷_, _++_}
 use lib.Dec.{eqb, ltb}
 use lib.ListN.{length, getD}
+pub use borrow.Author.Tests.{not-true, not-false as un-not}
 use borrow.Author.Tests.{eqb-true, eqb-false, ltb-true, ltb-false, lt-ltb, le-ltb}
 use Rattle.spec.specs.Tests.{_above_, _below_, within, _⇒_else_, all, allBelow}
 
@@ -44,14 +45,6 @@ or-test true b f = refl
 or-test false b f = f refl
 
 -- not
-pub not-true : (b : Bool) → not b ≡ true → b ≡ false
-not-true true e = clash false e refl
-not-true false e = refl
-
-pub un-not : (b : Bool) → not b ≡ false → b ≡ true
-un-not true e = refl
-un-not false e = clash true refl e
-
 pub not-false : (b : Bool) → b ≡ false → not b ≡ true
 not-false b e = rw e
 

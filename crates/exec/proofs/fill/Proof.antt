@@ -1,7 +1,6 @@
 -- `exec::fill` meets its contract: too many segments are refused, and otherwise each field is the image's.
 -- Assumes nothing.
 use mathlib.Core.Path.{_≡_, sym, ap, ap₂, _∙_}
-use mathlib.Core.List.{List}
 use Prim.Native.Nat.{ℕ, _+_, _-_, _/_, _^_, _≤_}
 use native.Mathlib.Omega.{arith}
 use denote.Ref.{now}
@@ -9,13 +8,12 @@ use lib.ListN.{length, take, set}
 use borrow.Author.Needs.{needs}
 use Rattle.spec.specs.Numbers.{pageUp}
 use Rattle.spec.specs.Book.{pageCount, stack}
-use Rattle.spec.specs.Elf.{elfError, segmentsOf}
-use Rattle.spec.specs.Exec.{imageSegments, imageBss}
+use Rattle.spec.specs.Elf.{segmentsOf}
+use Rattle.spec.specs.Exec.{imageSegments, kept}
 use Rattle.spec.specs.declared.VirtRange.{VirtRange}
-use Rattle.spec.specs.declared.UserSegment.{UserSegment}
 use Rattle.elf.proofs.Image.{says-fields}
 use Rattle.elf.proofs.Ahead.{parsed-zero}
-use Rattle.exec.specs.Plan.{kept, recorded}
+use Rattle.exec.specs.Plan.{recorded}
 use Rattle.exec.specs.declared.Recorded.{Recorded}
 use Rattle.exec.proofs.Planned.{plan-many, plan-yes, bss-low, all-pages, first-ones, with-stack, same-plan}
 use Rattle.exec.proofs.fill.Statement.{statement}
