@@ -200,32 +200,6 @@ fn segments(image: &[u8], h: Elf, bss: VirtRange) -> Recorded
     seen
 }
 
-// How many whole pages a range has; one that ends before it starts has none.
-fn pages_in(r: VirtRange) -> u64
-    ensures { λ n. ⌜ (n ≡ (r .end - r .start) / 4096) × (n ≤ 2 ^ 52) ⌝ }
-{
-    if r.start >= r.end {
-        return 0;
-    }
-    (r.end - r.start) / spec::PAGE_SIZE_4K
-}
-
-// How many pages the first n of a record's segments have.
-pub fn page_count(segments: [UserSegment; 16], n: usize) -> u64
-    requires { ⌜ n ≤ 16 ⌝ }
-    ensures { λ r. ⌜ (r ≡ pageCount (take n segments)) × (r ≤ 2 ^ 52 * n) ⌝ }
-{
-    let mut pages = 0;
-    let mut i = 0;
-    while i < n {
-        let u = segments[i];
-        let r = u.range;
-        pages += pages_in(r);
-        i += 1;
-    }
-    pages
-}
-
 // A plan that is refused: zeros but for its numbers.
 fn refused(number: u64, elf: u64) -> Plan
     ensures { λ r. ⌜ r ≡ refusedPlan number elf ⌝ }
@@ -263,8 +237,8 @@ fn fill(image: &[u8], h: Elf, bss: VirtRange) -> Plan
         start: mem::page_up(bss.start),
         end: bss.end,
     };
-    let pages = page_count(segments, count)
-        + pages_in(behind)
+    let pages = mem::page_count(segments, count)
+        + mem::pages(behind)
         + spec::USTKSIZE / spec::PAGE_SIZE_4K;
     segments[count] = UserSegment {
         range: VirtRange {

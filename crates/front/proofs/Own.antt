@@ -21,12 +21,6 @@ use Rattle.laws.proofs.Pieces.{count-append}
 pub take-more : (gs : List UserSegment) (i : ℕ) → i < length gs → take (i + 1) gs ≡ take i gs ++ getD gs i zeroSegment ∷ []
 take-more gs i h = rw (add-one, take-suc gs i zeroSegment)
 
-pub count-more : (gs : List UserSegment) (i n k : ℕ) → i < length gs → n ≡ pageCount (take i gs)
-    → k ≡ (getD gs i zeroSegment .range .end - getD gs i zeroSegment .range .start) / 4096 → n + k ≡ pageCount (take (i + 1) gs)
-count-more gs i n k h e f =
-    let one : pageCount (getD gs i zeroSegment ∷ []) ≡ k = (let z : k + 0 ≡ k = omega arith in rw (← f) z) in
-    ap₂ _+_ e (sym one) ∙ sym (ap pageCount (take-more gs i h) ∙ count-append (take i gs) (getD gs i zeroSegment ∷ []))
-
 pub count-last : (gs : List UserSegment) (i n k : ℕ) (g g′ : UserSegment) → length gs ≤ i → n ≡ pageCount (take i gs) → g ≡ g′ → k ≡ (g .range .end - g .range .start) / 4096 → n + k ≡ pageCount (gs ++ g′ ∷ [])
 count-last gs i n k g g′ h e same f =
     let one : pageCount (g ∷ []) ≡ k = (let z : k + 0 ≡ k = omega arith in rw (← f) z) in

@@ -23,7 +23,7 @@ use Rattle.laws.proofs.Shape.{Image, imageEnd, Bss, shape-image, shape-bss}
 use Rattle.laws.proofs.Pieces.{outside-low, outside-high, perm-here, perm-there, Pieces, tail-same}
 use Rattle.laws.proofs.Exact.{some-none}
 use Rattle.laws.proofs.Facts.{Shaped}
-use Rattle.laws.proofs.OwnPieces.{image-apart, stack-bss-apart, stack-bss-low, shape-pieces}
+use Rattle.laws.proofs.OwnPieces.{zero-apart, image-apart, stack-bss-apart, stack-bss-low, shape-pieces}
 use Rattle.sound.specs.Plan.{seat, part}
 use Rattle.sound.proofs.Laying.{part-segment, part-bss}
 

@@ -55,7 +55,7 @@ returns-2 c =
     let us = imageSegments image in
     let few : length us ≤ 15 = omega (arith, many s, c .before .before .before .if1 .left) in
     let first = c .before .page-count .ensures .0 ∙ ap (λ (r : Recorded). pageCount (take (r .count) (r .segments))) (whole s) ∙ ap pageCount (first-ones us few) in
-    let behind = c .pages-in .ensures .0 ∙ ap (λ (x : ℕ). (p .args .bss .end - x) / 4096) (c .before .before .page-up .ensures)
+    let behind = c .pages .ensures .0 ∙ ap (λ (x : ℕ). (p .args .bss .end - x) / 4096) (c .before .before .page-up .ensures)
     ∙ ap (λ (b : VirtRange). (b .end - pageUp (b .start)) / 4096) (p .pre .1 .1) in
     same-plan _ _ _ _ _ _ _ _ _ _
     (says-fields image (p .args .h) (p .pre .0) .0)
