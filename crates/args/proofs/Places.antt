@@ -63,7 +63,7 @@ pub record Pushed (top : ℕ) (args : List (List ℕ)) : Type 0 where
   pub apart : argvAt top args + 8 * (length args + 1) ≤ stringsAt top args
   pub high : stringsAt top args + length (strings args) ≡ top
 
-pub passed-places : (top : ℕ) (args : List (List ℕ)) → argsError args ≡ 0 → argLimit ≤ top → Pushed top args
+passed-places : (top : ℕ) (args : List (List ℕ)) → argsError args ≡ 0 → argLimit ≤ top → Pushed top args
 passed-places top args e h =
     let room = args-means args e .1 in
     record {

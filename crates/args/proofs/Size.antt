@@ -27,11 +27,11 @@ module _ (bytes lengths : List ℕ) where
   unfolding argsSize
   size-unfit u = rw u
 
-  pub size-error : (k : ℕ) → (sum lengths is length bytes) ≡ true → argsError (argsOf bytes lengths) ≡ k → (k is 0) ≡ false → argsSize bytes lengths ≡ record { error = k; strings = 0 }
+  size-error : (k : ℕ) → (sum lengths is length bytes) ≡ true → argsError (argsOf bytes lengths) ≡ k → (k is 0) ≡ false → argsSize bytes lengths ≡ record { error = k; strings = 0 }
   unfolding argsSize
   size-error k f e n = rw (f, e, n)
 
-  pub size-fine : (sum lengths is length bytes) ≡ true → argsError (argsOf bytes lengths) ≡ 0 → argsSize bytes lengths ≡ record { error = 0; strings = length bytes + length lengths }
+  size-fine : (sum lengths is length bytes) ≡ true → argsError (argsOf bytes lengths) ≡ 0 → argsSize bytes lengths ≡ record { error = 0; strings = length bytes + length lengths }
   unfolding argsSize
   size-fine f e = rw (f, e) (ap (λ (n : ℕ). record { error = 0; strings = n }) (cut-size bytes lengths (eqb-true (sum lengths) (length bytes) f)))
 

@@ -11,7 +11,7 @@ use lib.ListN.{length, getD}
 use borrow.Author.Tests.{eq-eqb, ne-eqb}
 use Rattle.spec.specs.Tests.{same, _is_}
 
-pub same-refl : (xs : List ℕ) → same _is_ xs xs ≡ true
+same-refl : (xs : List ℕ) → same _is_ xs xs ≡ true
 same-refl [] = refl
 same-refl (x ∷ xs) = rw (eq-eqb x x refl) (same-refl xs)
 

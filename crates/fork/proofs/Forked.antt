@@ -1,23 +1,22 @@
 -- A fork: the parent's pages, copied piece after piece, are the pages that the specification places.
-use Prim.Native.Nat.{ℕ, zero, suc, _+_, _*_, _-_, _%_, _^_, _≤_, _<_}
+use Prim.Native.Nat.{ℕ, zero, suc, _-_, _%_, _^_, _≤_, _<_}
 use native.Mathlib.Omega.{arith}
-use native.Mathlib.Nat.{not-suc-le-zero, le-of-suc-le-suc}
 use mathlib.Core.Path.{_≡_, refl, sym, ap, subst, _∙_}
-use mathlib.Core.Bool.{Bool, true, not}
-use mathlib.Core.Option.{Option, some}
+use mathlib.Core.Bool.{true}
+use mathlib.Core.Option.{some}
 use mathlib.Core.List.{List, [], _∷_, _++_}
-use lib.ListN.{length, getD, replicate}
+use lib.ListN.{length, replicate}
 use borrow.Author.Tests.{lt-ltb, le-ltb}
-use Rattle.spec.specs.Book.{permOf, valid, frameOf, permIn, bookPerm, zeroSegment, stack, bssSegment, inSegment, permAt, procAt, piecesOf}
+use Rattle.spec.specs.Book.{valid, frameOf, permIn, zeroSegment, stack, bssSegment, inSegment, permAt, procAt}
 use Rattle.spec.specs.Numbers.{utzero}
 use Rattle.spec.specs.Sound.{ImageSegment, Shape, Sound}
-use Rattle.spec.specs.Frames.{Store, Page, memOf, pagesOf, place, frameBytes}
+use Rattle.spec.specs.Frames.{Store, memOf, pagesOf, place, frameBytes}
 use Rattle.spec.specs.Machine.{fork, plainly, Machine, own, weigh}
 use Rattle.spec.specs.declared.UserSegment.{UserSegment}
 use Rattle.spec.specs.declared.Proc.{Proc}
 use Rattle.spec.specs.declared.Procs.{Procs}
 use Rattle.spec.specs.declared.Answer.the-variants.{Done, Refused}
-use Rattle.spec.proofs.Bools.{split, clash, not-true, within-means, within-test}
+use Rattle.spec.proofs.Bools.{split, within-means, within-test}
 use Rattle.laws.proofs.Lists.{Each, each-map, each-append}
 use Rattle.laws.proofs.Frame.{Fits, frame-perm, perm-same}
 use Rattle.laws.proofs.Place.{place-append}

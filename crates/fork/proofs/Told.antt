@@ -3,16 +3,11 @@ use Prim.Native.Nat.{ℕ, _%_, _<_}
 use mathlib.Core.Path.{_≡_, refl, sym, ap, _∙_}
 use mathlib.Core.Option.{some}
 use mathlib.Core.List.{List}
-use lib.Dec.{eqb}
-use lib.ListN.{length, getD, set, length-set}
-use lib.Seq.{getD-set-same, getD-set-other}
-use borrow.Author.Tests.{eqb-true, eqb-false}
-use Rattle.spec.specs.Book.{wordOf, ownerOf, highest, owns, frameOf}
+use lib.ListN.{length, getD}
+use Rattle.spec.specs.Book.{wordOf, frameOf}
 use Rattle.spec.specs.Frames.{Store, Page, hold}
 use Rattle.spec.specs.declared.Found.{Found}
 use Rattle.spec.specs.declared.Found.the-variants.{At}
-use Rattle.spec.proofs.Bools.{split}
-use Rattle.spec.proofs.Search.{highest-ext}
 use Rattle.spec.proofs.Words.{unpack}
 use Rattle.laws.proofs.Frame.{frame-found}
 use Rattle.laws.proofs.Place.{frame-else}

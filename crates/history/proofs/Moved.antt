@@ -35,10 +35,10 @@ use Rattle.history.proofs.Change.{Exact, holds, Change, stored-self, ch
 -- ---- the record
 
 -- the record with its bss end moved
-abbrev pub movedProc : Proc → ℕ → Proc
+abbrev movedProc : Proc → ℕ → Proc
 movedProc p top = record { segments = p .segments; text = p .text; bss = range (p .bss .start) top }
 
-pub moved-shape : (p : Proc) (image : List UserSegment) → Shape p image → (top : ℕ) → p .bss .start ≤ top → top % 4096 ≡ 0 → top ≤ limit → Shape (movedProc p top) image
+moved-shape : (p : Proc) (image : List UserSegment) → Shape p image → (top : ℕ) → p .bss .start ≤ top → top % 4096 ≡ 0 → top ≤ limit → Shape (movedProc p top) image
 moved-shape p image h top l z u =
     let b = shape-bss p image h in
     shape-made (movedProc p top) image (h .segments) (h .at-most) (shape-image p image h) (record { start = b .start; order = l; aligned = z; low = u; past = b .past })
@@ -46,7 +46,7 @@ moved-shape p image h top l z u =
 -- ---- permissions
 
 -- no segment of a record lies between its bss and limit
-pub above-segments : (p : Proc) (image : List UserSegment) → Shape p image → (a : ℕ) → pageUp (p .bss .start) ≤ a → a < limit → permAt (used (p .segments)) a ≡ none
+above-segments : (p : Proc) (image : List UserSegment) → Shape p image → (a : ℕ) → pageUp (p .bss .start) ≤ a → a < limit → permAt (used (p .segments)) a ≡ none
 above-segments p image h a l u =
     let b = shape-bss p image h in
     ap (λ (gs : List UserSegment). permAt gs a) (shape-used p image h)
@@ -60,7 +60,7 @@ same-below x y a q t =
     (λ l. by-order a y (λ k. lt-ltb a x l ∙ sym (lt-ltb a y k)) (λ k. clash (within y x a) (within-test y x a k l) t))
     (λ l. by-order a y (λ k. clash (within x y a) (within-test x y a l k) q) (λ k. le-ltb a x l ∙ sym (le-ltb a y k)))
 
-pub moved-exact : (p : Proc) (image : List UserSegment) → Shape p image → (top : ℕ) → pageUp (p .bss .start) ≤ top → top ≤ limit → (mem : Mem) → Exact (holds p mem) → Exact (movedTo top (holds p mem))
+moved-exact : (p : Proc) (image : List UserSegment) → Shape p image → (top : ℕ) → pageUp (p .bss .start) ≤ top → top ≤ limit → (mem : Mem) → Exact (holds p mem) → Exact (movedTo top (holds p mem))
 moved-exact p image h top l u mem e a =
     split (within end top a)
     (λ q.

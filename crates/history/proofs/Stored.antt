@@ -4,28 +4,25 @@ use native.Mathlib.Omega.{arith}
 use mathlib.Core.Path.{_≡_, ap, _∙_, fun-ext}
 use mathlib.Core.Bool.{Bool, true, false}
 use mathlib.Core.Option.{none, some}
-use mathlib.Core.List.{List, [], _∷_}
+use mathlib.Core.List.{List}
 use lib.ListN.{length, getD}
-use Rattle.spec.proofs.Bools.{both}
 use Rattle.spec.proofs.Words.{unpack}
-use Rattle.spec.specs.Tests.{_⇒_else_, all}
+use Rattle.spec.specs.Tests.{_⇒_else_}
 use Rattle.spec.specs.Numbers.{utzero, uaddrtop, pageDown}
-use Rattle.spec.specs.Book.{wordOf, pageOf, ownerOf, valid, free, permAt, pageCount, piecesOf}
-use Rattle.spec.specs.Sound.{Word, Shape}
+use Rattle.spec.specs.Book.{wordOf, pageOf, ownerOf, valid, free, permAt, pageCount}
+use Rattle.spec.specs.Sound.{Word}
 use Rattle.spec.specs.Frames.{Store, sized, Mem, memOf, pagesOf, place, release, pokes}
 use Rattle.spec.specs.Access.{write}
 use Rattle.spec.specs.History as history
 use Rattle.spec.specs.declared.UserSegment.{UserSegment}
-use Rattle.spec.specs.declared.Proc.{Proc}
 use Rattle.spec.proofs.Free.{pokes-book}
 use Rattle.laws.proofs.Frame.{sized-fits, Once, page-perm}
 use Rattle.laws.proofs.Pokes.{sized-pokes, mem-pokes, mem-pokes-other}
 use Rattle.laws.proofs.Release.{sized-release, each-release, once-release, mem-release}
 use Rattle.laws.proofs.Owned.{valid-means}
-use Rattle.laws.proofs.Pieces.{aligned, aligned-means, shape-aligned, Pieces}
+use Rattle.laws.proofs.Pieces.{Pieces}
 use Rattle.laws.proofs.Pages.{cellOr}
 use Rattle.laws.proofs.Placed.{Whole, Room, each-placed, sized-placed, mem-placed, mem-placed-other, once-placed}
-use Rattle.laws.proofs.OwnPieces.{own-pieces}
 
 -- from b to m process n comes to see mem, and no other process sees a change; m's words are proper, and none names a page twice
 pub record Stored (b m : Store) (n : ℕ) (mem : Mem) : Type 0 where

@@ -68,7 +68,7 @@ lives-same : (s t : State) → Good s → Good t → (q p : ℕ) → valid q ≡
 lives-same s t g h q p v w e = numbers t h q v ∙ ap (λ (m : Machine). not (length (m .segments) is 0)) e ∙ sym (numbers s g p w)
 
 -- nor does any list of calls of others
-pub others-keep : (s : State) → Good s → (q : ℕ) → valid q ≡ true → taken s q ≡ true → (h : List Call) → Each (λ c. q ≡ c .number → ⊥) h
+others-keep : (s : State) → Good s → (q : ℕ) → valid q ≡ true → taken s q ≡ true → (h : List Call) → Each (λ c. q ≡ c .number → ⊥) h
     → Good (state s h) × (view (state s h) q ≡ view s q)
 others-keep s g q v t [] ne = (g, refl)
 others-keep s g q v t (c ∷ h) ne =
@@ -152,7 +152,7 @@ pub record Unpushed (args : List (List ℕ)) (a : ℕ) : Type 0 where
   pub no-pointer : within (argvAt ustktop args) (argvAt ustktop args + length (pointers (stringsAt ustktop args) args)) a ≡ false
 
 -- in a page of an image or its stack it holds its file byte, or 0
-pub start-byte : (s : State) → Good s → (n : ℕ) (image name bytes lengths : List ℕ) → outcome (answer s (call n (start image name bytes lengths))) ≡ accepted
+start-byte : (s : State) → Good s → (n : ℕ) (image name bytes lengths : List ℕ) → outcome (answer s (call n (start image name bytes lengths))) ≡ accepted
     → (a q : ℕ) → permAt (startPieces image) a ≡ some q → Unpushed (argsOf bytes lengths) a
     → readable (after s (call n (start image name bytes lengths))) n a ≡ some (fileByte (segmentsOf image) a)
 start-byte s g n image name bytes lengths e a q p out = start-reads s g n image name bytes lengths e a ∙ rw (out .no-pointer, out .no-string, p)

@@ -21,7 +21,7 @@ use Rattle.laws.proofs.OwnPieces.{zero-pieces}
 use Rattle.laws.proofs.Facts.{facts-sound}
 
 -- n free frames with any bytes, and no process
-abbrev pub noProcs : Procs
+abbrev noProcs : Procs
 noProcs = record { all = replicate 16 zeroProc }
 
 abbrev pub blank : ℕ → List ℕ → State

@@ -63,7 +63,7 @@ length-frame m n page q fits e =
     ∙ length-take-le 4096 (drop (4096 * r .0) (m .frames)) (omega (arith, frame-found (m .book) n page (r .0) (r .1) .0))
 
 -- a page's bytes are those that the process sees at its addresses
-pub frame-page : (m : Store) (n page q : ℕ) → Fits m → page % 4096 ≡ 0 → bookPerm (m .book) n page ≡ some q
+frame-page : (m : Store) (n page q : ℕ) → Fits m → page % 4096 ≡ 0 → bookPerm (m .book) n page ≡ some q
     → frameBytes (m .frames) (frameOf (m .book) n page) ≡ pageBytes (λ a. byteOf (memOf m n a)) page
 frame-page m n page q fits z e =
     let l : length (frameBytes (m .frames) (frameOf (m .book) n page)) ≡ 4096 = length-frame m n page q fits e in

@@ -18,7 +18,7 @@ use Rattle.laws.proofs.Owned.{in-range}
 
 -- ---- the book has the pages of pieces, and no others
 
-pub gives-means : (o : Option ℕ) (q : ℕ) → gives o q ≡ true → o ≡ some q
+gives-means : (o : Option ℕ) (q : ℕ) → gives o q ≡ true → o ≡ some q
 gives-means none q e = clash false e refl
 gives-means (some x) q e = ap some (eqb-true x q e)
 
@@ -28,7 +28,7 @@ gives-test o q e = rw e (eq-eqb q q refl)
 pub some-none : {P : Type 0} (o : Option ℕ) (q : ℕ) → o ≡ some q → o ≡ none → P
 some-none o q e f = absurd (let w : some q ≡ none = sym e ∙ f in let z : _≡_ {A = ℕ} 0 1 = cc in omega arith)
 
-pub booked-at : (book : List ℕ) (n : ℕ) (g : UserSegment) (a : ℕ) → g .range .start % 4096 ≡ 0 → g .range .end % 4096 ≡ 0 → booked book n g ≡ true → inSegment a g ≡ true → a % 4096 ≡ 0 → bookPerm book n a ≡ some (g .perm)
+booked-at : (book : List ℕ) (n : ℕ) (g : UserSegment) (a : ℕ) → g .range .start % 4096 ≡ 0 → g .range .end % 4096 ≡ 0 → booked book n g ≡ true → inSegment a g ≡ true → a % 4096 ≡ 0 → bookPerm book n a ≡ some (g .perm)
 booked-at book n g a start end bk i z =
     let w = within-means (g .range .start) (g .range .end) a i in
     let e : g .range .start + 4096 * ((a - g .range .start) / 4096) ≡ a = omega (arith, w .0) in
@@ -36,7 +36,7 @@ booked-at book n g a start end bk i z =
     ap (bookPerm book n) (sym e) ∙ gives-means _ (g .perm) t
 
 -- the pages of pieces stand in the book, with their permissions
-pub in-book : (book : List ℕ) (n : ℕ) (gs : List UserSegment) → Pieces gs → all (booked book n) gs ≡ true → (a q : ℕ) → a % 4096 ≡ 0 → permAt gs a ≡ some q → bookPerm book n a ≡ some q
+in-book : (book : List ℕ) (n : ℕ) (gs : List UserSegment) → Pieces gs → all (booked book n) gs ≡ true → (a q : ℕ) → a % 4096 ≡ 0 → permAt gs a ≡ some q → bookPerm book n a ≡ some q
 in-book book n [] p bk a q z e = some-none none q e refl
 in-book book n (g ∷ gs) p bk a q z e =
     let r = both (booked book n g) (all (booked book n) gs) bk in
@@ -44,7 +44,7 @@ in-book book n (g ∷ gs) p bk a q z e =
     (λ i. booked-at book n g a (p .0 .start) (p .0 .end) (r .0) i z ∙ sym (perm-here g gs a i) ∙ e)
     (λ i. in-book book n gs (p .1) (r .1) a q z (sym (perm-there g gs a i) ∙ e))
 
-pub booked-test : (book : List ℕ) (n : ℕ) (gs : List UserSegment) → Pieces gs → ((a q : ℕ) → a % 4096 ≡ 0 → permAt gs a ≡ some q → bookPerm book n a ≡ some q) → all (booked book n) gs ≡ true
+booked-test : (book : List ℕ) (n : ℕ) (gs : List UserSegment) → Pieces gs → ((a q : ℕ) → a % 4096 ≡ 0 → permAt gs a ≡ some q → bookPerm book n a ≡ some q) → all (booked book n) gs ≡ true
 booked-test book n [] p f = refl
 booked-test book n (g ∷ gs) p f =
     and-test (booked book n g) (all (booked book n) gs)
@@ -59,7 +59,7 @@ booked-test book n (g ∷ gs) p f =
 unrecorded : (a b c : Bool) → (a || not b || c) ≡ true → a ≡ false → b ≡ true → c ≡ true
 unrecorded a b c e f g = rw (f, g) at e
 
-pub recorded-at : (book : List ℕ) (n : ℕ) (gs : List UserSegment) → all (recorded n gs) book ≡ true → (k : ℕ) → ¬ (getD book k 0 ≡ 0) → ownerOf (getD book k 0) ≡ n → permAt gs (pageOf (getD book k 0)) ≡ some (permOf (getD book k 0))
+recorded-at : (book : List ℕ) (n : ℕ) (gs : List UserSegment) → all (recorded n gs) book ≡ true → (k : ℕ) → ¬ (getD book k 0 ≡ 0) → ownerOf (getD book k 0) ≡ n → permAt gs (pageOf (getD book k 0)) ≡ some (permOf (getD book k 0))
 recorded-at book n gs e k nz o =
     let w : ℕ = getD book k 0 in
     gives-means _ (permOf w) (unrecorded (w is 0) (ownerOf w is n) (gives (permAt gs (pageOf w)) (permOf w)) (all-at (recorded n gs) 0 book e k (in-range book k nz)) (ne-eqb w 0 nz) (eq-eqb (ownerOf w) n o))

@@ -24,14 +24,14 @@ use Rattle.laws.proofs.Exact.{some-none, exact-means, exact-recorded, e
 
 -- ---- one process
 
-abbrev pub Exact : List ℕ → ℕ → Proc → Type 0
+abbrev Exact : List ℕ → ℕ → Proc → Type 0
 Exact book n p = (page : ℕ) → page % 4096 ≡ 0 → bookPerm book n page ≡ permAt (piecesOf p) page
 
 abbrev pub Shaped : Proc → Type 0
 Shaped p = (image : List UserSegment) × Shape p image
 
 -- the tests of a living process, and of a dead one
-pub living-parts : (book : List ℕ) (n : ℕ) (p : Proc) → procOk book n p ≡ true → lives p ≡ true
+living-parts : (book : List ℕ) (n : ℕ) (p : Proc) → procOk book n p ≡ true → lives p ≡ true
     → (segmentsOk utzero (p .bss) (p .segments) ≡ true) × (all (booked book n) (piecesOf p) ≡ true) × (all (recorded n (piecesOf p)) book ≡ true)
 living-parts book n p e l =
     let ok = living-ok (lives p) (segmentsOk utzero (p .bss) (p .segments) && all (booked book n) (piecesOf p) && all (recorded n (piecesOf p)) book) (all (recorded n []) book) e l in
@@ -39,13 +39,13 @@ living-parts book n p e l =
     let y = both (segmentsOk utzero (p .bss) (p .segments)) (all (booked book n) (piecesOf p)) (x .0) in
     (y .0, y .1, x .1)
 
-pub dead-parts : (book : List ℕ) (n : ℕ) (p : Proc) → procOk book n p ≡ true → lives p ≡ false → all (recorded n []) book ≡ true
+dead-parts : (book : List ℕ) (n : ℕ) (p : Proc) → procOk book n p ≡ true → lives p ≡ false → all (recorded n []) book ≡ true
 dead-parts book n p e l = dead-ok (lives p) (segmentsOk utzero (p .bss) (p .segments) && all (booked book n) (piecesOf p) && all (recorded n (piecesOf p)) book) (all (recorded n []) book) e l
 
-pub proc-shape : (book : List ℕ) (n : ℕ) (p : Proc) → WholeProc p → procOk book n p ≡ true → lives p ≡ true → Shaped p
+proc-shape : (book : List ℕ) (n : ℕ) (p : Proc) → WholeProc p → procOk book n p ≡ true → lives p ≡ true → Shaped p
 proc-shape book n p w e l = segments-shape p (w .segments) (living-parts book n p e l .0)
 
-pub proc-exact : (book : List ℕ) (n : ℕ) (p : Proc) → WholeProc p → procOk book n p ≡ true → Exact book n p
+proc-exact : (book : List ℕ) (n : ℕ) (p : Proc) → WholeProc p → procOk book n p ≡ true → Exact book n p
 proc-exact book n p w e page z =
     split (lives p)
     (λ l.
@@ -54,7 +54,7 @@ proc-exact book n p w e page z =
     exact-means book n (piecesOf p) (own-pieces p (s .0) (s .1)) (t .1) (t .2) page z)
     (λ l. exact-means book n [] tt refl (dead-parts book n p e l) page z ∙ sym (zero-pieces page) ∙ ap (λ (x : Proc). permAt (piecesOf x) page) (sym (dead-zero p w l)))
 
-pub proc-test : (book : List ℕ) (n : ℕ) (p : Proc) → WholeProc p → Once book → (lives p ≡ true → Shaped p) → Exact book n p → procOk book n p ≡ true
+proc-test : (book : List ℕ) (n : ℕ) (p : Proc) → WholeProc p → Once book → (lives p ≡ true → Shaped p) → Exact book n p → procOk book n p ≡ true
 proc-test book n p w once shape x =
     split (lives p)
     (λ l.
@@ -65,7 +65,7 @@ proc-test book n p w once shape x =
 -- ---- the whole book
 
 -- the three parts of the test
-pub sound-parts : (book : List ℕ) (ps : Procs) → soundBook book ps ≡ true
+sound-parts : (book : List ℕ) (ps : Procs) → soundBook book ps ≡ true
     → (all wordOk book ≡ true) × (once book ≡ true) × ((n : ℕ) → valid n ≡ true → procOk book n (procAt ps n) ≡ true)
 unfolding soundBook
 sound-parts book ps e =

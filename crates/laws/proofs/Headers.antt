@@ -76,7 +76,7 @@ abbrev pub AllLoad : ℕ → List Segment → Type 0
 AllLoad end [] = Unit {0}
 AllLoad end (g ∷ gs) = Loads end g × AllLoad (pageUp (g .vaddr + g .memsz)) gs
 
-pub all-filter : {A : Type 0} (t : A → Bool) (l : List A) → all t (filter t l) ≡ true
+all-filter : {A : Type 0} (t : A → Bool) (l : List A) → all t (filter t l) ≡ true
 all-filter t [] = refl
 all-filter t (x ∷ l) = split (t x) (λ q. rw (q, q) (all-filter t l)) (λ q. rw q (all-filter t l))
 

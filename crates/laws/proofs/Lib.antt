@@ -10,7 +10,6 @@ pub mod Pages
 pub mod Placed
 pub mod Contents
 pub mod Allowed
-pub mod Cursor
 pub mod Count
 -- Of records and soundness: the test and the facts are equivalent.
 pub mod Record

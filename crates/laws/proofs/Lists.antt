@@ -77,7 +77,7 @@ length-put d s at h = simp (length-append, length-take, length-drop) (omega arit
 getD-beyond : (xs ys : List ℕ) (k : ℕ) → length xs ≤ k → getD (xs ++ ys) k 0 ≡ getD ys (k - length xs) 0
 getD-beyond xs ys k h = let e : k ≡ length xs + (k - length xs) = omega arith in ap (λ (n : ℕ). getD (xs ++ ys) n 0) e ∙ getD-append-add xs ys (k - length xs) 0
 
-pub put-before : (d s : List ℕ) (at k : ℕ) → at ≤ length d → k < at → getD (put d at s) k 0 ≡ getD d k 0
+put-before : (d s : List ℕ) (at k : ℕ) → at ≤ length d → k < at → getD (put d at s) k 0 ≡ getD d k 0
 put-before d s at k h l =
     let e : length (take at d) ≡ at = length-take-le at d h in
     let f : length (take at d ++ s) ≡ at + length s = head-length d s at h in
@@ -91,7 +91,7 @@ put-in d s at k h l u =
     List·getD-append (take at d ++ s) (drop (at + length s) d) 0 k (omega arith)
     ∙ getD-beyond (take at d) s k (omega arith) ∙ ap (λ (i : ℕ). getD s (k - i) 0) e
 
-pub put-after : (d s : List ℕ) (at k : ℕ) → at ≤ length d → at + length s ≤ k → getD (put d at s) k 0 ≡ getD d k 0
+put-after : (d s : List ℕ) (at k : ℕ) → at ≤ length d → at + length s ≤ k → getD (put d at s) k 0 ≡ getD d k 0
 put-after d s at k h l =
     let f : length (take at d ++ s) ≡ at + length s = head-length d s at h in
     let e : at + length s + (k - length (take at d ++ s)) ≡ k = omega arith in

@@ -19,7 +19,7 @@ use Rattle.laws.proofs.Pieces.{Piece, Pieces, outside-low, outside-high
 -- ---- the image
 
 -- below its first address an image has nothing, nor from its end on
-pub image-low : (end : ℕ) (image : List UserSegment) → Image end image → (a : ℕ) → a < end → permAt image a ≡ none
+image-low : (end : ℕ) (image : List UserSegment) → Image end image → (a : ℕ) → a < end → permAt image a ≡ none
 image-low end [] h a l = refl
 image-low end (g ∷ image) h a l = rw (outside-low g a (omega (arith, h .1))) (image-low (g .range .end) image (h .2) a (omega (arith, h .0 .some-page, h .1)))
 
@@ -101,7 +101,7 @@ pub zero-pieces : (a : ℕ) → permAt (piecesOf zeroProc) a ≡ none
 zero-pieces a = perm-there (bssSegment (zeroProc .bss)) [] a (outside-high (bssSegment (zeroProc .bss)) a (omega arith))
 
 -- a living process's pages lie in user memory
-pub image-between : (end : ℕ) (image : List UserSegment) (bss : VirtRange) → Image end image → Bss (imageEnd end image) bss
+image-between : (end : ℕ) (image : List UserSegment) (bss : VirtRange) → Image end image → Bss (imageEnd end image) bss
     → (a q : ℕ) → permAt (image ++ stack ∷ bssSegment bss ∷ []) a ≡ some q → (utzero ≤ a) × (a < uaddrtop)
 image-between end image bss i h =
     perm-between utzero uaddrtop (image ++ stack ∷ bssSegment bss ∷ []) (each-append _ image (stack ∷ bssSegment bss ∷ []) (each end image i) ((omega arith, omega arith), ((omega (arith, h .start), omega (arith, h .low)), tt)))

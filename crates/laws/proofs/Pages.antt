@@ -24,7 +24,7 @@ pages g = (g .range .end - g .range .start) / 4096
 
 -- ---- lists of pages
 
-pub from-append : (f : ℕ → List ℕ) (perm a j k : ℕ) → pagesFrom f perm a (j + k) ≡ pagesFrom f perm a j ++ pagesFrom f perm (a + 4096 * j) k
+from-append : (f : ℕ → List ℕ) (perm a j k : ℕ) → pagesFrom f perm a (j + k) ≡ pagesFrom f perm a j ++ pagesFrom f perm (a + 4096 * j) k
 from-append f perm a zero k =
     let e : 0 + k ≡ k = omega arith in
     let z : a + 4096 * 0 ≡ a = omega arith in

@@ -81,7 +81,7 @@ pub record Ready (p : Page) : Type 0 where
   pub whole : length (p .bytes) ≡ 4096
 
 -- the cell that a page has at an address
-abbrev pub cellOn : Page → ℕ → Option Cell
+abbrev cellOn : Page → ℕ → Option Cell
 cellOn p x = some (record { perm = p .perm; byte = getD (p .bytes) (x % 4096) 0 })
 
 -- the word of a page names that page alone
@@ -102,13 +102,13 @@ module _ (m : Store) (n : ℕ) (p : Page) (k : ℕ) (fits : Fits m) (low : k < l
       cell-eq _ _ _ _ (ap permOf (getD-set-other (m .book) k j word 0 away))
       (put-outside (m .frames) (p .bytes) (4096 * k) (4096 * j + x % 4096) (omega arith) (λ l u. away (omega (arith, r .whole))))
 
-  pub mem-hold-else : (q x : ℕ) → (q ≡ n → pageDown x ≡ p .page → ⊥) → memOf (hold m n p (some k)) q x ≡ memOf m q x
+  mem-hold-else : (q x : ℕ) → (q ≡ n → pageDown x ≡ p .page → ⊥) → memOf (hold m n p (some k)) q x ≡ memOf m q x
   mem-hold-else q x out =
       let u = unpack (p .page) n (p .perm) (r .aligned) hi (r .perm) in
       ap (cellIn (hold m n p (some k)) x) (frame-else (m .book) k word low was q (pageDown x) (λ o. out (sym (o .owner) ∙ u .1) (sym (o .page) ∙ u .0)))
       ∙ cell-else x (frameOf (m .book) q (pageDown x)) (λ e. frame-found (m .book) q (pageDown x) k e .1 .used was)
 
-  pub mem-hold : 1 ≤ n → frameOf (m .book) n (p .page) ≡ none → (x : ℕ) → pageDown x ≡ p .page → memOf (hold m n p (some k)) n x ≡ cellOn p x
+  mem-hold : 1 ≤ n → frameOf (m .book) n (p .page) ≡ none → (x : ℕ) → pageDown x ≡ p .page → memOf (hold m n p (some k)) n x ≡ cellOn p x
   mem-hold lo new x e =
       let o = word-owns n p lo hi r in
       let u = unpack (p .page) n (p .perm) (r .aligned) hi (r .perm) in
@@ -116,9 +116,6 @@ module _ (m : Store) (n : ℕ) (p : Page) (k : ℕ) (fits : Fits m) (low : k < l
       (cell-eq _ _ _ _ (ap permOf (getD-set-same (m .book) k word 0 low) ∙ u .2)
       (put-in (m .frames) (p .bytes) (4096 * k) (4096 * k + x % 4096) (omega arith) (omega arith) (omega (arith, r .whole))
       ∙ ap (λ (i : ℕ). getD (p .bytes) i 0) (omega arith)))
-
-  pub fits-hold : Fits (hold m n p (some k))
-  fits-hold = length-put (m .frames) (p .bytes) (4096 * k) (omega (arith, r .whole)) ∙ fits ∙ ap (λ (i : ℕ). 4096 * i) (sym (length-set (m .book) k word))
 
 -- ---- a list of pages
 
@@ -128,7 +125,13 @@ unfolding place
 place-append m n [] qs = refl
 place-append m n (p ∷ ps) qs = place-append (hold m n p (freeFrame (m .book))) n ps qs
 
-pub place-length : (m : Store) (n : ℕ) (ps : List Page) → length (place m n ps .book) ≡ length (m .book)
+-- without a free frame nothing is placed
+pub place-none : (m : Store) (n : ℕ) (ps : List Page) → freeFrame (m .book) ≡ none → place m n ps ≡ m
+unfolding place
+place-none m n [] e = refl
+place-none m n (p ∷ ps) e = rw e (place-none m n ps e)
+
+place-length : (m : Store) (n : ℕ) (ps : List Page) → length (place m n ps .book) ≡ length (m .book)
 unfolding place
 place-length m n [] = refl
 place-length m n (p ∷ ps) = place-length (hold m n p (freeFrame (m .book))) n ps ∙ go (freeFrame (m .book))
@@ -147,7 +150,7 @@ hold-fits m n p fits w (some k) e =
 abbrev pub WholePages : List Page → Type 0
 WholePages ps = Each (λ p. length (p .bytes) ≡ 4096) ps
 
-pub place-frames : (m : Store) (n : ℕ) (ps : List Page) → Fits m → WholePages ps → length (place m n ps .frames) ≡ length (m .frames)
+place-frames : (m : Store) (n : ℕ) (ps : List Page) → Fits m → WholePages ps → length (place m n ps .frames) ≡ length (m .frames)
 unfolding place
 place-frames m n [] fits w = refl
 place-frames m n (p ∷ ps) fits w =
@@ -174,7 +177,7 @@ each-place m n (p ∷ ps) P h new = each-place (hold m n p (freeFrame (m .book))
 -- ---- what a process sees
 
 -- at an address that no placed page has, what it saw: another process, or another page
-pub mem-place-else : (m : Store) (n : ℕ) (ps : List Page) → Fits m → n < 256 → Each Ready ps → (q x : ℕ) → (q ≡ n → Each (λ p. ¬ (pageDown x ≡ p .page)) ps) → memOf (place m n ps) q x ≡ memOf m q x
+mem-place-else : (m : Store) (n : ℕ) (ps : List Page) → Fits m → n < 256 → Each Ready ps → (q x : ℕ) → (q ≡ n → Each (λ p. ¬ (pageDown x ≡ p .page)) ps) → memOf (place m n ps) q x ≡ memOf m q x
 unfolding place
 mem-place-else m n [] fits hi r q x out = refl
 mem-place-else m n (p ∷ ps) fits hi r q x out =

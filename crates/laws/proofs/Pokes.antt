@@ -53,7 +53,7 @@ module _ (m : Store) (n a b p x : ℕ) (fits : Fits m) where
 
 -- ---- bytes
 
-pub pokes-length : (m : Store) (n a : ℕ) (bs : List ℕ) → length (pokes m n a bs .frames) ≡ length (m .frames)
+pokes-length : (m : Store) (n a : ℕ) (bs : List ℕ) → length (pokes m n a bs .frames) ≡ length (m .frames)
 unfolding pokes
 pokes-length m n a [] = refl
 pokes-length m n a (b ∷ bs) = pokes-length (poke m a b (frameOf (m .book) n (pageDown a))) n (a + 1) bs ∙ poke-frames m a b (frameOf (m .book) n (pageDown a))
@@ -68,9 +68,6 @@ pokes-append m n a (b ∷ bs) cs =
 
 poke-fits : (m : Store) (a b : ℕ) (o : Option ℕ) → Fits m → Fits (poke m a b o)
 poke-fits m a b o fits = poke-frames m a b o ∙ fits ∙ ap (λ (l : List ℕ). 4096 * length l) (sym (poke-book m a b o))
-
-pub fits-pokes : (m : Store) (n a : ℕ) (bs : List ℕ) → Fits m → Fits (pokes m n a bs)
-fits-pokes m n a bs fits = pokes-length m n a bs ∙ fits ∙ ap (λ (l : List ℕ). 4096 * length l) (sym (pokes-book m n a bs))
 
 pub sized-pokes : (m : Store) (n a : ℕ) (bs : List ℕ) → sized (pokes m n a bs) ≡ sized m
 sized-pokes m n a bs = sized-same (pokes m n a bs) m (pokes-length m n a bs) (ap length (pokes-book m n a bs))

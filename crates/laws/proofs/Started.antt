@@ -10,7 +10,7 @@ use Rattle.spec.proofs.Bools.{split}
 use Rattle.spec.specs.Tests.{_below_, within, ascii}
 use Rattle.spec.specs.Numbers.{utzero, uaddrtop, pageUp}
 use Rattle.spec.specs.Name.{elem, cut, padded, kstrcpy}
-use Rattle.spec.specs.Book.{zeroSegment, stack, bssSegment, permAt, piecesOf, pageCount}
+use Rattle.spec.specs.Book.{zeroSegment, stack, bssSegment, permAt, piecesOf}
 use Rattle.spec.specs.Elf.{Segment, segmentsOf}
 use Rattle.spec.specs.Exec.{userSegment, imageSegments, imageBss, imageError, startPieces, kept}
 use Rattle.spec.specs.World.{procOf}
@@ -18,17 +18,17 @@ use Rattle.spec.specs.declared.UserSegment.{UserSegment}
 use Rattle.laws.proofs.Lists.{Each, each-append}
 use Rattle.laws.proofs.Record.{WholeProc}
 use Rattle.laws.proofs.Shape.{imageEnd}
-use Rattle.laws.proofs.Pieces.{Pieces, tail-same, perm-each, count-append}
+use Rattle.laws.proofs.Pieces.{Pieces, tail-same, perm-each}
 use Rattle.laws.proofs.OwnPieces.{image-apart, bss-stack-apart, bss-stack-low, swap-stack, shape-pieces, shape-between}
 use Rattle.laws.proofs.Accepted.{nonEmpty, accepted-means, image-recorded, image-shape}
 use Rattle.laws.proofs.Headers.{AllLoad, elf-loads}
 
 -- ---- its record
 
-pub padded-long : (s : List ℕ) → length s ≤ 28 → length (padded s) ≡ 28
+padded-long : (s : List ℕ) → length s ≤ 28 → length (padded s) ≡ 28
 padded-long s l = omega (arith, length-append s (replicate (28 - length s) 0), length-replicate {A = ℕ} (28 - length s) 0)
 
-pub cut-low : (s : List ℕ) (n : ℕ) → cut s n ≤ n
+cut-low : (s : List ℕ) (n : ℕ) → cut s n ≤ n
 cut-low s zero = omega arith
 cut-low s (suc n) = let h = cut-low s n in split (within 128 192 (getD s (suc n) 0)) (λ q. rw q (omega arith)) (λ q. rw q (omega arith))
 
@@ -79,11 +79,3 @@ start-pieces image name e a =
 pub start-between : (image : List ℕ) → imageError image ≡ 0 → (a q : ℕ) → permAt (startPieces image) a ≡ some q → (utzero ≤ a) × (a < uaddrtop)
 start-between image e a q f =
     shape-between (procOf image []) (imageSegments image) (image-shape image [] e) a q (sym (start-pieces image [] e a) ∙ f)
-
--- and are equally many
-pub start-count : (image name : List ℕ) → imageError image ≡ 0 → pageCount (startPieces image) ≡ pageCount (piecesOf (procOf image name))
-start-count image name e =
-    let x = count-append (imageSegments image) (bssSegment (imageBss image) ∷ stack ∷ []) in
-    let y = count-append (imageSegments image) (stack ∷ bssSegment (imageBss image) ∷ []) in
-    let z = ap pageCount (shape-pieces (procOf image name) (imageSegments image) (image-shape image name e)) in
-    omega arith

@@ -14,7 +14,7 @@ use Rattle.pagealloc.specs.Contents.{fileAt}
 use Rattle.laws.proofs.Headers.{Loads, AllLoad}
 
 -- below all segments there is no file byte
-pub file-low : (e : ℕ) (gs : List Segment) → AllLoad e gs → (x : ℕ) → x < e → fileByte gs x ≡ 0
+file-low : (e : ℕ) (gs : List Segment) → AllLoad e gs → (x : ℕ) → x < e → fileByte gs x ≡ 0
 file-low e [] l x h = refl
 file-low e (g ∷ gs) l x h =
     let o = l .0 .ordered in

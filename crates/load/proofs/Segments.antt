@@ -84,7 +84,7 @@ kept-above bss e (g ∷ gs) l =
     weaken [] b = tt
     weaken (u ∷ us) b = let o = l .0 .ordered in let x = b .0 in (omega arith, weaken us (b .1))
 
-pub image-pages : (bss : VirtRange) (e : ℕ) (gs : List Segment) → AllLoad e gs → layoutOk gs ≡ true → pagesOf (pageBytes (fileByte gs)) (kept bss gs) ≡ segmentPages bss gs
+image-pages : (bss : VirtRange) (e : ℕ) (gs : List Segment) → AllLoad e gs → layoutOk gs ≡ true → pagesOf (pageBytes (fileByte gs)) (kept bss gs) ≡ segmentPages bss gs
 unfolding segmentPages
 image-pages bss e [] l y = refl
 image-pages bss e (g ∷ []) l y =

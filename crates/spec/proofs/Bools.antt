@@ -4,7 +4,7 @@ use native.Mathlib.Omega.{arith}
 use native.Mathlib.Nat.{not-suc-le-zero}
 use mathlib.Core.Path.{_≡_, refl, sym, _∙_}
 use mathlib.Core.Bool.{Bool, true, false, not, _&&_, _||_}
-use mathlib.Core.List.{List, [], _∷_, _++_}
+use mathlib.Core.List.{List, [], _∷_}
 use lib.Dec.{eqb, ltb}
 use lib.ListN.{length, getD}
 pub use borrow.Author.Tests.{not-true, not-false as un-not}
@@ -97,7 +97,3 @@ all-at t d (x ∷ l) e (suc k) h = all-at t d l (both (t x) (all t l) e .1) k (o
 pub all-test : {A : Type 0} (t : A → Bool) (d : A) (l : List A) → ((k : ℕ) → k < length l → t (getD l k d) ≡ true) → all t l ≡ true
 all-test t d [] f = refl
 all-test t d (x ∷ l) f = and-test (t x) (all t l) (f 0 (omega arith)) (all-test t d l (λ k h. f (suc k) (omega arith)))
-
-pub all-app : {A : Type 0} (t : A → Bool) (x y : List A) → all t x ≡ true → all t y ≡ true → all t (x ++ y) ≡ true
-all-app t [] y e f = f
-all-app t (g ∷ x) y e f = let p = both (t g) (all t x) e in rw (p .0, all-app t x y (p .1) f)
