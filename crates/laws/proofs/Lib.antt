@@ -18,11 +18,12 @@ pub mod OwnPieces
 pub mod Owned
 pub mod Exact
 pub mod Facts
--- Theorems of the definitions alone.
-pub mod Begins
+-- Of images: checks and headers, and what an accepted image records and a start makes of it.
 pub mod Checks
 pub mod Headers
 pub mod Accepted
 pub mod Started
+-- Theorems of the definitions alone.
+pub mod Begins
 pub mod Turns
 pub mod Buffers

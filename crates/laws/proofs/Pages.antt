@@ -1,4 +1,4 @@
--- The pages of pieces: how many, no page twice, and the cell that they give an address.
+-- The pages of pieces: no page twice, and the cell that they give an address.
 use Prim.Native.Nat.{ℕ, zero, suc, _+_, _*_, _-_, _/_, _%_, _≤_, _<_}
 use native.Mathlib.Omega.{arith}
 use mathlib.Core.Path.{_≡_, refl, sym, ap, ap₂, _∙_}

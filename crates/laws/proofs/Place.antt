@@ -72,7 +72,7 @@ module _ (book : List ℕ) (k w : ℕ) (low : k < length book) (was : getD book 
       go false x true y = absurd (apart i (at-k j (eqb-true j k y) b) (off-k i (eqb-false i k x) a))
       go false x false y = once p q i j (off-k i (eqb-false i k x) a) (off-k j (eqb-false j k y) b)
 
--- ---- one page in a free frame (for loops, which place a page a turn)
+-- ---- one page in a free frame
 
 -- a page that a word can name and that fills a frame
 pub record Ready (p : Page) : Type 0 where
