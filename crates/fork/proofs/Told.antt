@@ -13,7 +13,7 @@ use Rattle.laws.proofs.Frame.{frame-found}
 use Rattle.laws.proofs.Place.{frame-else}
 use Rattle.sound.specs.Table.{Ready}
 use Rattle.book.specs.Lent.{foundOf}
-use Rattle.pagealloc.proofs.Placing.{found-at}
+use Rattle.book.proofs.Searches.{found-at}
 use Rattle.fork.specs.Lent.{Tells}
 
 pub tells-first : (book tags bases table : List ℕ) (n : ℕ) → Ready book tags bases table → Tells book tags bases table n

@@ -16,6 +16,7 @@ use Rattle.spec.specs.World.{State}
 use Rattle.spec.specs.History.{Begin}
 use Rattle.spec.specs.declared.Proc.{Proc}
 use Rattle.spec.specs.declared.Procs.{Procs}
+use Rattle.laws.proofs.Lists.{getD-same}
 use Rattle.laws.proofs.Record.{typed-whole}
 use Rattle.laws.proofs.OwnPieces.{zero-pieces}
 use Rattle.laws.proofs.Facts.{facts-sound}
@@ -26,11 +27,6 @@ noProcs = record { all = replicate 16 zeroProc }
 
 abbrev pub blank : ℕ → List ℕ → State
 blank n frames = record { store = record { frames = frames; book = replicate n 0 }; procs = noProcs }
-
-getD-same : {A : Type 0} (n k : ℕ) (d : A) → getD (replicate n d) k d ≡ d
-getD-same zero k d = refl
-getD-same (suc n) zero d = refl
-getD-same (suc n) (suc k) d = getD-same n k d
 
 zero-book : (n : ℕ) → Sound (replicate n 0) noProcs
 zero-book n = record {

@@ -10,6 +10,7 @@ use Rattle.spec.specs.Numbers.{pageDown, bytesFrom, pageBytes, zeroPage}
 use Rattle.spec.specs.Book.{frameOf, bookPerm}
 use Rattle.spec.specs.Frames.{Store, Mem, cellIn, memOf, frameBytes}
 use Rattle.spec.specs.Access.{byteOf}
+use Rattle.laws.proofs.Lists.{getD-same}
 use Rattle.laws.proofs.Frame.{Fits, frame-found, frame-perm, frame-unmapped, perm-same}
 
 -- ---- by a rule, and zeros
@@ -38,12 +39,7 @@ length-zero a = length-replicate {A = ℕ} 4096 0
 
 pub zero-byte : (a i : ℕ) → getD (zeroPage a) i 0 ≡ 0
 unfolding zeroPage
-zero-byte a i = zeros 4096 i
-  where
-    zeros : (k i : ℕ) → _≡_ {A = ℕ} (getD (replicate k 0) i 0) 0
-    zeros zero i = refl
-    zeros (suc k) zero = refl
-    zeros (suc k) (suc i) = zeros k i
+zero-byte a i = getD-same 4096 i 0
 
 -- ---- in a frame
 

@@ -6,7 +6,7 @@ use native.Mathlib.Numerals.{add-one}
 use mathlib.Core.Path.{_≡_, refl, sym, ap, _∙_}
 use mathlib.Core.List.{List, [], _∷_, _++_, append-assoc, append-nil}
 use lib.Dec.{ltb}
-use lib.ListN.{length, getD, set, take, drop, length-append, length-take, length-drop, take-append-drop, List·getD-append}
+use lib.ListN.{length, getD, set, take, drop, length-append, length-take, length-drop, take-append-drop, List·getD-append, replicate}
 use lib.Seq.{sets, sets-eq, length-take-le, take-at, drop-at, drop-drop, getD-append-add, getD-take, getD-drop, set-split}
 use borrow.Author.Tests.{ltb-true, ltb-false}
 use borrow.Rule.Slice.PartMut.{putMid}
@@ -34,6 +34,12 @@ pub each-at : {A : Type 0} (P : A → Type 0) (d : A) (xs : List A) → Each P x
 each-at P d [] e i h = absurd (not-suc-le-zero h)
 each-at P d (x ∷ xs) e zero h = e .0
 each-at P d (x ∷ xs) e (suc i) h = each-at P d xs (e .1) i (le-of-suc-le-suc h)
+
+-- a list of one element has it at each place, and is read as it past its end
+pub getD-same : {A : Type 0} (n k : ℕ) (d : A) → getD (replicate n d) k d ≡ d
+getD-same zero k d = refl
+getD-same (suc n) zero d = refl
+getD-same (suc n) (suc k) d = getD-same n k d
 
 -- ---- what put is
 

@@ -14,7 +14,7 @@ use Rattle.laws.proofs.Pokes.{pokes-append, pokes-page}
 use Rattle.spec.specs.declared.Found.the-variants.{At, Nothing}
 use Rattle.book.specs.Lent.{store, foundOf}
 use Rattle.pagealloc.specs.Lent.{Mapped}
-use Rattle.pagealloc.proofs.Placing.{found-at}
+use Rattle.book.proofs.Searches.{found-at}
 use Rattle.pagealloc.proofs.Copying.{not-missing}
 
 -- the frame of an address's page

@@ -21,6 +21,7 @@ use Rattle.spec.proofs.Words.{used-word}
 use Rattle.laws.proofs.Lists.{by-order}
 use Rattle.laws.proofs.Place.{place-none}
 use Rattle.book.specs.Lent.{store, foundOf}
+use Rattle.book.proofs.Searches.{found-at, found-none}
 use Rattle.pagealloc.specs.Lent.{Passed}
 
 -- ---- one page
@@ -35,15 +36,6 @@ unfolding zeroPage
 zero-same page = refl
 
 -- ---- the search from a frame on
-
--- what the search answers
-pub found-at : (o : Option ℕ) (k : ℕ) → At k ≡ foundOf o → o ≡ some k
-found-at none k e = absurd (let z : _≡_ {A = ℕ} 0 1 = cc in omega arith)
-found-at (some j) k e = cc
-
-pub found-none : (o : Option ℕ) → Nothing ≡ foundOf o → o ≡ none
-found-none none e = refl
-found-none (some j) e = absurd (let z : _≡_ {A = ℕ} 0 1 = cc in omega arith)
 
 -- where nothing from c on passes, the highest is below c
 highest-from : (t : ℕ → Bool) (b c : ℕ) → c ≤ b → ((k : ℕ) → c ≤ k → k < b → t k ≡ false) → highest t b ≡ highest t c

@@ -8,7 +8,7 @@ use Rattle.spec.specs.Book.{frameOf}
 use Rattle.spec.specs.Frames.{hold, frameBytes}
 use Rattle.laws.proofs.Frame.{frame-found}
 use Rattle.book.specs.Lent.{store}
-use Rattle.pagealloc.proofs.Placing.{found-at}
+use Rattle.book.proofs.Searches.{found-at}
 use Rattle.pagealloc.proofs.Copying.{not-missing}
 use borrow.Author.Needs.{needs}
 use Rattle.pagealloc.proofs.place.hold_found.Statement.{statement}
