@@ -4,7 +4,6 @@
 ghost use mathlib.Core.Path.{_≡_};
 ghost use Prim.Native.Nat.{_+_, _-_, _*_, _/_, _^_, _≤_, _<_};
 ghost use lib.ListN.{take};
-ghost use Rattle.spec.specs.Tests.{within};
 ghost use Rattle.spec.specs.Numbers.{pageDown, pageUp};
 ghost use Rattle.spec.specs.Book.{range, pageCount};
 ghost use Rattle.mem.specs.Rounding.{roundedUp};
@@ -81,13 +80,6 @@ pub fn size(r: spec::VirtRange) -> u64
     ensures { λ n. ⌜ n ≡ r .end - r .start ⌝ }
 {
     r.end - r.start
-}
-
-// `VirtRange::contains`.
-pub fn contains(r: spec::VirtRange, addr: u64) -> bool
-    ensures { λ b. ⌜ b ≡ within (r .start) (r .end) addr ⌝ }
-{
-    !(addr < r.start) & (addr < r.end)
 }
 
 // How many whole pages a range has; one that ends before it starts has none.
