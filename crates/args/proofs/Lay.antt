@@ -1,11 +1,10 @@
 -- Strings and pointers laid one behind the other into a buffer.
 use Prim.Native.Nat.{ℕ, _+_, _*_, _-_, _/_, _%_, _^_, _≤_, _<_}
 use native.Mathlib.Omega.{arith}
-use native.Mathlib.Numerals.{add-one}
 use mathlib.Core.Path.{_≡_, sym, ap, _∙_}
-use mathlib.Core.List.{List, [], _∷_, _++_, append-nil}
+use mathlib.Core.List.{List, [], _∷_, _++_}
 use lib.ListN.{length, getD, set, take, drop, length-append, length-drop, drop-of-length-le}
-use lib.Seq.{paste, paste-suc, take-all, append-snoc, drop-drop, length-take-le}
+use lib.Seq.{append-snoc, drop-drop, length-take-le}
 use borrow.Rule.Slice.PartMut.{putMid}
 use Rattle.spec.specs.Numbers.{leBytes}
 use Rattle.spec.specs.Frames.{put}
@@ -13,18 +12,6 @@ use Rattle.spec.specs.Exec.{argsOf, strings}
 use Rattle.laws.proofs.Lists.{put-nil, put-one, put-append, put-part, length-put}
 use Rattle.args.specs.Sizes.{pointersBy}
 use Rattle.args.proofs.Scan.{next}
-
--- ---- a list that goes over another element by element, and has gone over one of its length
-
-pub paste-next : (d s : List ℕ) (i : ℕ) → i < length d → i < length s → set (paste d 0 s i) i (getD s i 0) ≡ paste d 0 s (i + 1)
-paste-next d s i hd hs =
-    let e : 0 + i ≡ i = omega arith in
-    ap (λ (k : ℕ). set (paste d 0 s i) k (getD s i 0)) (sym e) ∙ paste-suc d 0 s i 0 (omega arith) hs ∙ ap (paste d 0 s) (sym (add-one i))
-
-pub paste-whole : (d s : List ℕ) (i : ℕ) → length d ≡ length s → length s ≤ i → paste d 0 s i ≡ s
-paste-whole d s i e h =
-    let k : length d ≤ 0 + i = omega arith in
-    rw (take-all i s h, drop-of-length-le d k) (append-nil s)
 
 -- ---- strings
 

@@ -1,18 +1,19 @@
 -- Where a push goes: its room, its two ranges and its registers, by the sizes of arguments.
 use Prim.Native.Nat.{ℕ, _+_, _*_, _-_, _/_, _≤_, _<_}
 use native.Mathlib.Omega.{arith}
-use mathlib.Core.Path.{_≡_, refl, sym, ap, ap₂, _∙_}
-use mathlib.Core.Bool.{Bool, true, false}
-use mathlib.Core.List.{List, [], _∷_}
+use mathlib.Core.Path.{_≡_, sym, ap, ap₂, _∙_}
+use mathlib.Core.Bool.{true, false}
+use mathlib.Core.List.{List}
 use lib.Dec.{leb}
-use lib.ListN.{length, take, length-append}
+use lib.ListN.{length, take}
 use lib.Seq.{take-append-seam}
 use borrow.Author.Tests.{ltb-false, leb-true, leb-false, lt-ltb, le-ltb}
-use Rattle.spec.specs.Tests.{_above_, _⇒_else_, any, has, sum}
-use Rattle.spec.specs.Numbers.{ustktop, ustksize, argLimit, leBytes}
+use Rattle.spec.specs.Tests.{sum}
+use Rattle.spec.specs.Numbers.{ustktop, ustksize, argLimit}
 use Rattle.spec.specs.Frames.{put}
-use Rattle.spec.specs.Exec.{argsOf, strings, stackSize, argsError, stringsAt, argvAt, registers, pointers, belowZero}
+use Rattle.spec.specs.Exec.{argsOf, strings, argsError, stringsAt, argvAt, registers, belowZero}
 use Rattle.spec.proofs.Bools.{split}
+use Rattle.spec.proofs.Args.{args-means}
 use Rattle.args.specs.Sizes.{belowZeroBy, argvBy, registersBy}
 use Rattle.args.proofs.Cut.{cut-count, cut-size}
 
@@ -51,39 +52,20 @@ module _ (bytes lengths : List ℕ) (fit : sum lengths ≡ length bytes) where
 
 -- ---- arguments that pass
 
-chain : (a b : Bool) → _≡_ {A = ℕ} (a ⇒ 32 else b ⇒ 33 else 0) 0 → b ≡ false
-chain true b e = absurd (omega arith)
-chain false true e = absurd (omega arith)
-chain false false e = refl
-
--- take at most a quarter of the stack
-pub passed-size : (args : List (List ℕ)) → argsError args ≡ 0 → stackSize (length (strings args)) (length args) ≤ argLimit
-passed-size args e = ltb-false argLimit (stackSize (length (strings args)) (length args)) (chain (any (has 0) args) (stackSize (length (strings args)) (length args) above argLimit) e)
-
-pub length-pointers : (args : List (List ℕ)) (s : ℕ) → length (pointers s args) ≡ 8 * (length args + 1)
-length-pointers [] s = refl
-length-pointers (a ∷ args) s =
-    let e = length-append (leBytes 8 s) (pointers (s + length a + 1) args) in
-    let r = length-pointers args (s + length a + 1) in
-    omega arith
-
--- so that a buffer of that size holds the strings, and the pointers
+-- a buffer of a quarter of the stack holds the strings
 pub passed-strings : (args : List (List ℕ)) → argsError args ≡ 0 → length (strings args) ≤ argLimit
-passed-strings args e = omega (arith, passed-size args e)
+passed-strings args e = omega (arith, args-means args e .1)
 
-pub passed-pointers : (args : List (List ℕ)) (s : ℕ) → argsError args ≡ 0 → length (pointers s args) ≤ argLimit
-passed-pointers args s e = omega (arith, passed-size args e, length-pointers args s)
-
--- and that a push below a top of that height or more stays below it: pointers first, then strings up to top
+-- and a push below a top of that height or more stays below it: pointers first, then strings up to top
 pub record Pushed (top : ℕ) (args : List (List ℕ)) : Type 0 where
   pub above-zero : belowZero top args ≡ false
   pub low : top - argLimit ≤ argvAt top args
   pub apart : argvAt top args + 8 * (length args + 1) ≤ stringsAt top args
   pub high : stringsAt top args + length (strings args) ≡ top
 
-pub passed-places : (top : ℕ) (args : List (List ℕ)) → argsError args ≡ 0 → argLimit ≤ top → Pushed top args
+passed-places : (top : ℕ) (args : List (List ℕ)) → argsError args ≡ 0 → argLimit ≤ top → Pushed top args
 passed-places top args e h =
-    let room = passed-size args e in
+    let room = args-means args e .1 in
     record {
       above-zero = le-ltb (stringsAt top args / 8 * 8) (8 * (length args + 1)) (omega arith);
       low = omega arith;

@@ -8,9 +8,8 @@ use native.Mathlib.Omega.{arith}
 use lib.ListN.{length, drop, length-drop}
 use lib.Seq.{length-take-le}
 use borrow.Author.Tests.{ne-eqb}
-use Rattle.spec.specs.Tests.{_is_, _isnt_, _below_, _above_, _⇒_else_}
-use Rattle.spec.specs.Numbers.{utzero, limit, pageUp}
-use Rattle.spec.specs.Book.{range}
+use Rattle.spec.specs.Tests.{_is_, _below_, _above_, _⇒_else_}
+use Rattle.spec.specs.Numbers.{utzero, limit}
 use Rattle.spec.specs.Elf.{Segment, phdrAt}
 use Rattle.spec.specs.Exec.{layoutOk, bssOf}
 use Rattle.elf.specs.Reader.{Checked, CheckedLoad, loadOf}

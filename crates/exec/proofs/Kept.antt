@@ -1,25 +1,25 @@
 -- Recorded segments: one after another, without empty ones, up to fifteen.
 -- Assumes nothing.
-use mathlib.Core.Path.{_≡_, refl, sym, ap, ap₂, _∙_}
-use mathlib.Core.Bool.{Bool, true, false}
+use mathlib.Core.Path.{_≡_, refl, sym, ap, _∙_}
+use mathlib.Core.Bool.{true}
 use mathlib.Core.List.{List, [], _∷_, _++_, append-nil, append-assoc}
-use Prim.Native.Nat.{ℕ, zero, suc, _+_, _-_, _<_, _≤_}
+use Prim.Native.Nat.{ℕ, suc, _+_, _-_, _<_, _≤_}
 use native.Mathlib.Omega.{arith}
-use lib.ListN.{length, take, set, replicate, length-append, length-take}
-use lib.Seq.{take-all, take-append-le, set-append-seam, length-take-le}
+use lib.ListN.{length, take, set, replicate, length-append}
+use lib.Seq.{take-all, take-append-le, set-append-seam}
 use borrow.Author.Tests.{lt-ltb, le-ltb}
 use Rattle.spec.proofs.Bools.{split}
-use Rattle.spec.specs.Tests.{_is_, _below_, _⇒_else_}
+use Rattle.spec.specs.Tests.{_below_}
 use Rattle.spec.specs.Book.{zeroSegment}
 use Rattle.spec.specs.Elf.{Segment}
-use Rattle.spec.specs.Exec.{userSegment}
+use Rattle.spec.specs.Exec.{kept}
 use Rattle.spec.specs.declared.VirtRange.{VirtRange}
 use Rattle.spec.specs.declared.UserSegment.{UserSegment}
 use Rattle.laws.proofs.Lists.{by-order}
 use Rattle.elf.specs.declared.Load.{Load}
 use Rattle.elf.specs.declared.Load.the-variants.{Skip, Segment as Taken}
-use Rattle.elf.proofs.Walk.{segmentIn, front}
-use Rattle.exec.specs.Plan.{pagesIn, kept, pushed, recordedWith, recorded}
+use Rattle.elf.proofs.Walk.{front}
+use Rattle.exec.specs.Plan.{pagesIn, pushed, recordedWith, recorded}
 use Rattle.exec.specs.declared.Recorded.{Recorded}
 
 -- what one header adds

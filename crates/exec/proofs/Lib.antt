@@ -1,4 +1,3 @@
 pub mod Fitted
 pub mod Kept
-pub mod Pages
 pub mod Planned

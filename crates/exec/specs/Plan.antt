@@ -1,14 +1,14 @@
 -- What the layout of an image comes to: where its segments and its bss go, and how many pages a start takes.
 -- Assumes nothing.
 use Prim.Native.Nat.{ℕ, _+_, _-_}
-use mathlib.Core.Bool.{Bool, true, false, not, _&&_, _||_}
-use mathlib.Core.List.{List, [], _∷_, _++_, map}
+use mathlib.Core.Bool.{false, not, _&&_, _||_}
+use mathlib.Core.List.{List, [], _∷_, _++_}
 use lib.ListN.{length, take, set, replicate}
-use Rattle.spec.specs.Tests.{_is_, _isnt_, _below_, _above_, _⇒_else_, filter}
+use Rattle.spec.specs.Tests.{_is_, _isnt_, _below_, _above_, _⇒_else_}
 use Rattle.spec.specs.Numbers.{utzero, limit, pageUp, pageDown}
 use Rattle.spec.specs.Book.{range, segment, zeroSegment, stack, pageCount}
-use Rattle.spec.specs.Elf.{entry, elfError, Segment, segmentsOf}
-use Rattle.spec.specs.Exec.{layoutOk, bssOf, userSegment, imageSegments, imageBss, imageError, startPieces}
+use Rattle.spec.specs.Elf.{entry, elfError, Segment}
+use Rattle.spec.specs.Exec.{layoutOk, bssOf, imageSegments, imageBss, imageError, startPieces}
 use Rattle.spec.specs.declared.VirtRange.{VirtRange}
 use Rattle.spec.specs.declared.UserSegment.{UserSegment}
 use Rattle.elf.specs.declared.Segment.{Segment as Held}
@@ -51,10 +51,6 @@ fits before gs = (not (before .closed) || length gs is 0) && layoutOk gs ⇒ Fit
 -- a segment's pages, by a bss
 abbrev pub pagesIn : VirtRange → Held → UserSegment
 pagesIn bss g = segment (pageDown (g .vaddr)) (g .perm is 3 ⇒ pageUp (bss .start) else pageUp (g .vaddr + g .memsz)) (g .perm)
-
--- those of all segments, without empty ones
-abbrev pub kept : VirtRange → List Segment → List UserSegment
-kept bss gs = filter (λ s. s .range .start below s .range .end) (map (userSegment bss) gs)
 
 -- one more: dropped if it is empty, and only counted behind fifteen
 abbrev pub pushed : Recorded → UserSegment → Recorded

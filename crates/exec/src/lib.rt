@@ -10,10 +10,10 @@ ghost use Rattle.spec.specs.Numbers.{utzero, limit};
 ghost use Rattle.spec.specs.Book.{range, pageCount, bssSegment};
 ghost use Rattle.spec.specs.Elf.{elfError, phoff, phnum, segmentsOf};
 ghost use Rattle.spec.specs.Elf.{phdrAt};
-ghost use Rattle.spec.specs.Exec.{layoutOk, imageBss};
+ghost use Rattle.spec.specs.Exec.{layoutOk, kept, imageBss};
 ghost use Rattle.elf.specs.Reader.{CheckedLoad, loadOf, said, parsed};
 ghost use Rattle.elf.specs.declared.Parsed;
-ghost use Rattle.exec.specs.Plan.{fitOf, nothing, fits, pagesIn, kept, pushed, recordedWith, recorded, refusedPlan, planOf};
+ghost use Rattle.exec.specs.Plan.{fitOf, nothing, fits, pagesIn, pushed, recordedWith, recorded, refusedPlan, planOf};
 use elf::Elf;
 use elf::Load;
 use elf::Parsed;
@@ -200,32 +200,6 @@ fn segments(image: &[u8], h: Elf, bss: VirtRange) -> Recorded
     seen
 }
 
-// How many whole pages a range has; one that ends before it starts has none.
-fn pages_in(r: VirtRange) -> u64
-    ensures { λ n. ⌜ (n ≡ (r .end - r .start) / 4096) × (n ≤ 2 ^ 52) ⌝ }
-{
-    if r.start >= r.end {
-        return 0;
-    }
-    (r.end - r.start) / spec::PAGE_SIZE_4K
-}
-
-// How many pages the first n of a record's segments have.
-pub fn page_count(segments: [UserSegment; 16], n: usize) -> u64
-    requires { ⌜ n ≤ 16 ⌝ }
-    ensures { λ r. ⌜ (r ≡ pageCount (take n segments)) × (r ≤ 2 ^ 52 * n) ⌝ }
-{
-    let mut pages = 0;
-    let mut i = 0;
-    while i < n {
-        let u = segments[i];
-        let r = u.range;
-        pages += pages_in(r);
-        i += 1;
-    }
-    pages
-}
-
 // A plan that is refused: zeros but for its numbers.
 fn refused(number: u64, elf: u64) -> Plan
     ensures { λ r. ⌜ r ≡ refusedPlan number elf ⌝ }
@@ -263,8 +237,8 @@ fn fill(image: &[u8], h: Elf, bss: VirtRange) -> Plan
         start: mem::page_up(bss.start),
         end: bss.end,
     };
-    let pages = page_count(segments, count)
-        + pages_in(behind)
+    let pages = mem::page_count(segments, count)
+        + mem::pages(behind)
         + spec::USTKSIZE / spec::PAGE_SIZE_4K;
     segments[count] = UserSegment {
         range: VirtRange {

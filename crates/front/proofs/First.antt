@@ -11,9 +11,10 @@ use Rattle.spec.specs.Tests.{_is_, _below_, _⇒_else_, _orElse_}
 use Rattle.spec.specs.Book.{valid}
 use Rattle.spec.specs.Frames.{sized}
 use Rattle.spec.specs.World.{State, sound, taken}
-use Rattle.spec.proofs.Bools.{both, split, clash, not-true, within-means}
+use Rattle.spec.proofs.Bools.{both, clash, not-true, within-means}
 use Rattle.spec.proofs.Chain.{here, past, is-through, isnt-through, not-holds, not-fails}
 use Rattle.book.specs.Lent.{store}
+use Rattle.laws.proofs.Checks.{or-else}
 use Rattle.front.specs.Numbers.{numberError, plainError, beginError, forkError}
 
 -- ---- in code: a test b of what the specification calls b′ gives its number, or the next is looked for
@@ -54,9 +55,6 @@ none-here : (b : Bool) (k e : ℕ) → (k is 0) ≡ false → (not b ⇒ k else 
 none-here true k e z h = (refl, h)
 none-here false k e z h = absurd (let w : (k is 0) ≡ true = rw h in let v : false ≡ true = sym z ∙ w in let u : _≡_ {A = ℕ} 0 1 = cc in omega arith)
 
-none-first : (a b : ℕ) → (a orElse b) ≡ 0 → (a ≡ 0) × (b ≡ 0)
-none-first a b h = split (eqb a 0) (λ q. (eqb-true a 0 q, rw q at h)) (λ q. let z : a ≡ 0 = rw q at h in absurd (let w : (a is 0) ≡ true = rw z in let v : false ≡ true = sym q ∙ w in let u : _≡_ {A = ℕ} 0 1 = cc in omega arith))
-
 -- sizes, the book and the number are as they should be
 pub record Passed (s : State) (n : ℕ) (fits : Bool) : Type 0 where
   pub sizes : sized (s .store) ≡ true
@@ -77,14 +75,14 @@ number-none s n fits e =
 pub plain-none : (s : State) (n : ℕ) (fits : Bool) → plainError s n fits ≡ 0 → Passed s n fits × (taken s n ≡ true)
 unfolding plainError
 plain-none s n fits e =
-    let p = none-first (numberError s n fits) _ e in
+    let p = or-else (numberError s n fits) _ e in
     (number-none s n fits (p .0), none-here (taken s n) 4 0 refl (p .1) .0)
 
 -- or the number of a new process is free
 pub begin-none : (s : State) (n : ℕ) (fits : Bool) → beginError s n fits ≡ 0 → Passed s n fits × (not (taken s n) ≡ true)
 unfolding beginError
 begin-none s n fits e =
-    let p = none-first (numberError s n fits) _ e in
+    let p = or-else (numberError s n fits) _ e in
     (number-none s n fits (p .0), none-here (not (taken s n)) 5 0 refl (p .1) .0)
 
 -- or, of a fork, both
@@ -97,7 +95,7 @@ pub record Forks (s : State) (n child : ℕ) : Type 0 where
 pub fork-none : (s : State) (n child : ℕ) → forkError s n child ≡ 0 → Forks s n child
 unfolding forkError
 fork-none s n child e =
-    let p = none-first (numberError s n true) _ e in
+    let p = or-else (numberError s n true) _ e in
     let p3 = none-here (valid child) 3 _ refl (p .1) in
     let p4 = none-here (taken s n) 4 _ refl (p3 .1) in
     let p5 = none-here (not (taken s child)) 5 0 refl (p4 .1) in

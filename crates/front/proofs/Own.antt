@@ -11,20 +11,15 @@ use Rattle.spec.specs.Sound.{Shape}
 use Rattle.spec.specs.Frames.{Page, pagesOf}
 use Rattle.spec.specs.declared.UserSegment.{UserSegment}
 use Rattle.spec.specs.declared.Proc.{Proc}
-use Rattle.laws.proofs.Apart.{count-append}
-use Rattle.laws.proofs.Pages.{length-pages, pages-append}
+use Rattle.spec.proofs.Free.{length-pages}
+use Rattle.laws.proofs.Pages.{pages-append}
 use Rattle.laws.proofs.Shape.{shape-used}
+use Rattle.laws.proofs.Pieces.{count-append}
 
 -- ---- place by place
 
 pub take-more : (gs : List UserSegment) (i : ℕ) → i < length gs → take (i + 1) gs ≡ take i gs ++ getD gs i zeroSegment ∷ []
 take-more gs i h = rw (add-one, take-suc gs i zeroSegment)
-
-pub count-more : (gs : List UserSegment) (i n k : ℕ) → i < length gs → n ≡ pageCount (take i gs)
-    → k ≡ (getD gs i zeroSegment .range .end - getD gs i zeroSegment .range .start) / 4096 → n + k ≡ pageCount (take (i + 1) gs)
-count-more gs i n k h e f =
-    let one : pageCount (getD gs i zeroSegment ∷ []) ≡ k = (let z : k + 0 ≡ k = omega arith in rw (← f) z) in
-    ap₂ _+_ e (sym one) ∙ sym (ap pageCount (take-more gs i h) ∙ count-append (take i gs) (getD gs i zeroSegment ∷ []))
 
 pub count-last : (gs : List UserSegment) (i n k : ℕ) (g g′ : UserSegment) → length gs ≤ i → n ≡ pageCount (take i gs) → g ≡ g′ → k ≡ (g .range .end - g .range .start) / 4096 → n + k ≡ pageCount (gs ++ g′ ∷ [])
 count-last gs i n k g g′ h e same f =

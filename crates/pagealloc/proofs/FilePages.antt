@@ -6,9 +6,8 @@ use mathlib.Core.List.{List, _++_}
 use lib.ListN.{length, take, drop, getD, replicate, length-append, length-replicate, getD-replicate, length-drop, List·getD-append}
 use lib.Seq.{length-take-le, getD-take, getD-drop, getD-append-add, ext-getD}
 use Rattle.spec.specs.Numbers.{pageBytes, zeroPage}
-use Rattle.spec.proofs.Bools.{within-test}
+use Rattle.spec.proofs.Bools.{within-test, within-not}
 use Rattle.laws.proofs.Lists.{by-order}
-use Rattle.laws.proofs.Frame.{within-not}
 use Rattle.laws.proofs.Contents.{length-page, get-bytes, length-zero, zero-byte}
 use Rattle.pagealloc.specs.Contents.{padded, fileAt}
 use Rattle.pagealloc.proofs.Filled.{length-padded}

@@ -6,7 +6,7 @@ use mathlib.Core.List.{List, _++_, append-nil}
 use lib.ListN.{length, take, drop, drop-of-length-le, length-append, length-drop}
 use lib.Seq.{take-all, take-at}
 use borrow.Rule.Slice.PartMut.{putMid}
-use Rattle.book.proofs.Overwrite.{mix, mix-part}
+use Rattle.laws.proofs.Overwrite.{mix, mix-part}
 
 -- the page after all bytes of s
 pub all-held : (s page x : List ℕ) (i : ℕ) → i ≡ length s → x ≡ mix s page i → x ≡ s ++ drop (length s) page

@@ -12,6 +12,7 @@ use Rattle.spec.specs.Sound.{Sound}
 use Rattle.spec.specs.declared.Found.{Found}
 use Rattle.spec.specs.declared.Found.the-variants.{At, Nothing}
 use Rattle.spec.specs.declared.Procs.{Procs}
+use Rattle.laws.proofs.Lists.{getD-same}
 use Rattle.laws.proofs.Frame.{frame-found, once-means, frame-is}
 use Rattle.laws.proofs.Owned.{in-range}
 use Rattle.sound.specs.Plan.{owner, hits, nth, rank, Plan}
@@ -23,9 +24,7 @@ use Rattle.sound.proofs.Decides.{option-some, full-of}
 
 -- an empty table
 pub blank-zeros : (n t : ℕ) → getD {A = ℕ} (replicate n 0) t 0 ≡ 0
-blank-zeros zero t = refl
-blank-zeros (suc n) zero = refl
-blank-zeros (suc n) (suc t) = blank-zeros n t
+blank-zeros n t = getD-same n t 0
 
 -- what the pass leaves of a sound book
 pub ready : (ps : Procs) (tags bases : List ℕ) (total : ℕ) → Made ps tags bases total → total ≤ 1024

@@ -4,8 +4,8 @@ use Prim.Native.Nat.{ℕ, zero, suc, _+_, _-_, _%_, _<_, _≤_}
 use native.Mathlib.Omega.{arith}
 use native.Mathlib.Nat.{not-suc-le-zero, le-of-suc-le-suc}
 use mathlib.Core.Path.{_≡_, refl, sym, ap, _∙_}
-use mathlib.Core.Bool.{Bool, true, false}
-use mathlib.Core.Option.{Option, none, some}
+use mathlib.Core.Bool.{true, false}
+use mathlib.Core.Option.{none, some}
 use mathlib.Core.List.{List, [], _∷_, _++_, append-assoc}
 use lib.ListN.{length, getD, replicate, length-append, List·getD-append}
 use lib.Seq.{getD-at}
@@ -17,21 +17,17 @@ use Rattle.spec.specs.Sound.{ImageSegment, Shape}
 use Rattle.spec.specs.declared.UserSegment.{UserSegment}
 use Rattle.spec.specs.declared.Proc.{Proc}
 use Rattle.spec.proofs.Bools.{split, clash, within-means}
-use Rattle.laws.proofs.Lists.{by-order, Each, each-append}
+use Rattle.laws.proofs.Lists.{by-order, Each, each-append, each-at}
 use Rattle.laws.proofs.Record.{WholeProc, dead-zero}
 use Rattle.laws.proofs.Shape.{Image, imageEnd, Bss, shape-image, shape-bss}
-use Rattle.laws.proofs.Pieces.{Apart, outside-low, outside-high, perm-here, perm-there, perm-tail, image-apart, stack-bss-apart, stack-bss-low, shape-pieces}
+use Rattle.laws.proofs.Pieces.{outside-low, outside-high, perm-here, perm-there, Pieces, tail-same}
 use Rattle.laws.proofs.Exact.{some-none}
 use Rattle.laws.proofs.Facts.{Shaped}
+use Rattle.laws.proofs.OwnPieces.{zero-apart, image-apart, stack-bss-apart, stack-bss-low, shape-pieces}
 use Rattle.sound.specs.Plan.{seat, part}
 use Rattle.sound.proofs.Laying.{part-segment, part-bss}
 
 -- ---- what holds of each segment of a list
-
-pub each-at : (P : UserSegment → Type 0) (gs : List UserSegment) → Each P gs → (j : ℕ) → j < length gs → P (getD gs j zeroSegment)
-each-at P [] e j h = absurd (not-suc-le-zero h)
-each-at P (g ∷ gs) e zero h = e .0
-each-at P (g ∷ gs) e (suc j) h = each-at P gs (e .1) j (le-of-suc-le-suc h)
 
 pub each-made : (P : UserSegment → Type 0) (gs : List UserSegment) → ((j : ℕ) → j < length gs → P (getD gs j zeroSegment)) → Each P gs
 each-made P [] f = tt
@@ -51,18 +47,18 @@ perm-at (g ∷ gs) a q e =
     (λ i. let s : some (g .perm) ≡ some q = rw i at e in let w : g .perm ≡ q = cc in (0, omega arith, i, w))
     (λ i. let r = perm-at gs a q (rw i at e) in (suc (r .0), omega (arith, r .1), r .2, r .3))
 
-pub at-perm : (gs : List UserSegment) → Apart gs → (j a : ℕ) → j < length gs → inSegment a (getD gs j zeroSegment) ≡ true → permAt gs a ≡ some (getD gs j zeroSegment .perm)
+pub at-perm : (gs : List UserSegment) → Pieces gs → (j a : ℕ) → j < length gs → inSegment a (getD gs j zeroSegment) ≡ true → permAt gs a ≡ some (getD gs j zeroSegment .perm)
 at-perm [] d j a h i = absurd (not-suc-le-zero h)
 at-perm (g ∷ gs) d zero a h i = perm-here g gs a i
 at-perm (g ∷ gs) d (suc j) a h i =
     let r = at-perm gs (d .1) j a (le-of-suc-le-suc h) i in
-    split (inSegment a g) (λ k. some-none (permAt gs a) _ r (d .0 a k)) (λ k. perm-there g gs a k ∙ r)
+    split (inSegment a g) (λ k. some-none (permAt gs a) _ r (d .0 .apart a k)) (λ k. perm-there g gs a k ∙ r)
 
-pub at-one : (gs : List UserSegment) → Apart gs → (j k a : ℕ) → j < length gs → k < length gs → inSegment a (getD gs j zeroSegment) ≡ true → inSegment a (getD gs k zeroSegment) ≡ true → j ≡ k
+pub at-one : (gs : List UserSegment) → Pieces gs → (j k a : ℕ) → j < length gs → k < length gs → inSegment a (getD gs j zeroSegment) ≡ true → inSegment a (getD gs k zeroSegment) ≡ true → j ≡ k
 at-one [] d j k a h l x y = absurd (not-suc-le-zero h)
 at-one (g ∷ gs) d zero zero a h l x y = refl
-at-one (g ∷ gs) d zero (suc k) a h l x y = some-none (permAt gs a) _ (at-perm gs (d .1) k a (le-of-suc-le-suc l) y) (d .0 a x)
-at-one (g ∷ gs) d (suc j) zero a h l x y = some-none (permAt gs a) _ (at-perm gs (d .1) j a (le-of-suc-le-suc h) x) (d .0 a y)
+at-one (g ∷ gs) d zero (suc k) a h l x y = some-none (permAt gs a) _ (at-perm gs (d .1) k a (le-of-suc-le-suc l) y) (d .0 .apart a x)
+at-one (g ∷ gs) d (suc j) zero a h l x y = some-none (permAt gs a) _ (at-perm gs (d .1) j a (le-of-suc-le-suc h) x) (d .0 .apart a y)
 at-one (g ∷ gs) d (suc j) (suc k) a h l x y = ap suc (at-one gs (d .1) j k a (le-of-suc-le-suc h) (le-of-suc-le-suc l) x y)
 
 -- unused places hold nothing
@@ -73,9 +69,9 @@ perm-zeros : (k : ℕ) (gs : List UserSegment) (a : ℕ) → permAt (replicate k
 perm-zeros zero gs a = refl
 perm-zeros (suc k) gs a = perm-there zeroSegment (replicate k zeroSegment ++ gs) a (zero-holds a) ∙ perm-zeros k gs a
 
-apart-zeros : (k : ℕ) (gs : List UserSegment) → Apart gs → Apart (replicate k zeroSegment ++ gs)
+apart-zeros : (k : ℕ) (gs : List UserSegment) → Pieces gs → Pieces (replicate k zeroSegment ++ gs)
 apart-zeros zero gs d = d
-apart-zeros (suc k) gs d = (λ a i. clash (inSegment a zeroSegment) i (zero-holds a), apart-zeros k gs d)
+apart-zeros (suc k) gs d = (record { start = refl; end = refl; apart = λ a i. clash (inSegment a zeroSegment) i (zero-holds a) }, apart-zeros k gs d)
 
 -- ---- the parts of a record
 
@@ -124,11 +120,11 @@ seat-each : (P : UserSegment → Type 0) → P top → (g : UserSegment) → P g
 seat-each P t g e = split (g .perm is 0) (λ q. rw q t) (λ q. rw q e)
 
 pub each-part : (P : UserSegment → Type 0) → P top → (p : Proc) → length (p .segments) ≡ 16 → Each P (parts p) → (j : ℕ) → j < 17 → P (part p j)
-each-part P t p w e j h = rw (part-is p w j h) (seat-each P t (getD (parts p) j zeroSegment) (each-at P (parts p) e j (rw (parts-long p w) h)))
+each-part P t p w e j h = rw (part-is p w j h) (seat-each P t (getD (parts p) j zeroSegment) (each-at P zeroSegment (parts p) e j (rw (parts-long p w) h)))
 
 pub record Parts (p : Proc) : Type 0 where
   pub each : Each Part (parts p)
-  pub apart : Apart (parts p)
+  pub apart : Pieces (parts p)
   pub same : (a : ℕ) → permAt (parts p) a ≡ permAt (piecesOf p) a
 
 -- of a dead process's record
@@ -136,7 +132,7 @@ dead-parts : Parts zeroProc
 dead-parts = record {
   each = each-append Part (replicate 16 zeroSegment) (bssSegment (zeroProc .bss) ∷ []) (each-same Part zeroSegment zero-part 16)
       (record { ordered = omega arith; high = omega arith; start-page = refl; end-page = refl; low = λ h. absurd (omega arith) }, tt);
-  apart = apart-zeros 16 (bssSegment (zeroProc .bss) ∷ []) (λ a i. refl, tt);
+  apart = apart-zeros 16 (bssSegment (zeroProc .bss) ∷ []) zero-apart;
   same = λ a. perm-zeros 16 (bssSegment (zeroProc .bss) ∷ []) a;
 }
 
@@ -155,7 +151,7 @@ module _ (p : Proc) (image : List UserSegment) (h : Shape p image) where
   bss = shape-bss p image h
 
   after : (a : ℕ) → permAt (stack ∷ (replicate zeros zeroSegment ++ last)) a ≡ permAt (stack ∷ last) a
-  after a = perm-tail (stack ∷ []) (replicate zeros zeroSegment ++ last) last a (perm-zeros zeros last a)
+  after a = tail-same (stack ∷ []) (replicate zeros zeroSegment ++ last) last a (perm-zeros zeros last a)
 
   stack-part : Part stack
   stack-part = record { ordered = omega arith; high = omega arith; start-page = refl; end-page = refl; low = λ q. omega arith }
@@ -168,9 +164,9 @@ module _ (p : Proc) (image : List UserSegment) (h : Shape p image) where
     each = rw are (each-append Part image (stack ∷ (replicate zeros zeroSegment ++ last)) (image-parts utzero image (shape-image p image h))
         (stack-part, each-append Part (replicate zeros zeroSegment) last (each-same Part zeroSegment zero-part zeros) (bss-part, tt)));
     apart = rw are (image-apart utzero image (stack ∷ (replicate zeros zeroSegment ++ last)) (shape-image p image h)
-        (λ a i. perm-zeros zeros last a ∙ stack-bss-apart (imageEnd utzero image) (p .bss) bss .0 a i, apart-zeros zeros last (λ a i. refl, tt))
+        (record { start = refl; end = refl; apart = λ a i. perm-zeros zeros last a ∙ stack-bss-apart (imageEnd utzero image) (p .bss) bss .0 .apart a i }, apart-zeros zeros last (stack-bss-apart (imageEnd utzero image) (p .bss) bss .1))
         (λ a l. after a ∙ stack-bss-low (imageEnd utzero image) (p .bss) bss a l));
-    same = λ a. ap (λ (l : List UserSegment). permAt l a) are ∙ perm-tail image (stack ∷ (replicate zeros zeroSegment ++ last)) (stack ∷ last) a (after a)
+    same = λ a. ap (λ (l : List UserSegment). permAt l a) are ∙ tail-same image (stack ∷ (replicate zeros zeroSegment ++ last)) (stack ∷ last) a (after a)
         ∙ ap (λ (l : List UserSegment). permAt l a) (sym (shape-pieces p image h));
   }
 
@@ -220,7 +216,7 @@ module _ (p : Proc) (w : WholeProc p) (f : Parts p) (perms : Each Perm (parts p)
   gives-part a q e =
       let r = perm-at (parts p) a q (f .same a ∙ e) in
       let h : r .0 < 17 = rw (parts-long p (w .segments)) at (r .1) in
-      let s = part-is p (w .segments) (r .0) h ∙ seat-holds (getD (parts p) (r .0) zeroSegment) a (each-at Perm (parts p) perms (r .0) (r .1)) (r .2) in
+      let s = part-is p (w .segments) (r .0) h ∙ seat-holds (getD (parts p) (r .0) zeroSegment) a (each-at Perm zeroSegment (parts p) perms (r .0) (r .1)) (r .2) in
       (r .0, h, rw s (r .2), rw s (r .3))
 
   pub part-one : (j k a : ℕ) → j < 17 → k < 17 → inSegment a (part p j) ≡ true → inSegment a (part p k) ≡ true → j ≡ k

@@ -32,8 +32,11 @@ bssOf (g ∷ h ∷ gs) = bssOf (h ∷ gs)
 abbrev pub userSegment : VirtRange → Segment → UserSegment
 userSegment bss g = segment (pageDown (g .vaddr)) (g .perm is 3 ⇒ pageUp (bss .start) else pageUp (g .vaddr + g .memsz)) (g .perm)
 
+abbrev pub kept : VirtRange → List Segment → List UserSegment
+kept bss gs = filter (λ s. s .range .start below s .range .end) (map (userSegment bss) gs)
+
 abbrev pub imageSegments : List ℕ → List UserSegment
-imageSegments image = filter (λ s. s .range .start below s .range .end) (map (userSegment (bssOf (segmentsOf image))) (segmentsOf image))
+imageSegments image = kept (bssOf (segmentsOf image)) (segmentsOf image)
 
 -- the bss of an image
 abbrev pub imageBss : List ℕ → VirtRange

@@ -17,11 +17,10 @@ use Rattle.spec.specs.declared.UserSegment.{UserSegment}
 use Rattle.spec.proofs.Bools.{split, within-test}
 use Rattle.laws.proofs.Frame.{frame-perm, page-perm}
 use Rattle.laws.proofs.Owned.{valid-means}
-use Rattle.laws.proofs.Apart.{orPerm}
 use Rattle.laws.proofs.Contents.{length-page}
 use Rattle.laws.proofs.Placed.{Whole, Room, perm-placed}
-use Rattle.laws.proofs.Started.{start-perm, start-aligned, start-apart}
-use Rattle.history.proofs.Stored.{pieces-of}
+use Rattle.laws.proofs.Started.{start-perm, start-apart}
+use Rattle.laws.proofs.Pieces.{orPerm}
 use Rattle.pagealloc.specs.Lent.{Mapped}
 use Rattle.exec.specs.declared.Plan.{Plan}
 use Rattle.exec.proofs.Planned.{plan-accepted}
@@ -39,7 +38,7 @@ module _ (m : Store) (n : ℕ) (image : List ℕ) (plan : Plan) (bytes lengths :
   whole : Whole n page (startPieces image)
   whole = record {
     owner = omega (arith, valid-means n (i .number) .1);
-    pieces = pieces-of (startPieces image) (start-aligned image (i .accepted)) (start-apart image (i .accepted));
+    pieces = start-apart image (i .accepted);
     small = λ a q s. omega (arith, start-perm image (i .accepted) a q s .1);
     bytes = λ a q z s. length-page (fileByte (segmentsOf image)) a;
   }

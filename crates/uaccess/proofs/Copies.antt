@@ -19,7 +19,7 @@ use Rattle.laws.proofs.Frame.{frame-found}
 use Rattle.laws.proofs.Pokes.{pokes-append, pokes-page}
 use Rattle.laws.proofs.Contents.{length-bytes, get-bytes}
 use Rattle.book.specs.Lent.{store}
-use Rattle.book.proofs.Overwrite.{mix, mix-part}
+use Rattle.laws.proofs.Overwrite.{mix, mix-part}
 use Rattle.uaccess.proofs.Found.{page-none}
 
 -- a page that may be used has a frame

@@ -1,7 +1,7 @@
 -- A page's frame by the table, and what may be done with the page.
 use Prim.Native.Nat.{ℕ, _<_}
 use native.Mathlib.Omega.{arith}
-use mathlib.Core.Path.{_≡_, refl}
+use mathlib.Core.Path.{_≡_, refl, sym, _∙_}
 use mathlib.Core.Bool.{Bool, true, false, not, _||_}
 use mathlib.Core.Option.{Option, none, some}
 use mathlib.Core.List.{List}
@@ -14,23 +14,15 @@ use Rattle.spec.specs.Access.{cellOk}
 use Rattle.spec.specs.declared.Found.{Found}
 use Rattle.spec.specs.declared.Found.the-variants.{At, Nothing}
 use Rattle.laws.proofs.Frame.{frame-found}
-use Rattle.book.specs.Lent.{foundOf}
-use Rattle.book.specs.Lent.{store}
+use Rattle.book.specs.Lent.{store, foundOf}
+use Rattle.book.proofs.Searches.{found-at as option-at, found-none as option-none}
 
--- what an answer says of the search
-option-at : (o : Option ℕ) (r : Found) (k : ℕ) → r ≡ foundOf o → r ≡ At k → o ≡ some k
-option-at none r k e f = absurd (let z : _≡_ {A = ℕ} 0 1 = cc in omega arith)
-option-at (some j) r k e f = cc
-
-option-nothing : (o : Option ℕ) (r : Found) → r ≡ foundOf o → r ≡ Nothing → o ≡ none
-option-nothing none r e f = refl
-option-nothing (some j) r e f = absurd (let z : _≡_ {A = ℕ} 0 1 = cc in omega arith)
-
+-- what an answer says of a page
 pub found-at : (book : List ℕ) (n page k : ℕ) (r : Found) → r ≡ foundOf (frameOf book n page) → r ≡ At k → (frameOf book n page ≡ some k) × (k < length book)
-found-at book n page k r e f = let g = option-at (frameOf book n page) r k e f in (g, frame-found book n page k g .0)
+found-at book n page k r e f = let g = option-at (frameOf book n page) k (sym f ∙ e) in (g, frame-found book n page k g .0)
 
 pub found-nothing : (book : List ℕ) (n page : ℕ) (r : Found) → r ≡ foundOf (frameOf book n page) → r ≡ Nothing → frameOf book n page ≡ none
-found-nothing book n page r e f = option-nothing (frameOf book n page) r e f
+found-nothing book n page r e f = option-none (frameOf book n page) (sym f ∙ e)
 
 -- a page without a frame is not mapped, and one with a frame is writable if its word says data
 pub page-none : (write : Bool) (frames book : List ℕ) (n va : ℕ) → frameOf book n (pageDown va) ≡ none → false ≡ cellOk write (memOf (store frames book) n va)

@@ -9,7 +9,7 @@ use lib.ListN.{length, getD, take, drop, length-append, length-drop}
 use lib.Seq.{take-add, length-take-le}
 use Rattle.spec.specs.Tests.{_is_, _isnt_, has}
 use Rattle.spec.proofs.Bools.{neither}
-use Rattle.book.proofs.Overwrite.{mix}
+use Rattle.laws.proofs.Overwrite.{mix}
 use Rattle.uaccess.specs.Strings.{toNul}
 
 -- one test more, at the front of the others and behind them

@@ -1,16 +1,14 @@
 -- A range, page by page.
-use Prim.Native.Nat.{ℕ, zero, suc, _+_, _*_, _-_, _/_, _%_, _≤_, _<_}
+use Prim.Native.Nat.{ℕ, suc, _+_, _-_, _/_, _%_, _≤_, _<_}
 use native.Mathlib.Omega.{arith}
-use native.Mathlib.Nat.{add-zero, not-suc-le-zero}
-use mathlib.Core.Path.{_≡_, refl, sym, ap, _∙_}
-use mathlib.Core.Bool.{Bool, true, false, _&&_}
+use mathlib.Core.Path.{_≡_, sym, ap, _∙_}
+use mathlib.Core.Bool.{Bool, true, false, and-true}
 use mathlib.Core.List.{List}
 use borrow.Author.Tests.{lt-ltb, le-ltb, eq-eqb, ne-eqb}
 use Rattle.spec.specs.Numbers.{uaddrtop, pageDown, pageUp}
 use Rattle.spec.specs.Frames.{Mem, memOf}
 use Rattle.spec.specs.Access.{cellOk, pagesOk, userRangeOk}
-use Rattle.spec.proofs.Bools.{both, clash}
-use Rattle.laws.proofs.Lists.{by-order}
+use Rattle.spec.proofs.Ranges.{range-means}
 use Rattle.laws.proofs.Allowed.{cell-allowed, cell-page}
 use Rattle.book.specs.Lent.{store}
 
@@ -48,27 +46,11 @@ range-pages mem write addr len h z = rw (le-ltb uaddrtop (addr + len) h, ne-eqb 
 
 -- ---- what a range that passed says
 
-pages-at : (mem : Mem) (write : Bool) (k page i : ℕ) → pagesOk mem write page k ≡ true → i < k → cellOk write (mem (page + 4096 * i)) ≡ true
-pages-at mem write zero page i e h = absurd (not-suc-le-zero h)
-pages-at mem write (suc k) page zero e h = rw (add-zero page) (both (cellOk write (mem page)) (pagesOk mem write (page + 4096) k) e .0)
-pages-at mem write (suc k) page (suc i) e h =
-    let q : page + 4096 + 4096 * i ≡ page + 4096 * suc i = omega arith in
-    rw (← q) (pages-at mem write k (page + 4096) i (both (cellOk write (mem page)) (pagesOk mem write (page + 4096) k) e .1) (omega arith))
-
-pub range-top : (mem : Mem) (write : Bool) (addr len : ℕ) → userRangeOk mem write addr len ≡ true → addr + len ≤ uaddrtop
-range-top mem write addr len e = by-order uaddrtop (addr + len) (λ l. clash _ e (range-past mem write addr len l)) (λ l. l)
-
-range-page : (mem : Mem) (write : Bool) (addr len a : ℕ) → userRangeOk mem write addr len ≡ true → addr ≤ a → a < addr + len → cellOk write (mem (pageDown a)) ≡ true
-range-page mem write addr len a e l h =
-    let q : pageDown addr + 4096 * (a / 4096 - addr / 4096) ≡ pageDown a = omega arith in
-    rw q at (pages-at mem write ((pageUp (addr + len) - pageDown addr) / 4096) (pageDown addr) (a / 4096 - addr / 4096)
-    (sym (range-pages mem write addr len (range-top mem write addr len e) (λ z. omega arith)) ∙ e) (omega arith))
-
 -- each of its addresses may be read, or written, whatever the frames hold by now
 pub range-cell : (f g book : List ℕ) (n : ℕ) (write : Bool) (addr len a : ℕ) → userRangeOk (memOf (store f book) n) write addr len ≡ true → addr ≤ a → a < addr + len
     → cellOk write (memOf (store g book) n a) ≡ true
 range-cell f g book n write addr len a e l h =
-    cell-allowed (store g book) n a write ∙ sym (cell-allowed (store f book) n a write) ∙ cell-page (store f book) n a write ∙ range-page (memOf (store f book) n) write addr len a e l h
+    cell-allowed (store g book) n a write ∙ sym (cell-allowed (store f book) n a write) ∙ cell-page (store f book) n a write ∙ range-means (memOf (store f book) n) write addr len e .each a l h
 
 -- ---- one byte
 
@@ -76,14 +58,10 @@ range-one : (mem : Mem) (a : ℕ) → a + 1 ≤ uaddrtop → userRangeOk mem fal
 range-one mem a h =
     let k : (pageUp (a + 1) - pageDown a) / 4096 ≡ 1 = omega arith in
     range-pages mem false a 1 h (λ z. omega arith) ∙ ap (pagesOk mem false (pageDown a)) k ∙ and-true (cellOk false (mem (pageDown a)))
-  where
-    and-true : (b : Bool) → (b && true) ≡ b
-    and-true true = refl
-    and-true false = refl
 
 -- where one byte of a page can be read, each further one can
 pub range-along : (mem : Mem) (a i : ℕ) → userRangeOk mem false a 1 ≡ true → a % 4096 + i < 4096 → userRangeOk mem false (a + i) 1 ≡ true
 range-along mem a i e h =
-    let top = range-top mem false a 1 e in
+    let top = range-means mem false a 1 e .top in
     let q : pageDown (a + i) ≡ pageDown a = omega arith in
     range-one mem (a + i) (omega arith) ∙ ap (λ (p : ℕ). cellOk false (mem p)) q ∙ sym (range-one mem a (omega arith)) ∙ e

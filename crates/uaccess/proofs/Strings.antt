@@ -15,7 +15,7 @@ use Rattle.spec.specs.Frames.{Mem}
 use Rattle.spec.specs.Access.{userRangeOk, byteOf, bytesAt, Str, copyStr}
 use Rattle.spec.proofs.Bools.{split}
 use Rattle.laws.proofs.Contents.{length-bytes, get-bytes}
-use Rattle.book.proofs.Overwrite.{mix, mix-part}
+use Rattle.laws.proofs.Overwrite.{mix, mix-part}
 use Rattle.uaccess.specs.Strings.{toNul, copied}
 use Rattle.uaccess.proofs.Ranges.{range-along}
 use Rattle.uaccess.proofs.Copies.{bytes-part}

@@ -2,21 +2,19 @@
 use mathlib.Core.Path.{_≡_, refl, _∙_}
 use Prim.Native.Nat.{_-_, _≤_}
 use native.Mathlib.Omega.{arith}
-use denote.Ref.{now}
 use lib.ListN.{length, length-set}
-use lib.Seq.{paste, paste-zero}
-use Rattle.args.proofs.Lay.{paste-next, paste-whole}
+use Rattle.laws.proofs.Overwrite.{mix, mix-none, mix-turn, mix-all}
 use Rattle.args.proofs.copy.Statement.{statement}
 use Rattle.args.proofs.copy.Tie as tie
 
 abbrev Inv-loop : tie.InvT-loop
-Inv-loop d₀ s i₀ d i = (i ≤ length d) × (length d ≡ length d₀) × (d ≡ paste d₀ 0 s i)
+Inv-loop d₀ s i₀ d i = (i ≤ length d) × (length d ≡ length d₀) × (d ≡ mix s d₀ i)
 
 abbrev μ-loop : tie.MeasureT-loop
 μ-loop d₀ s i₀ d i = length d - i
 
 loop-holds : tie.Need-loop-holds Inv-loop μ-loop
-loop-holds c = (omega arith, refl, paste-zero (now (c .args .d)) 0 (now (c .args .s)))
+loop-holds c = (omega arith, refl, mix-none _ _)
 
 shared-slice-read-d : tie.Need-shared-slice-read-d Inv-loop μ-loop
 shared-slice-read-d c = omega arith
@@ -31,22 +29,13 @@ loop-less : tie.Need-loop-less Inv-loop μ-loop
 loop-less c = simp length-set (omega arith)
 
 loop-again : tie.Need-loop-again Inv-loop μ-loop
-loop-again c =
-    let l = c .before .before .loop in
-    let a = c .before .before .before .args in (
-      simp length-set (omega arith),
-      simp length-set (omega arith),
-      rw (l .inv .2) (paste-next (now (a .d)) (now (a .s)) (l .i) (omega arith) (omega arith)),
-    )
+loop-again c = (simp length-set (omega arith), simp length-set (omega arith), rw (c .before .before .loop .inv .2) (mix-turn _ _ _ (omega arith) (omega arith)))
 
 same-length : tie.Need-same-length Inv-loop μ-loop
 same-length c = omega arith
 
 returns : tie.Need-returns Inv-loop μ-loop
-returns c =
-    let a = c .before .before .args in
-    let l = c .before .loop in
-    l .inv .2 ∙ paste-whole (now (a .d)) (now (a .s)) (l .i) (omega arith) (omega arith)
+returns c = c .before .loop .inv .2 ∙ mix-all _ _ _ (omega arith) (omega arith)
 
 pub copy-spec : {M : Type 1} → statement M
 copy-spec =

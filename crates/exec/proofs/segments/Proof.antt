@@ -14,7 +14,8 @@ use Rattle.elf.specs.Reader.{loadOf}
 use Rattle.elf.proofs.Walk.{segs, segs-none, segs-some}
 use Rattle.elf.proofs.Ahead.{Ahead, ahead-all, ahead-here, ahead-next, all-segs}
 use Rattle.checked.proofs.Indexed.{at-first, at-next}
-use Rattle.exec.specs.Plan.{kept, recorded, recordedWith}
+use Rattle.spec.specs.Exec.{kept}
+use Rattle.exec.specs.Plan.{recorded, recordedWith}
 use Rattle.exec.specs.declared.Recorded.{Recorded}
 use Rattle.exec.proofs.Kept.{added, added-one, kept-front, record-front}
 use Rattle.exec.proofs.segments.Statement.{statement}

@@ -7,7 +7,7 @@ use lib.ListN.{length, length-set, drop}
 use lib.Seq.{length-take-le}
 use denote.Ref.{now}
 use borrow.Author.Needs.{needs}
-use Rattle.book.proofs.Overwrite.{mix, mix-turn}
+use Rattle.laws.proofs.Overwrite.{mix, mix-turn}
 use Rattle.uaccess.specs.Strings.{toNul}
 use Rattle.uaccess.proofs.Strings.{nul-here, nul-next, nul-end}
 use Rattle.uaccess.proofs.Plain.{nul-behind, length-blocks, mix-blocks, mix-behind}

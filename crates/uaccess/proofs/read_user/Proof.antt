@@ -11,8 +11,9 @@ use Rattle.spec.specs.Frames.{Mem, memOf}
 use Rattle.spec.specs.Access.{byteOf, bytesAt}
 use Rattle.laws.proofs.Contents.{length-bytes}
 use Rattle.book.specs.Lent.{store}
-use Rattle.book.proofs.Overwrite.{mix, mix-none, mix-all}
-use Rattle.uaccess.proofs.Ranges.{range-top, range-cell}
+use Rattle.laws.proofs.Overwrite.{mix, mix-none, mix-all}
+use Rattle.spec.proofs.Ranges.{range-means}
+use Rattle.uaccess.proofs.Ranges.{range-cell}
 use Rattle.uaccess.proofs.Copies.{read-turn}
 use Rattle.uaccess.proofs.read_user.Statement.{statement}
 use Rattle.uaccess.proofs.read_user.Tie as tie
@@ -29,7 +30,7 @@ module _ (c : tie.Start Inv-loop μ-loop) where
   memory = memOf (store (now (c .args .frames)) (now (c .args .book))) (c .args .number)
 
   top : c .args .addr + length (now (c .args .buf)) ≤ uaddrtop
-  top = range-top memory false (c .args .addr) (length (now (c .args .buf))) (c .pre .1)
+  top = range-means memory false (c .args .addr) (length (now (c .args .buf))) (c .pre .1) .top
 
 loop-holds : tie.Need-loop-holds Inv-loop μ-loop
 loop-holds c = (omega arith, refl, mix-none _ _)

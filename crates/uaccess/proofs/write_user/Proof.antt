@@ -10,7 +10,8 @@ use borrow.Rule.Slice.PartMut.{mid-len}
 use Rattle.spec.specs.Numbers.{uaddrtop}
 use Rattle.spec.specs.Frames.{memOf, pokes}
 use Rattle.book.specs.Lent.{store}
-use Rattle.uaccess.proofs.Ranges.{range-top, range-cell}
+use Rattle.spec.proofs.Ranges.{range-means}
+use Rattle.uaccess.proofs.Ranges.{range-cell}
 use Rattle.uaccess.proofs.Copies.{write-turn}
 use Rattle.uaccess.proofs.write_user.Statement.{statement}
 use Rattle.uaccess.proofs.write_user.Tie as tie
@@ -23,7 +24,7 @@ abbrev μ-loop : tie.MeasureT-loop
 
 -- the range that has been checked
 top : (c : tie.Start Inv-loop μ-loop) → c .args .addr + length (now (c .args .bytes)) ≤ uaddrtop
-top c = range-top (memOf (store (now (c .args .frames)) (now (c .args .book))) (c .args .number)) true (c .args .addr) (length (now (c .args .bytes))) (c .pre .1)
+top c = range-means (memOf (store (now (c .args .frames)) (now (c .args .book))) (c .args .number)) true (c .args .addr) (length (now (c .args .bytes))) (c .pre .1) .top
 
 loop-holds : tie.Need-loop-holds Inv-loop μ-loop
 unfolding pokes

@@ -4,7 +4,7 @@ use Prim.Native.Nat.{_-_, _≤_}
 use native.Mathlib.Omega.{arith}
 use denote.Ref.{now}
 use lib.ListN.{length}
-use Rattle.book.proofs.Overwrite.{mix, mix-none, mix-all}
+use Rattle.laws.proofs.Overwrite.{mix, mix-none, mix-all}
 use Rattle.pagealloc.proofs.Held.{part-copied}
 use Rattle.pagealloc.proofs.frames.copy.Statement.{statement}
 use Rattle.pagealloc.proofs.frames.copy.Tie as tie

@@ -4,7 +4,7 @@ use Prim.Native.Nat.{_-_, _≤_}
 use native.Mathlib.Omega.{arith}
 use denote.Ref.{now}
 use lib.ListN.{length, length-set}
-use Rattle.book.proofs.Overwrite.{mix, mix-none, mix-turn}
+use Rattle.laws.proofs.Overwrite.{mix, mix-none, mix-turn}
 use Rattle.pagealloc.proofs.Held.{all-given}
 use Rattle.pagealloc.proofs.frames.give.Statement.{statement}
 use Rattle.pagealloc.proofs.frames.give.Tie as tie

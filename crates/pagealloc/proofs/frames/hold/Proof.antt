@@ -1,10 +1,10 @@
 -- `pagealloc::frames::hold` meets its contract. The loop's invariant: the first `i` bytes are those of `s`, and the others as they were.
-use mathlib.Core.Path.{_≡_, refl}
+use mathlib.Core.Path.{_≡_}
 use Prim.Native.Nat.{_-_, _≤_}
 use native.Mathlib.Omega.{arith}
 use denote.Ref.{now}
 use lib.ListN.{length, length-set}
-use Rattle.book.proofs.Overwrite.{mix, mix-none, mix-turn}
+use Rattle.laws.proofs.Overwrite.{mix, mix-none, mix-turn}
 use Rattle.pagealloc.proofs.Held.{all-held}
 use Rattle.pagealloc.proofs.frames.hold.Statement.{statement}
 use Rattle.pagealloc.proofs.frames.hold.Tie as tie

@@ -4,7 +4,7 @@ use Prim.Native.Nat.{_-_, _≤_}
 use native.Mathlib.Omega.{arith}
 use denote.Ref.{now}
 use lib.ListN.{length, length-set, replicate}
-use Rattle.book.proofs.Overwrite.{mix, mix-none, fill-turn, fill-all}
+use Rattle.laws.proofs.Overwrite.{mix, mix-none, fill-turn, fill-all}
 use Rattle.pagealloc.proofs.frames.zero.Statement.{statement}
 use Rattle.pagealloc.proofs.frames.zero.Tie as tie
 

@@ -1,5 +1,4 @@
--- `exec::page_count` meets its contract. The invariant: the pages of the segments passed.
--- Assumes nothing.
+-- `mem::page_count` meets its contract. The invariant: the pages of the segments passed.
 use mathlib.Core.Path.{_≡_, refl, sym, ap, _∙_}
 use mathlib.Core.List.{List}
 use Prim.Native.Nat.{ℕ, _+_, _-_, _*_, _^_, _≤_}
@@ -7,15 +6,15 @@ use native.Mathlib.Omega.{arith}
 use lib.ListN.{length, take}
 use borrow.Author.Needs.{needs}
 use Rattle.spec.specs.Book.{zeroSegment, pageCount}
-use Rattle.exec.proofs.Pages.{count-next}
-use Rattle.exec.proofs.page_count.Statement.{statement}
-use Rattle.exec.proofs.page_count.Tie as tie
+use Rattle.laws.proofs.Pieces.{count-next}
+use Rattle.mem.proofs.page_count.Statement.{statement}
+use Rattle.mem.proofs.page_count.Tie as tie
 
 abbrev Inv-loop : tie.InvT-loop
-Inv-loop n segments pages₀ i₀ pages i = (i ≤ n) × (length segments ≡ 16) × (pages ≡ pageCount (take i segments)) × (pages ≤ 2 ^ 52 * i)
+Inv-loop n segments sum₀ i₀ sum i = (i ≤ n) × (length segments ≡ 16) × (sum ≡ pageCount (take i segments)) × (sum ≤ 2 ^ 52 * i)
 
 abbrev μ-loop : tie.MeasureT-loop
-μ-loop n segments pages₀ i₀ pages i = n - i
+μ-loop n segments sum₀ i₀ sum i = n - i
 
 loop-holds : tie.Need-loop-holds Inv-loop μ-loop
 loop-holds c = (omega arith, search needs, refl, omega arith)
@@ -24,7 +23,7 @@ loop-again : tie.Need-loop-again Inv-loop μ-loop
 loop-again c =
     let l = c .before .before .before .before .loop in
     let t = c .before .before .before .before .before .args .t1 in
-    (omega arith, l .inv .1, ap (λ (m : ℕ). m + c .pages-in .result) (l .inv .2) ∙ ap (λ (m : ℕ). pageCount (take (l .i) t) + m) (c .pages-in .ensures .0) ∙ sym (count-next t zeroSegment (l .i) (omega arith)), omega (arith, c .pages-in .ensures .1, l .inv .3))
+    (omega arith, l .inv .1, ap (λ (m : ℕ). m + c .pages .result) (l .inv .2) ∙ ap (λ (m : ℕ). pageCount (take (l .i) t) + m) (c .pages .ensures .0) ∙ sym (count-next t zeroSegment (l .i) (omega arith)), omega (arith, c .pages .ensures .1, l .inv .3))
 
 returns : tie.Need-returns Inv-loop μ-loop
 returns c =

@@ -1,13 +1,10 @@
 -- Checks in order, as a list of tests and numbers: the first test that holds gives its number, and if none holds, what follows.
--- Assumes nothing.
-use mathlib.Core.Path.{_≡_, refl, sym, _∙_}
-use mathlib.Core.Bool.{Bool, true, false, not, _&&_}
+use mathlib.Core.Path.{_≡_, refl, sym}
+use mathlib.Core.Bool.{Bool, true, false, not}
 use mathlib.Core.List.{List, [], _∷_}
 use Prim.Native.Nat.{ℕ, _<_}
-use native.Mathlib.Omega.{arith}
-use lib.Dec.{eqb}
 use lib.ListN.{length, getD}
-use borrow.Author.Tests.{eqb-true, eqb-false, ne-eqb, not-true}
+use borrow.Author.Tests.{eqb-true, eqb-false, not-true}
 use Rattle.spec.specs.Tests.{_is_, _isnt_, _⇒_else_, _orElse_, all}
 use Rattle.spec.proofs.Bools.{split, both, all-at}
 
@@ -44,13 +41,6 @@ stops ((false, n) ∷ l) x y h = stops l x y h
 pub failed : (l : List (Bool × ℕ)) → passed l ≡ true → (k : ℕ) → k < length l → getD l k (true, 0) .0 ≡ false
 failed l h k lt = not-true _ (all-at (λ r. not (r .0)) (true, 0) l h k lt)
 
--- a number that is not 0 stands before the next, and 0 gives way to it
-pub first : (a b n : ℕ) → n ≡ a → (n ≡ 0 → ⊥) → n ≡ (a orElse b)
-first a b n e nz = rw (ne-eqb a 0 (λ z. nz (e ∙ z))) e
-
-pub next : (a b n : ℕ) → 0 ≡ a → n ≡ b → n ≡ (a orElse b)
-next a b n e f = rw (← e) f
-
--- where the two come to 0, both are 0
-pub neither : (a b : ℕ) → (a orElse b) ≡ 0 → (a ≡ 0) × (b ≡ 0)
-neither a b e = split (a is 0) (λ q. (eqb-true a 0 q, rw q at e)) (λ q. absurd (eqb-false a 0 q (rw q at e)))
+-- where one number or else another comes to 0, both are 0
+pub or-else : (a b : ℕ) → (a orElse b) ≡ 0 → (a ≡ 0) × (b ≡ 0)
+or-else a b e = split (a is 0) (λ q. (eqb-true a 0 q, rw q at e)) (λ q. absurd (eqb-false a 0 q (rw q at e)))
