@@ -1,8 +1,8 @@
 -- `elf::is_load` meets its contract, by computation.
 -- Assumes nothing.
 use mathlib.Core.Path.{refl}
-use Rattle.header.proofs.is_load.Statement.{statement}
-use Rattle.header.proofs.is_load.Tie as tie
+use Rattle.phdr.proofs.is_load.Statement.{statement}
+use Rattle.phdr.proofs.is_load.Tie as tie
 
 returns : tie.Need-returns
 returns c = refl

@@ -3,8 +3,8 @@
 use borrow.Author.Needs.{needs}
 use Rattle.spec.specs.Elf.{phdrError}
 use Rattle.spec.proofs.Chain.{chain, calls}
-use Rattle.header.proofs.judge_phdr.Statement.{statement}
-use Rattle.header.proofs.judge_phdr.Tie as tie
+use Rattle.phdr.proofs.judge_phdr.Statement.{statement}
+use Rattle.phdr.proofs.judge_phdr.Tie as tie
 
 pub judge-phdr-spec : {M : Type 1} → statement M
 unfolding phdrError

@@ -1,8 +1,8 @@
 -- `elf::in_text` meets its contract: the permission is what `perm` answers.
 -- Assumes nothing.
 use borrow.Author.Needs.{needs}
-use Rattle.header.proofs.in_text.Statement.{statement}
-use Rattle.header.proofs.in_text.Tie as tie
+use Rattle.phdr.proofs.in_text.Statement.{statement}
+use Rattle.phdr.proofs.in_text.Tie as tie
 
 returns : tie.Need-returns
 returns c = rw (c .before .before .perm .ensures)
