@@ -12,7 +12,7 @@ use Rattle.spec.specs.Frames.{Mem}
 use Rattle.spec.specs.Access.{userRangeOk, bytesAt, Str, copyStr}
 use Rattle.spec.specs.Exec.{argsOf, strings, stackSize, Argv, argBuffer, argvFrom}
 use Rattle.spec.proofs.Bools.{split}
-use Rattle.uaccess.proofs.Ranges.{range-past}
+use Rattle.ranges.proofs.Ranges.{range-past}
 use Rattle.args.specs.Sizes.{saturated}
 use Rattle.args.proofs.Cut.{cut-count, cut-size, cut-snoc}
 use Rattle.argv.specs.declared.Pointer.{Pointer}

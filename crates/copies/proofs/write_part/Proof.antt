@@ -1,4 +1,4 @@
--- `uaccess::write_part` meets its contract.
+-- `copies::write_part` meets its contract.
 use Prim.Native.Nat.{_<_}
 use native.Mathlib.Omega.{arith}
 use mathlib.Core.Path.{_≡_}
@@ -9,10 +9,10 @@ use denote.Ref.{now}
 use borrow.Author.Needs.{needs}
 use Rattle.spec.specs.Numbers.{pageDown}
 use Rattle.spec.specs.Book.{frameOf}
-use Rattle.uaccess.proofs.Found.{found-at, found-nothing}
-use Rattle.uaccess.proofs.Copies.{unmapped, write-page}
-use Rattle.uaccess.proofs.write_part.Statement.{statement}
-use Rattle.uaccess.proofs.write_part.Tie as tie
+use Rattle.ranges.proofs.Found.{found-at, found-nothing}
+use Rattle.copies.proofs.Copies.{unmapped, write-page}
+use Rattle.copies.proofs.write_part.Statement.{statement}
+use Rattle.copies.proofs.write_part.Tie as tie
 
 frame-at-requires : tie.Need-frame-at-requires
 frame-at-requires c κs = search needs

@@ -1,4 +1,4 @@
--- `uaccess::read_user` meets its contract. The loop's invariant: the first `i` bytes are read, and the others as they were.
+-- `copies::read_user` meets its contract. The loop's invariant: the first `i` bytes are read, and the others as they were.
 use Prim.Native.Nat.{_+_, _-_, _≤_}
 use native.Mathlib.Omega.{arith}
 use mathlib.Core.Path.{_≡_, refl, sym, ap, _∙_}
@@ -12,10 +12,10 @@ use Rattle.spec.specs.Access.{byteOf, bytesAt}
 use Rattle.laws.proofs.Contents.{length-bytes}
 use Rattle.book.specs.Lent.{store}
 use Rattle.book.proofs.Overwrite.{mix, mix-none, mix-all}
-use Rattle.uaccess.proofs.Ranges.{range-top, range-cell}
-use Rattle.uaccess.proofs.Copies.{read-turn}
-use Rattle.uaccess.proofs.read_user.Statement.{statement}
-use Rattle.uaccess.proofs.read_user.Tie as tie
+use Rattle.ranges.proofs.Ranges.{range-top, range-cell}
+use Rattle.copies.proofs.Copies.{read-turn}
+use Rattle.copies.proofs.read_user.Statement.{statement}
+use Rattle.copies.proofs.read_user.Tie as tie
 
 abbrev Inv-loop : tie.InvT-loop
 Inv-loop frames book tags bases table number addr buf₀ i₀ buf i = (i ≤ length buf) × (length buf ≡ length buf₀) × (buf ≡ mix (bytesAt (memOf (store frames book) number) addr (length buf₀)) buf₀ i)

@@ -1,4 +1,4 @@
--- `uaccess::user_bytes` meets its contract.
+-- `copies::user_bytes` meets its contract.
 use Prim.Native.Nat.{ℕ, _+_, _-_, _<_}
 use native.Mathlib.Omega.{arith}
 use mathlib.Core.Path.{_≡_, ap, _∙_}
@@ -9,10 +9,10 @@ use denote.Ref.{now}
 use borrow.Author.Needs.{needs}
 use Rattle.spec.specs.Numbers.{pageDown}
 use Rattle.spec.specs.Book.{frameOf}
-use Rattle.uaccess.proofs.Found.{found-at, found-nothing}
-use Rattle.uaccess.proofs.Copies.{unmapped, bytes-page}
-use Rattle.uaccess.proofs.user_bytes.Statement.{statement}
-use Rattle.uaccess.proofs.user_bytes.Tie as tie
+use Rattle.ranges.proofs.Found.{found-at, found-nothing}
+use Rattle.copies.proofs.Copies.{unmapped, bytes-page}
+use Rattle.copies.proofs.user_bytes.Statement.{statement}
+use Rattle.copies.proofs.user_bytes.Tie as tie
 
 frame-at-requires : tie.Need-frame-at-requires
 frame-at-requires c κs = search needs

@@ -1,4 +1,4 @@
--- `uaccess::copy_to_nul` meets its contract. The loop's invariant: the first `i` bytes are those of `s`, none of them NUL, and the
+-- `strings::copy_to_nul` meets its contract. The loop's invariant: the first `i` bytes are those of `s`, none of them NUL, and the
 -- others as they were: at first those of the blocks.
 use Prim.Native.Nat.{_+_, _-_, _≤_}
 use native.Mathlib.Omega.{arith}
@@ -8,11 +8,11 @@ use lib.Seq.{length-take-le}
 use denote.Ref.{now}
 use borrow.Author.Needs.{needs}
 use Rattle.book.proofs.Overwrite.{mix, mix-turn}
-use Rattle.uaccess.specs.Strings.{toNul}
-use Rattle.uaccess.proofs.Strings.{nul-here, nul-next, nul-end}
-use Rattle.uaccess.proofs.Plain.{nul-behind, length-blocks, mix-blocks, mix-behind}
-use Rattle.uaccess.proofs.copy_to_nul.Statement.{statement}
-use Rattle.uaccess.proofs.copy_to_nul.Tie as tie
+use Rattle.strings.specs.Nul.{toNul}
+use Rattle.strings.proofs.Nul.{nul-here, nul-next, nul-end}
+use Rattle.strings.proofs.Plain.{nul-behind, length-blocks, mix-blocks, mix-behind}
+use Rattle.strings.proofs.copy_to_nul.Statement.{statement}
+use Rattle.strings.proofs.copy_to_nul.Tie as tie
 
 abbrev Inv-loop : tie.InvT-loop
 Inv-loop d₀ s i₀ d i = (i ≤ length d) × (length d ≡ length s) × (d ≡ mix s d₀ i) × (toNul s ≡ i + toNul (drop i s)) × (i₀ ≤ i)

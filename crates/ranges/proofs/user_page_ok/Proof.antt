@@ -1,4 +1,4 @@
--- `uaccess::user_page_ok` meets its contract.
+-- `ranges::user_page_ok` meets its contract.
 use Prim.Native.Nat.{_<_}
 use native.Mathlib.Omega.{arith}
 use mathlib.Core.Path.{_≡_}
@@ -8,9 +8,9 @@ use denote.Ref.{now}
 use borrow.Author.Needs.{needs}
 use Rattle.spec.specs.Numbers.{pageDown}
 use Rattle.spec.specs.Book.{frameOf}
-use Rattle.uaccess.proofs.Found.{found-at, found-nothing, page-none, page-some}
-use Rattle.uaccess.proofs.user_page_ok.Statement.{statement}
-use Rattle.uaccess.proofs.user_page_ok.Tie as tie
+use Rattle.ranges.proofs.Found.{found-at, found-nothing, page-none, page-some}
+use Rattle.ranges.proofs.user_page_ok.Statement.{statement}
+use Rattle.ranges.proofs.user_page_ok.Tie as tie
 
 frame-at-requires : tie.Need-frame-at-requires
 frame-at-requires c κs = search needs

@@ -10,7 +10,7 @@ use lib.Seq.{take-add, length-take-le}
 use Rattle.spec.specs.Tests.{_is_, _isnt_, has}
 use Rattle.spec.proofs.Bools.{neither}
 use Rattle.book.proofs.Overwrite.{mix}
-use Rattle.uaccess.specs.Strings.{toNul}
+use Rattle.strings.specs.Nul.{toNul}
 
 -- one test more, at the front of the others and behind them
 front : (a b : Bool) → not (a || b) ≡ not a && not b

@@ -1,4 +1,4 @@
--- `uaccess::write_user` meets its contract. The loop's invariant: the first `i` bytes are written.
+-- `copies::write_user` meets its contract. The loop's invariant: the first `i` bytes are written.
 use Prim.Native.Nat.{_+_, _-_, _≤_}
 use native.Mathlib.Omega.{arith}
 use mathlib.Core.Path.{_≡_, refl, ap, _∙_}
@@ -10,10 +10,10 @@ use borrow.Rule.Slice.PartMut.{mid-len}
 use Rattle.spec.specs.Numbers.{uaddrtop}
 use Rattle.spec.specs.Frames.{memOf, pokes}
 use Rattle.book.specs.Lent.{store}
-use Rattle.uaccess.proofs.Ranges.{range-top, range-cell}
-use Rattle.uaccess.proofs.Copies.{write-turn}
-use Rattle.uaccess.proofs.write_user.Statement.{statement}
-use Rattle.uaccess.proofs.write_user.Tie as tie
+use Rattle.ranges.proofs.Ranges.{range-top, range-cell}
+use Rattle.copies.proofs.Copies.{write-turn}
+use Rattle.copies.proofs.write_user.Statement.{statement}
+use Rattle.copies.proofs.write_user.Tie as tie
 
 abbrev Inv-loop : tie.InvT-loop
 Inv-loop frames₀ book tags bases table number addr bytes i₀ frames i = (i ≤ length bytes) × (length frames ≡ length frames₀) × (store frames book ≡ pokes (store frames₀ book) number addr (take i bytes))

@@ -1,12 +1,12 @@
--- `uaccess::frame_at` meets its contract.
+-- `ranges::frame_at` meets its contract.
 use Prim.Native.Nat.{ℕ}
 use mathlib.Core.Path.{ap, _∙_}
 use denote.Ref.{now}
 use borrow.Author.Needs.{needs}
 use Rattle.spec.specs.Book.{frameOf}
 use Rattle.book.specs.Lent.{foundOf}
-use Rattle.uaccess.proofs.frame_at.Statement.{statement}
-use Rattle.uaccess.proofs.frame_at.Tie as tie
+use Rattle.ranges.proofs.frame_at.Statement.{statement}
+use Rattle.ranges.proofs.frame_at.Tie as tie
 
 page-down-requires : tie.Need-page-down-requires
 page-down-requires c κs = search needs

@@ -20,7 +20,7 @@ use Rattle.laws.proofs.Pokes.{pokes-append, pokes-page}
 use Rattle.laws.proofs.Contents.{length-bytes, get-bytes}
 use Rattle.book.specs.Lent.{store}
 use Rattle.book.proofs.Overwrite.{mix, mix-part}
-use Rattle.uaccess.proofs.Found.{page-none}
+use Rattle.ranges.proofs.Found.{page-none}
 
 -- a page that may be used has a frame
 pub unmapped : {P : Type 0} (write : Bool) (frames book : List ℕ) (n va : ℕ) → frameOf book n (pageDown va) ≡ none → cellOk write (memOf (store frames book) n va) ≡ true → P

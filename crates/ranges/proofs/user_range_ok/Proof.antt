@@ -1,4 +1,4 @@
--- `uaccess::user_range_ok` meets its contract. The loop's invariant: the whole range passes where its pages from `va` on do.
+-- `ranges::user_range_ok` meets its contract. The loop's invariant: the whole range passes where its pages from `va` on do.
 use Prim.Native.Nat.{ℕ, _+_, _-_, _%_}
 use native.Mathlib.Omega.{arith}
 use mathlib.Core.Path.{_≡_, sym, ap, _∙_}
@@ -9,9 +9,9 @@ use Rattle.spec.specs.Frames.{Mem, memOf}
 use Rattle.spec.specs.Access.{userRangeOk}
 use Rattle.spec.proofs.Bools.{not-true, un-not}
 use Rattle.book.specs.Lent.{store}
-use Rattle.uaccess.proofs.Ranges.{pagesTo, range-bad, range-good, range-done, range-past, range-empty, range-pages}
-use Rattle.uaccess.proofs.user_range_ok.Statement.{statement}
-use Rattle.uaccess.proofs.user_range_ok.Tie as tie
+use Rattle.ranges.proofs.Ranges.{pagesTo, range-bad, range-good, range-done, range-past, range-empty, range-pages}
+use Rattle.ranges.proofs.user_range_ok.Statement.{statement}
+use Rattle.ranges.proofs.user_range_ok.Tie as tie
 
 abbrev memory : List ℕ → List ℕ → ℕ → Mem
 memory frames book number = memOf (store frames book) number
