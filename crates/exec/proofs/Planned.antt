@@ -18,7 +18,8 @@ use Rattle.spec.specs.declared.UserSegment.{UserSegment}
 use Rattle.laws.proofs.Apart.{count-append}
 use Rattle.laws.proofs.Accepted.{accepted-means, AllLoad, elf-loads, recorded-all}
 use Rattle.spec.proofs.Bools.{split}
-use Rattle.exec.specs.Plan.{recorded, refusedPlan, planOf}
+use Rattle.recorded.specs.Pages.{recorded}
+use Rattle.exec.specs.Plan.{refusedPlan, planOf}
 use Rattle.exec.specs.declared.Plan.{Plan}
 
 module _ (image : List ℕ) where

@@ -19,8 +19,8 @@ use Rattle.laws.proofs.Lists.{by-order}
 use Rattle.elf.specs.declared.Load.{Load}
 use Rattle.elf.specs.declared.Load.the-variants.{Skip, Segment as Taken}
 use Rattle.elf.proofs.Walk.{segmentIn, front}
-use Rattle.exec.specs.Plan.{pagesIn, kept, pushed, recordedWith, recorded}
-use Rattle.exec.specs.declared.Recorded.{Recorded}
+use Rattle.recorded.specs.Pages.{pagesIn, kept, pushed, recordedWith, recorded}
+use Rattle.recorded.specs.declared.Recorded.{Recorded}
 
 -- what one header adds
 abbrev pub added : List ℕ → VirtRange → Load → List UserSegment

@@ -1,4 +1,4 @@
--- `exec::layout` meets its contract. The invariant: the layout comes to what it comes to over the headers that are left.
+-- `layout::layout` meets its contract. The invariant: the layout comes to what it comes to over the headers that are left.
 -- Assumes nothing.
 use mathlib.Core.Path.{_≡_, refl, sym, ap, _∙_}
 use mathlib.Core.List.{List}
@@ -10,12 +10,12 @@ use Rattle.spec.specs.Elf.{segmentsOf}
 use Rattle.elf.proofs.Walk.{segs}
 use Rattle.elf.proofs.Ahead.{Ahead, ahead-all, ahead-here, ahead-next, all-segs}
 use Rattle.checked.proofs.Indexed.{at-first, at-next}
-use Rattle.exec.specs.Plan.{nothing, fits}
-use Rattle.exec.specs.declared.Fit.{Fit}
-use Rattle.exec.specs.declared.Laid.{Laid}
-use Rattle.exec.proofs.Fitted.{then, fits-some, fits-end}
-use Rattle.exec.proofs.layout.Statement.{statement}
-use Rattle.exec.proofs.layout.Tie as tie
+use Rattle.layout.specs.Fits.{nothing, fits}
+use Rattle.layout.specs.declared.Fit.{Fit}
+use Rattle.layout.specs.declared.Laid.{Laid}
+use Rattle.layout.proofs.Fitted.{then, fits-some, fits-end}
+use Rattle.layout.proofs.layout.Statement.{statement}
+use Rattle.layout.proofs.layout.Tie as tie
 
 -- with k headers left from a place on
 abbrev Left : List ℕ → Laid → ℕ → ℕ → Type 0

@@ -1,4 +1,4 @@
--- `exec::page_count` meets its contract. The invariant: the pages of the segments passed.
+-- `recorded::page_count` meets its contract. The invariant: the pages of the segments passed.
 -- Assumes nothing.
 use mathlib.Core.Path.{_≡_, refl, sym, ap, _∙_}
 use mathlib.Core.List.{List}
@@ -7,9 +7,9 @@ use native.Mathlib.Omega.{arith}
 use lib.ListN.{length, take}
 use borrow.Author.Needs.{needs}
 use Rattle.spec.specs.Book.{zeroSegment, pageCount}
-use Rattle.exec.proofs.Pages.{count-next}
-use Rattle.exec.proofs.page_count.Statement.{statement}
-use Rattle.exec.proofs.page_count.Tie as tie
+use Rattle.recorded.proofs.Pages.{count-next}
+use Rattle.recorded.proofs.page_count.Statement.{statement}
+use Rattle.recorded.proofs.page_count.Tie as tie
 
 abbrev Inv-loop : tie.InvT-loop
 Inv-loop n segments pages₀ i₀ pages i = (i ≤ n) × (length segments ≡ 16) × (pages ≡ pageCount (take i segments)) × (pages ≤ 2 ^ 52 * i)

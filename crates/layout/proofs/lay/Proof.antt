@@ -1,9 +1,9 @@
--- `exec::lay` meets its contract: each `return` is the case that its tests lead to.
+-- `layout::lay` meets its contract: each `return` is the case that its tests lead to.
 -- Assumes nothing.
 use borrow.Author.Needs.{needs}
 use borrow.Author.Tests.{eq-eqb, ne-eqb}
-use Rattle.exec.proofs.lay.Statement.{statement}
-use Rattle.exec.proofs.lay.Tie as tie
+use Rattle.layout.proofs.lay.Statement.{statement}
+use Rattle.layout.proofs.lay.Tie as tie
 
 returns : tie.Need-returns
 returns c = rw (c .if1 .taken)

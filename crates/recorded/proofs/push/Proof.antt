@@ -1,9 +1,9 @@
--- `exec::push` meets its contract: each `return` is the case that its tests lead to.
+-- `recorded::push` meets its contract: each `return` is the case that its tests lead to.
 -- Assumes nothing.
 use borrow.Author.Needs.{needs}
 use borrow.Author.Tests.{lt-ltb, le-ltb}
-use Rattle.exec.proofs.push.Statement.{statement}
-use Rattle.exec.proofs.push.Tie as tie
+use Rattle.recorded.proofs.push.Statement.{statement}
+use Rattle.recorded.proofs.push.Tie as tie
 
 returns : tie.Need-returns
 returns c =

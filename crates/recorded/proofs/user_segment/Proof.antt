@@ -1,9 +1,9 @@
--- `exec::user_segment` meets its contract: the range's ends are what the roundings answer.
+-- `recorded::user_segment` meets its contract: the range's ends are what the roundings answer.
 -- Assumes nothing.
 use borrow.Author.Needs.{needs}
 use borrow.Author.Tests.{eq-eqb, ne-eqb}
-use Rattle.exec.proofs.user_segment.Statement.{statement}
-use Rattle.exec.proofs.user_segment.Tie as tie
+use Rattle.recorded.proofs.user_segment.Statement.{statement}
+use Rattle.recorded.proofs.user_segment.Tie as tie
 
 returns : tie.Need-returns
 returns c =

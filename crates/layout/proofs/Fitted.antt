@@ -20,10 +20,10 @@ use Rattle.elf.specs.declared.Load.the-variants.{Skip, Segment as Taken}
 use Rattle.elf.proofs.Walk.{segmentIn, front, segs, segs-none, segs-some}
 use Rattle.spec.proofs.Bools.{split}
 use Rattle.elf.proofs.Ahead.{Ahead, ahead-here}
-use Rattle.exec.specs.Plan.{laid, fitOf, nothing, lastOf, fits}
-use Rattle.exec.specs.declared.Laid.{Laid}
-use Rattle.exec.specs.declared.Fit.{Fit}
-use Rattle.exec.specs.declared.Fit.the-variants.{Fits, Refused}
+use Rattle.layout.specs.Fits.{laid, fitOf, nothing, lastOf, fits}
+use Rattle.layout.specs.declared.Laid.{Laid}
+use Rattle.layout.specs.declared.Fit.{Fit}
+use Rattle.layout.specs.declared.Fit.the-variants.{Fits, Refused}
 
 -- the segments behind one, after what it came to
 abbrev pub then : Fit → List Segment → Fit

@@ -1,13 +1,13 @@
--- `exec::lay_header` meets its contract: what is read at the header is laid.
+-- `layout::lay_header` meets its contract: what is read at the header is laid.
 -- Assumes nothing.
 use mathlib.Core.Path.{_≡_, sym, ap, _∙_}
 use denote.Ref.{now}
 use lib.ListN.{length}
 use borrow.Author.Needs.{needs}
 use Rattle.elf.specs.Reader.{Checked, CheckedLoad, loadOf}
-use Rattle.exec.specs.Plan.{fitOf}
-use Rattle.exec.proofs.lay_header.Statement.{statement}
-use Rattle.exec.proofs.lay_header.Tie as tie
+use Rattle.layout.specs.Fits.{fitOf}
+use Rattle.layout.proofs.lay_header.Statement.{statement}
+use Rattle.layout.proofs.lay_header.Tie as tie
 
 -- what was read, as the arm knows it
 lay-requires : tie.Need-lay-requires

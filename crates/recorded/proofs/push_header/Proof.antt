@@ -1,13 +1,13 @@
--- `exec::push_header` meets its contract: what is read at the header is recorded.
+-- `recorded::push_header` meets its contract: what is read at the header is recorded.
 -- Assumes nothing.
 use mathlib.Core.Path.{_≡_, sym, ap, _∙_}
 use denote.Ref.{now}
 use lib.ListN.{length}
 use borrow.Author.Needs.{needs}
 use Rattle.elf.specs.Reader.{Checked, CheckedLoad, loadOf}
-use Rattle.exec.specs.Plan.{pushed, recordedWith}
-use Rattle.exec.proofs.push_header.Statement.{statement}
-use Rattle.exec.proofs.push_header.Tie as tie
+use Rattle.recorded.specs.Pages.{pushed, recordedWith}
+use Rattle.recorded.proofs.push_header.Statement.{statement}
+use Rattle.recorded.proofs.push_header.Tie as tie
 
 user-segment-requires : tie.Need-user-segment-requires
 user-segment-requires c κs =

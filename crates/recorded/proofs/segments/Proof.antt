@@ -1,4 +1,4 @@
--- `exec::segments` meets its contract. The invariant: what is recorded so far, with what the headers that are left add, is what the image has.
+-- `recorded::segments` meets its contract. The invariant: what is recorded so far, with what the headers that are left add, is what the image has.
 -- Assumes nothing.
 use mathlib.Core.Path.{_≡_, refl, sym, ap, _∙_}
 use mathlib.Core.List.{List, [], _++_, append-nil, append-assoc}
@@ -14,11 +14,11 @@ use Rattle.elf.specs.Reader.{loadOf}
 use Rattle.elf.proofs.Walk.{segs, segs-none, segs-some}
 use Rattle.elf.proofs.Ahead.{Ahead, ahead-all, ahead-here, ahead-next, all-segs}
 use Rattle.checked.proofs.Indexed.{at-first, at-next}
-use Rattle.exec.specs.Plan.{kept, recorded, recordedWith}
-use Rattle.exec.specs.declared.Recorded.{Recorded}
-use Rattle.exec.proofs.Kept.{added, added-one, kept-front, record-front}
-use Rattle.exec.proofs.segments.Statement.{statement}
-use Rattle.exec.proofs.segments.Tie as tie
+use Rattle.recorded.specs.Pages.{kept, recorded, recordedWith}
+use Rattle.recorded.specs.declared.Recorded.{Recorded}
+use Rattle.recorded.proofs.Kept.{added, added-one, kept-front, record-front}
+use Rattle.recorded.proofs.segments.Statement.{statement}
+use Rattle.recorded.proofs.segments.Tie as tie
 
 -- with k headers left from a place on
 abbrev Left : List ℕ → VirtRange → Recorded → ℕ → ℕ → Type 0
