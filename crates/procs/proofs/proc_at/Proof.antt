@@ -6,8 +6,8 @@ use Rattle.spec.specs.Book.{zeroProc}
 use Rattle.spec.proofs.Bools.{within-means}
 use Rattle.laws.proofs.Record.{Whole}
 use Rattle.records.proofs.Whole.{noProc, within-array, whole-procs}
-use Rattle.front.proofs.record.proc_at.Statement.{statement}
-use Rattle.front.proofs.record.proc_at.Tie as tie
+use Rattle.procs.proofs.proc_at.Statement.{statement}
+use Rattle.procs.proofs.proc_at.Tie as tie
 
 whole : (c : tie.Start) → Whole (c .args .t1)
 whole c = let g = c .good .0 .1 .1 .0 in whole-procs (c .args .t1) (g .0) (g .1 .1) (g .1 .0 .1)

@@ -4,8 +4,8 @@ use mathlib.Core.Bool.{Bool, _&&_}
 use borrow.Author.Needs.{needs}
 use borrow.Author.Tests.{not-true, not-false}
 use Rattle.spec.specs.Book.{lives}
-use Rattle.front.proofs.record.lives.Statement.{statement}
-use Rattle.front.proofs.record.lives.Tie as tie
+use Rattle.procs.proofs.lives.Statement.{statement}
+use Rattle.procs.proofs.lives.Tie as tie
 
 is-number-requires : tie.Need-is-number-requires
 is-number-requires c κs = search needs

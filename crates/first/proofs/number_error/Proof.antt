@@ -2,8 +2,8 @@
 use mathlib.Core.Path.{refl}
 use borrow.Author.Needs.{needs}
 use Rattle.sound.proofs.Lookup.{blank-zeros}
-use Rattle.front.proofs.numbers.number_error.Statement.{statement}
-use Rattle.front.proofs.numbers.number_error.Tie as tie
+use Rattle.first.proofs.number_error.Statement.{statement}
+use Rattle.first.proofs.number_error.Tie as tie
 
 number-ready-requires : tie.Need-number-ready-requires
 number-ready-requires c κs = (refl, refl, refl, blank-zeros 1024)

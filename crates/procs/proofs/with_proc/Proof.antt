@@ -2,8 +2,8 @@
 use native.Mathlib.Omega.{arith}
 use borrow.Author.Needs.{needs}
 use Rattle.spec.proofs.Bools.{within-means}
-use Rattle.front.proofs.record.with_proc.Statement.{statement}
-use Rattle.front.proofs.record.with_proc.Tie as tie
+use Rattle.procs.proofs.with_proc.Statement.{statement}
+use Rattle.procs.proofs.with_proc.Tie as tie
 
 sub-i : tie.Need-sub-i
 sub-i c = omega (arith, within-means 1 17 (c .args .number) (c .pre))

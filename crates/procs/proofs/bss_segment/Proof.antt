@@ -4,8 +4,8 @@ use Prim.Native.Nat.{ℕ}
 use borrow.Author.Needs.{needs}
 use Rattle.spec.specs.Book.{range}
 use Rattle.spec.specs.declared.VirtRange.{VirtRange}
-use Rattle.front.proofs.pages.bss_segment.Statement.{statement}
-use Rattle.front.proofs.pages.bss_segment.Tie as tie
+use Rattle.procs.proofs.bss_segment.Statement.{statement}
+use Rattle.procs.proofs.bss_segment.Tie as tie
 
 page-up-requires : tie.Need-page-up-requires
 page-up-requires c κs = search needs

@@ -8,10 +8,10 @@ use borrow.Author.Tests.{not-false}
 use Rattle.spec.specs.Frames.{sized}
 use Rattle.spec.proofs.Bools.{both}
 use Rattle.book.specs.Lent.{store}
-use Rattle.front.specs.Numbers.{numberError}
-use Rattle.front.proofs.First.{given, further, sizes-words}
-use Rattle.front.proofs.numbers.number_ready.Statement.{statement}
-use Rattle.front.proofs.numbers.number_ready.Tie as tie
+use Rattle.first.specs.Numbers.{numberError}
+use Rattle.first.proofs.First.{given, further, sizes-words}
+use Rattle.first.proofs.number_ready.Statement.{statement}
+use Rattle.first.proofs.number_ready.Tie as tie
 
 -- the first test is of sizes and lengths
 sizes-is : (c : tie.After-sizes-ok)

@@ -6,9 +6,9 @@ use lib.ListN.{length, take}
 use borrow.Author.Needs.{needs}
 use Rattle.spec.specs.Book.{pageCount}
 use Rattle.records.proofs.Walk.{length-mapped}
-use Rattle.front.proofs.Own.{count-more, count-last}
-use Rattle.front.proofs.pages.own_pages.Statement.{statement}
-use Rattle.front.proofs.pages.own_pages.Tie as tie
+use Rattle.procs.proofs.Own.{count-more, count-last}
+use Rattle.procs.proofs.own_pages.Statement.{statement}
+use Rattle.procs.proofs.own_pages.Tie as tie
 
 abbrev Inv-loop : tie.InvT-loop
 Inv-loop segments bss n₀ i₀ n i = (i ≤ 16) × (length segments ≡ 16) × (n ≡ pageCount (take i segments)) × (n ≤ 4503599627370496 * i)

@@ -2,9 +2,9 @@
 use mathlib.Core.Path.{refl, sym}
 use denote.Ref.{now}
 use borrow.Author.Needs.{needs}
-use Rattle.front.proofs.First.{sizes-many}
-use Rattle.front.proofs.numbers.sizes_ok.Statement.{statement}
-use Rattle.front.proofs.numbers.sizes_ok.Tie as tie
+use Rattle.first.proofs.First.{sizes-many}
+use Rattle.first.proofs.sizes_ok.Statement.{statement}
+use Rattle.first.proofs.sizes_ok.Tie as tie
 
 returns : tie.Need-returns
 returns c = sym (sizes-many (now (c .before .args .frames)) (now (c .before .args .book)) (c .if1 .taken))
