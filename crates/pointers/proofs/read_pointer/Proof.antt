@@ -11,10 +11,10 @@ use Rattle.spec.specs.Frames.{Mem, memOf}
 use Rattle.spec.specs.Access.{userRangeOk, bytesAt}
 use Rattle.spec.proofs.Chain.{is-through, isnt-through}
 use Rattle.book.specs.Lent.{store}
-use Rattle.argv.specs.declared.Pointer.the-variants.{At}
-use Rattle.argv.proofs.Turned.{pointer-bad, pointer-null, pointer-string}
-use Rattle.argv.proofs.read_pointer.Statement.{statement}
-use Rattle.argv.proofs.read_pointer.Tie as tie
+use Rattle.pointers.specs.declared.Pointer.the-variants.{At}
+use Rattle.pointers.proofs.Pointing.{pointer-bad, pointer-null, pointer-string}
+use Rattle.pointers.proofs.read_pointer.Statement.{statement}
+use Rattle.pointers.proofs.read_pointer.Tie as tie
 
 abbrev memory : tie.Start → Mem
 memory c = memOf (store (now (c .args .frames)) (now (c .args .book))) (c .args .number)

@@ -16,10 +16,10 @@ use Rattle.spec.proofs.Bools.{neither}
 use Rattle.book.specs.Lent.{store}
 use Rattle.uaccess.specs.Strings.{copied}
 use Rattle.args.proofs.Saturated.{saturated-fits}
-use Rattle.argv.proofs.Buffered.{Told, buffered}
-use Rattle.argv.proofs.Adding.{added-bad, added-over, added-fine}
-use Rattle.argv.proofs.copy_arg.Statement.{statement}
-use Rattle.argv.proofs.copy_arg.Tie as tie
+use Rattle.copy_arg.proofs.Buffered.{Told, buffered}
+use Rattle.copy_arg.proofs.Adding.{added-bad, added-over, added-fine}
+use Rattle.copy_arg.proofs.copy_arg.Statement.{statement}
+use Rattle.copy_arg.proofs.copy_arg.Tie as tie
 
 -- where the string has been read
 module _ (c : tie.After-slice-known4) where

@@ -4,8 +4,8 @@ use native.Mathlib.Omega.{arith}
 use mathlib.Core.Path.{sym}
 use borrow.Author.Needs.{needs}
 use Rattle.args.proofs.Saturated.{saturated-fits, saturated-past}
-use Rattle.argv.proofs.pointer_addr.Statement.{statement}
-use Rattle.argv.proofs.pointer_addr.Tie as tie
+use Rattle.pointers.proofs.pointer_addr.Statement.{statement}
+use Rattle.pointers.proofs.pointer_addr.Tie as tie
 
 mul-far : tie.Need-mul-far
 mul-far c = search needs

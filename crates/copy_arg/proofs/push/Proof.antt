@@ -7,8 +7,8 @@ use lib.ListN.{length}
 use borrow.Author.Needs.{needs}
 use Rattle.spec.specs.Frames.{put}
 use Rattle.laws.proofs.Lists.{put-part}
-use Rattle.argv.proofs.push.Statement.{statement}
-use Rattle.argv.proofs.push.Tie as tie
+use Rattle.copy_arg.proofs.push.Statement.{statement}
+use Rattle.copy_arg.proofs.push.Tie as tie
 
 add-end : tie.Need-add-end
 add-end c = search needs

@@ -12,7 +12,7 @@ use Rattle.spec.specs.Frames.{put}
 use Rattle.spec.specs.Access.{Str}
 use Rattle.spec.specs.Exec.{stackSize}
 use Rattle.spec.proofs.Bools.{split, neither, or-fact}
-use Rattle.argv.specs.Reading.{stringError, Added, withString}
+use Rattle.copy_arg.specs.Strings.{stringError, Added, withString}
 
 module _ (t : Str) (used count : ℕ) (bytes lengths : List ℕ) where
   abbrev over : ℕ → Bool
