@@ -2,9 +2,10 @@
 -- Assumes nothing.
 use native.Mathlib.Omega.{arith}
 use borrow.Author.Needs.{needs}
-use Rattle.text.proofs.Behind.{behind, same-text, span-text}
-use Rattle.text.proofs.put_span.Statement.{statement}
-use Rattle.text.proofs.put_span.Tie as tie
+use Rattle.text.proofs.Behind.{behind, same-text}
+use Rattle.lines.proofs.Parts.{span-text}
+use Rattle.lines.proofs.put_span.Statement.{statement}
+use Rattle.lines.proofs.put_span.Tie as tie
 
 returns : tie.Need-returns
 returns c =

@@ -7,10 +7,12 @@ use denote.Ref.{now}
 use lib.ListN.{length, take}
 use borrow.Author.Needs.{needs}
 use Rattle.spec.specs.Book.{zeroSegment}
-use Rattle.text.specs.Text.{Puts, linesText}
-use Rattle.text.proofs.Behind.{behind, same-text, same-room, lines-none, lines-next, puts-none}
-use Rattle.text.proofs.put_lines.Statement.{statement}
-use Rattle.text.proofs.put_lines.Tie as tie
+use Rattle.text.specs.Text.{Puts}
+use Rattle.text.proofs.Behind.{behind, same-text, same-room, puts-none}
+use Rattle.lines.specs.Lines.{linesText}
+use Rattle.lines.proofs.Parts.{lines-none, lines-next}
+use Rattle.lines.proofs.put_lines.Statement.{statement}
+use Rattle.lines.proofs.put_lines.Tie as tie
 
 abbrev Inv-loop : tie.InvT-loop
 Inv-loop out₀ at n segments end₀ i₀ out end i =

@@ -1,9 +1,9 @@
 -- `text::put_plan` meets its contract: five texts, one behind the other.
 -- Assumes nothing.
 use borrow.Author.Needs.{needs}
 use Rattle.text.proofs.Behind.{behind}
-use Rattle.text.proofs.put_plan.Statement.{statement}
-use Rattle.text.proofs.put_plan.Tie as tie
+use Rattle.list.proofs.put_plan.Statement.{statement}
+use Rattle.list.proofs.put_plan.Tie as tie
 
 returns : tie.Need-returns
 returns c =

@@ -11,11 +11,11 @@ use Rattle.spec.specs.Exec.{imageError, imageSegments}
 use Rattle.laws.proofs.Accepted.{accepted-means}
 use Rattle.exec.specs.declared.Plan.{Plan}
 use Rattle.exec.proofs.Planned.{plan-number, plan-elf-number, plan-accepted}
-use Rattle.text.specs.Text.{planText}
+use Rattle.list.specs.Plan.{planText}
 use Rattle.text.proofs.Behind.{same-text, counts}
-use Rattle.text.proofs.Listed.{error-long, error-elf, error-image, refused-text, plan-text}
-use Rattle.text.proofs.list_into.Statement.{statement}
-use Rattle.text.proofs.list_into.Tie as tie
+use Rattle.list.proofs.Listed.{error-long, error-elf, error-image, refused-text, plan-text}
+use Rattle.list.proofs.list_into.Statement.{statement}
+use Rattle.list.proofs.list_into.Tie as tie
 
 -- the plan's numbers are the image's
 elf : (c : tie.After-plan-of) → c .plan-of .result .elf ≡ elfError (now (c .before .before .before .before .args .image))

@@ -17,7 +17,9 @@ use Rattle.spec.specs.declared.UserSegment.{UserSegment}
 use Rattle.exec.specs.declared.Plan.{Plan}
 use Rattle.exec.specs.Plan.{planOf}
 use Rattle.exec.proofs.Planned.{plan-accepted}
-use Rattle.text.specs.Text.{numberText, spanText, linesText, fieldText, planText}
+use Rattle.text.specs.Text.{numberText, fieldText}
+use Rattle.lines.specs.Lines.{spanText, linesText}
+use Rattle.list.specs.Plan.{planText}
 
 module _ (image : List ℕ) where
   -- ---- what it is refused for
