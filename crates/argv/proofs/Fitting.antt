@@ -10,8 +10,8 @@ use Rattle.spec.specs.Frames.{Mem}
 use Rattle.spec.specs.Access.{userRangeOk, bytesAt, Str, copyStr}
 use Rattle.spec.specs.Exec.{strings, stackSize, argsError, Argv, argBuffer, argvFrom, copyArgv}
 use Rattle.spec.proofs.Bools.{neither}
+use Rattle.copy_arg.proofs.Buffered.{str-no-nul}
 use Rattle.spec.proofs.Args.{args-means}
-use Rattle.argv.proofs.Buffered.{str-no-nul}
 use Rattle.argv.proofs.Turned.{turn}
 
 -- neither 35 nor 33 is given but where nothing is: then the arguments can be pushed

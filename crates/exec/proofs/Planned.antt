@@ -19,7 +19,8 @@ use Rattle.laws.proofs.Accepted.{accepted-means, recorded-all}
 use Rattle.laws.proofs.Pieces.{count-append}
 use Rattle.laws.proofs.Headers.{AllLoad, elf-loads}
 use Rattle.spec.proofs.Bools.{split}
-use Rattle.exec.specs.Plan.{recorded, refusedPlan, planOf}
+use Rattle.recorded.specs.Pages.{recorded}
+use Rattle.exec.specs.Plan.{refusedPlan, planOf}
 use Rattle.exec.specs.declared.Plan.{Plan}
 
 module _ (image : List ℕ) where

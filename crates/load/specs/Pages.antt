@@ -10,7 +10,7 @@ use Rattle.spec.specs.Exec.{userSegment}
 use Rattle.spec.specs.declared.VirtRange.{VirtRange}
 use Rattle.elf.specs.declared.Load.{Load}
 use Rattle.elf.specs.declared.Load.the-variants.{Skip, Segment as Taken}
-use Rattle.exec.specs.Plan.{pagesIn}
+use Rattle.recorded.specs.Pages.{pagesIn}
 use Rattle.pagealloc.specs.Contents.{fileAt}
 
 -- a segment's recorded pages, by a bss

@@ -14,7 +14,7 @@ use Rattle.spec.specs.World.{State, view, forget, load, leave}
 use Rattle.spec.specs.declared.Answer.{Answer}
 use Rattle.spec.specs.declared.Answer.the-variants.{Regs, Refused, Ended}
 use Rattle.front.specs.Numbers.{call}
-use Rattle.replace.specs.Entering.{short, entered, entering}
+use Rattle.enter.specs.Entering.{short, entered, entering}
 
 module _ (m : Machine) (free : ℕ) (image name : List ℕ) (argv : ℕ) where
   -- its image is refused

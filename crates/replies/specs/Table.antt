@@ -9,7 +9,7 @@ use Rattle.spec.specs.declared.VirtRange.{VirtRange}
 use Rattle.spec.specs.declared.Found.{Found}
 use Rattle.spec.specs.declared.Found.the-variants.{At, Nothing}
 use Rattle.text.specs.Text.{fieldText}
-use Rattle.replies.specs.Lines.{namedText}
+use Rattle.answers.specs.Lines.{namedText}
 
 -- a name without the zeros at its end: a zero stays where something follows it
 abbrev pub keep : ℕ → List ℕ → List ℕ

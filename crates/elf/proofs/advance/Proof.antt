@@ -9,7 +9,8 @@ use lib.ListN.{length}
 use borrow.Author.Needs.{needs}
 use borrow.Author.Tests.{not-true, not-false}
 use Rattle.spec.specs.Elf.{errorNumber}
-use Rattle.header.specs.Header.{verdictNumber, phdrOf}
+use Rattle.header.specs.Header.{verdictNumber}
+use Rattle.phdr.specs.Phdr.{phdrOf}
 use Rattle.elf.specs.Reader.{segmentFrom, Checked}
 use Rattle.laws.proofs.Headers.{header-means}
 use Rattle.elf.proofs.Errors.{not-zero}

@@ -13,8 +13,8 @@ use Rattle.spec.specs.Exec.{imageSegments, kept}
 use Rattle.spec.specs.declared.VirtRange.{VirtRange}
 use Rattle.elf.proofs.Image.{says-fields}
 use Rattle.elf.proofs.Ahead.{parsed-zero}
-use Rattle.exec.specs.Plan.{recorded}
-use Rattle.exec.specs.declared.Recorded.{Recorded}
+use Rattle.recorded.specs.Pages.{recorded}
+use Rattle.recorded.specs.declared.Recorded.{Recorded}
 use Rattle.exec.proofs.Planned.{plan-many, plan-yes, bss-low, all-pages, first-ones, with-stack, same-plan}
 use Rattle.exec.proofs.fill.Statement.{statement}
 use Rattle.exec.proofs.fill.Tie as tie
