@@ -18,7 +18,7 @@ use Rattle.exec.specs.declared.Plan.{Plan}
 use Rattle.exec.specs.Plan.{planOf}
 use Rattle.exec.proofs.Planned.{plan-accepted}
 use Rattle.text.specs.Text.{numberText, fieldText}
-use Rattle.lines.specs.Lines.{spanText, linesText}
+use Rattle.segment_lines.specs.Lines.{spanText, linesText}
 use Rattle.list.specs.Plan.{planText}
 
 module _ (image : List ℕ) where

@@ -6,7 +6,7 @@ use lib.ListN.{take}
 use Rattle.spec.specs.Tests.{ascii}
 use Rattle.exec.specs.declared.Plan.{Plan}
 use Rattle.text.specs.Text.{fieldText}
-use Rattle.lines.specs.Lines.{spanText, linesText}
+use Rattle.segment_lines.specs.Lines.{spanText, linesText}
 
 -- a plan's lines: entry, segments, bss and pages
 abbrev pub planText : Plan → List ℕ

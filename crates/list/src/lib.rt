@@ -18,9 +18,9 @@ fn put_plan(out: &mut [u8], p: Plan) -> usize
     let segments = p.segments;
     let bss = p.bss;
     let a = put_field(out, 0, b"entry=", p.entry);
-    let b = lines::put_lines(out, a, segments, p.count);
+    let b = segment_lines::put_lines(out, a, segments, p.count);
     let c = put(out, b, b"bss=");
-    let d = lines::put_span(out, c, bss);
+    let d = segment_lines::put_span(out, c, bss);
     put_field(out, d, b"pages=", p.pages)
 }
 

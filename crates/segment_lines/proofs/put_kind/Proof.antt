@@ -3,8 +3,8 @@
 use native.Mathlib.Omega.{arith}
 use borrow.Author.Needs.{needs}
 use borrow.Author.Tests.{eq-eqb, ne-eqb}
-use Rattle.lines.proofs.put_kind.Statement.{statement}
-use Rattle.lines.proofs.put_kind.Tie as tie
+use Rattle.segment_lines.proofs.put_kind.Statement.{statement}
+use Rattle.segment_lines.proofs.put_kind.Tie as tie
 
 returns : tie.Need-returns
 returns c =

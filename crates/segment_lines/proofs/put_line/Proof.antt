@@ -3,8 +3,8 @@
 use native.Mathlib.Omega.{arith}
 use borrow.Author.Needs.{needs}
 use Rattle.text.proofs.Behind.{behind}
-use Rattle.lines.proofs.put_line.Statement.{statement}
-use Rattle.lines.proofs.put_line.Tie as tie
+use Rattle.segment_lines.proofs.put_line.Statement.{statement}
+use Rattle.segment_lines.proofs.put_line.Tie as tie
 
 returns : tie.Need-returns
 returns c =

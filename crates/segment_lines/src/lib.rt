@@ -4,7 +4,7 @@ ghost use Prim.Native.Nat.{_+_, _*_, _≤_};
 ghost use lib.ListN.{length, take};
 ghost use Rattle.spec.specs.Listing.{kindText};
 ghost use Rattle.text.specs.Text.{Puts};
-ghost use Rattle.lines.specs.Lines.{spanText, linesText, lineText};
+ghost use Rattle.segment_lines.specs.Lines.{spanText, linesText, lineText};
 use spec::UserSegment;
 use spec::VirtRange;
 use text::put;

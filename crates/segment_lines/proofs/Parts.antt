@@ -10,7 +10,7 @@ use Rattle.spec.specs.Tests.{ascii}
 use Rattle.spec.specs.declared.VirtRange.{VirtRange}
 use Rattle.spec.specs.declared.UserSegment.{UserSegment}
 use Rattle.text.specs.Text.{numberText}
-use Rattle.lines.specs.Lines.{spanText, linesText, lineText}
+use Rattle.segment_lines.specs.Lines.{spanText, linesText, lineText}
 
 pub span-text : (r : VirtRange) → numberText (r .start) ++ ascii " " ++ numberText (r .end) ++ (10 ∷ []) ≡ spanText r
 unfolding numberText spanText

@@ -9,10 +9,10 @@ use borrow.Author.Needs.{needs}
 use Rattle.spec.specs.Book.{zeroSegment}
 use Rattle.text.specs.Text.{Puts}
 use Rattle.text.proofs.Behind.{behind, same-text, same-room, puts-none}
-use Rattle.lines.specs.Lines.{linesText}
-use Rattle.lines.proofs.Parts.{lines-none, lines-next}
-use Rattle.lines.proofs.put_lines.Statement.{statement}
-use Rattle.lines.proofs.put_lines.Tie as tie
+use Rattle.segment_lines.specs.Lines.{linesText}
+use Rattle.segment_lines.proofs.Parts.{lines-none, lines-next}
+use Rattle.segment_lines.proofs.put_lines.Statement.{statement}
+use Rattle.segment_lines.proofs.put_lines.Tie as tie
 
 abbrev Inv-loop : tie.InvT-loop
 Inv-loop out₀ at n segments end₀ i₀ out end i =

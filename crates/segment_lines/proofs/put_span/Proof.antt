@@ -3,9 +3,9 @@
 use native.Mathlib.Omega.{arith}
 use borrow.Author.Needs.{needs}
 use Rattle.text.proofs.Behind.{behind, same-text}
-use Rattle.lines.proofs.Parts.{span-text}
-use Rattle.lines.proofs.put_span.Statement.{statement}
-use Rattle.lines.proofs.put_span.Tie as tie
+use Rattle.segment_lines.proofs.Parts.{span-text}
+use Rattle.segment_lines.proofs.put_span.Statement.{statement}
+use Rattle.segment_lines.proofs.put_span.Tie as tie
 
 returns : tie.Need-returns
 returns c =
