@@ -1,4 +1,4 @@
--- The pages of a record: counted place by place, and those of all sixteen places are those of the recorded segments.
+-- The pages of a record: those of its places and of its bss, and those of all sixteen places are those of the recorded segments.
 use Prim.Native.Nat.{ℕ, zero, suc, _+_, _-_, _/_, _<_, _≤_}
 use native.Mathlib.Omega.{arith}
 use native.Mathlib.Numerals.{add-one}
@@ -16,11 +16,11 @@ use Rattle.laws.proofs.Pages.{pages-append}
 use Rattle.laws.proofs.Shape.{shape-used}
 use Rattle.laws.proofs.Pieces.{count-append}
 
--- ---- place by place
-
+-- one place more
 pub take-more : (gs : List UserSegment) (i : ℕ) → i < length gs → take (i + 1) gs ≡ take i gs ++ getD gs i zeroSegment ∷ []
 take-more gs i h = rw (add-one, take-suc gs i zeroSegment)
 
+-- all places, and a piece behind them
 pub count-last : (gs : List UserSegment) (i n k : ℕ) (g g′ : UserSegment) → length gs ≤ i → n ≡ pageCount (take i gs) → g ≡ g′ → k ≡ (g .range .end - g .range .start) / 4096 → n + k ≡ pageCount (gs ++ g′ ∷ [])
 count-last gs i n k g g′ h e same f =
     let one : pageCount (g ∷ []) ≡ k = (let z : k + 0 ≡ k = omega arith in rw (← f) z) in
