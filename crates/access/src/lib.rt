@@ -1,5 +1,6 @@
-// The four calls that look at user memory, as calls of their own (uaccess.rs): the check of a range, bytes read, bytes written, and the
-// string copy.
+// The four calls that look at user memory, as calls of their own (uaccess.rs): the check of a range, bytes read, bytes written, and
+// the string copy. Each gives the numbers that come first, then goes by crate uaccess; a bad address ends the process in the two
+// copies, and is only told in the other two.
 
 mod call_copy_from_user;
 mod call_copy_to_user;

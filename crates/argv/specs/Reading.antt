@@ -1,4 +1,5 @@
--- What reading the arguments of replace comes to, step by step.
+-- What reading the arguments of replace comes to, step by step: a pointer, a string, the limit. The specification's `copyArgv` says
+-- it as a whole; these are its steps, one for each function, and what the lent bytes and lengths stand for.
 -- Assumes nothing.
 use Prim.Native.Nat.{ℕ, _+_}
 use mathlib.Core.Bool.{false, not}

@@ -1,4 +1,6 @@
--- What the layout of an image comes to: where its segments and its bss go, and how many pages a start takes.
+-- What the layout of an image comes to: where its segments and its bss go, and how many pages a start takes. The code walks the
+-- headers twice, once for the layout and once for the record, so that each is stated step by step; `planOf` is the whole, in the
+-- specification's words.
 -- Assumes nothing.
 use Prim.Native.Nat.{ℕ, _+_, _-_}
 use mathlib.Core.Bool.{Bool, true, false, not, _&&_, _||_}

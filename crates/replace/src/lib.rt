@@ -1,4 +1,5 @@
-// Replace: a process becomes another program, as r9's exec.rs does in `sysexec` once it has read the image.
+// Replace: a process becomes another program, as r9's exec.rs does in `sysexec` once it has read the image. Arguments are read and
+// all is checked before the old pages go; past that point the process has the new program or ends.
 
 ghost use mathlib.Core.Path.{_≡_};
 ghost use Rattle.spec.specs.Exec.{argsOf};

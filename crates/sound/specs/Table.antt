@@ -1,4 +1,5 @@
--- The pass over the book, and the table that it leaves: for each rank the frame of its page.
+-- The pass over the book, and the table that it leaves: for each rank the frame of its page. `Ready` is what a call's lookups rest
+-- on after the check has said yes.
 -- Assumes nothing.
 use Prim.Native.Nat.{ℕ, _+_, _-_, _<_, _≤_}
 use mathlib.Core.Path.{_≡_}

@@ -1,4 +1,5 @@
 // Start: a new process from an image and its arguments, as r9's exec.rs does in `exec`; and its last steps, which replace shares.
+// All numbers are weighed before the first page is placed.
 
 ghost use mathlib.Core.Path.{_≡_};
 ghost use Prim.Native.Nat.{_*_, _-_, _≤_, _<_};

@@ -1,4 +1,5 @@
--- What a string copy comes to, part by part.
+-- What a string copy comes to, part by part. The specification's `copyStr` goes byte by byte; the code goes page by page and looks
+-- for the NUL in each part.
 -- Assumes nothing.
 use Prim.Native.Nat.{ℕ, suc}
 use mathlib.Core.Bool.{Bool}
