@@ -1,4 +1,5 @@
--- The point of no return of a replace: what has been checked before it, and what comes after it.
+-- The point of no return of a replace: what has been checked before it, and what comes after it. Up to it the old program is left as
+-- it was; past it only 33 is left, which ends the process.
 -- Assumes nothing.
 use Prim.Native.Nat.{ℕ, _+_}
 use mathlib.Core.Path.{_≡_}

@@ -1,4 +1,5 @@
--- What an image and its arguments must keep to before they are installed, and the record of a plan.
+-- What an image and its arguments must keep to before they are installed, and the record of a plan. Start and replace both check it,
+-- each in its own order, and then take the same last steps.
 -- Assumes nothing.
 use Prim.Native.Nat.{ℕ, _*_, _≤_}
 use mathlib.Core.Path.{_≡_}

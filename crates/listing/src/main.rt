@@ -1,4 +1,5 @@
-// Lists the image on standard input: its entry point, segments, bss and pages, or the number that it is refused with.
+// Lists the image on standard input: its entry point, segments, bss and pages, or the number that it is refused with. The text is
+// proved in crate text; here bytes are read and written.
 use libc::STDOUT_FILENO;
 
 fn main() {

@@ -1,4 +1,5 @@
--- The pages of loadable segments, each with its own file bytes.
+-- The pages of loadable segments, each with its own file bytes. The specification gives a page's bytes over all segments at once
+-- (`fileByte`); the loader goes segment by segment, and its laws prove that both come to the same pages.
 -- Assumes nothing.
 use Prim.Native.Nat.{ℕ, _+_, _≤_}
 use mathlib.Core.List.{List, [], _∷_, _++_}

@@ -1,6 +1,6 @@
--- The plan: every page that the records call for, in 272 parts, seventeen for each process (sixteen segments, then the bss).
--- A part has a tag, the word of its first page, and a base, how many pages the parts before it have. A page's rank is its place in
--- the order of the parts.
+-- The plan: every page that the records call for, in 272 parts, seventeen for each process (sixteen segments, then the bss). A part
+-- has a tag, the word of its first page, and a base, how many pages the parts before it have. A page's rank is its place in the
+-- order of the parts.
 -- Assumes nothing.
 use Prim.Native.Nat.{ℕ, zero, suc, _+_, _*_, _-_, _/_, _%_, _<_, _≤_}
 use mathlib.Core.Path.{_≡_}

@@ -1,4 +1,5 @@
-// One process's record, and all of them: their own rules, without the book.
+// One process's record, and all of them: their own rules, without the book. Refusal 2 begins with them, so that the pass over the
+// book rests on records that are in order.
 
 ghost use mathlib.Core.Path.{_≡_};
 ghost use Prim.Native.Nat.{_≤_};

@@ -1,4 +1,5 @@
--- Item 5, exec.rs: layout, segments, the contents of pages, and arguments.
+-- Item 5, exec.rs: layout, segments, the contents of pages, and arguments. It says what a program's memory is to be before it first
+-- runs; how it comes into frames is in World.
 -- Assumes nothing.
 use Prim.Native.Nat.{ℕ, zero, suc, _+_, _*_, _-_, _/_}
 use mathlib.Core.Bool.{Bool, true, false, not, _&&_, _||_}
