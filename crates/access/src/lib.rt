@@ -1,5 +1,6 @@
-// The four calls that look at user memory, as calls of their own (uaccess.rs): the check of a range, the string copy, and, passed on from
-// crate copy_user, bytes read and bytes written.
+// The four calls that look at user memory, as calls of their own (uaccess.rs): the check of a range, the string copy, and, passed on
+// from crate copy_user, bytes read and bytes written. Each gives the numbers that come first, then goes by crate uaccess. A bad
+// address is only told here; in the two copies it ends the process.
 
 mod call_try_copy_str_from_user;
 mod call_user_range_ok;

@@ -1,4 +1,5 @@
--- The lines of answers.
+-- The lines of answers: for each kind of answer its words and numbers, as docs/REPLAY.md lists them. Who reads a replay's output
+-- believes this module.
 -- Assumes nothing.
 use Prim.Native.Nat.{ℕ}
 use mathlib.Core.List.{List, _++_}

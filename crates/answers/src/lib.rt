@@ -1,4 +1,5 @@
-// The answers of calls as lines of the replay program, put into a buffer that the caller lends.
+// The answers of calls as lines of the replay program, put into a buffer that the caller lends. The same lines are what the
+// published Rust is compared by.
 
 ghost use mathlib.Core.Path.{_≡_};
 ghost use Prim.Native.Nat.{_+_, _*_, _≤_, _<_};

@@ -1,4 +1,5 @@
--- What reading the arguments of replace comes to.
+-- What reading the arguments of replace comes to, with what it leaves in the lent bytes and lengths. It is the specification's
+-- `copyArgv`; its steps stand in the crates pointers and copy_arg.
 -- Assumes nothing.
 use Prim.Native.Nat.{ℕ}
 use mathlib.Core.List.{List}

@@ -1,4 +1,5 @@
--- What one string more comes to.
+-- What one string more comes to: 35, 33, or the string behind those before it. It is one step of the specification's `argvFrom`,
+-- over lent bytes and lengths.
 -- Assumes nothing.
 use Prim.Native.Nat.{ℕ, _+_}
 use mathlib.Core.Bool.{not}

@@ -1,5 +1,5 @@
-// One more argument of replace, as r9's copy_argv in exec.rs reads it: a string of user memory, put behind the arguments so far if it is
-// within the limit with them.
+// One more argument of replace, as r9's copy_argv in exec.rs reads it: a string of user memory, put behind the arguments so far if
+// it is within the limit with them. Nothing is put where it is refused.
 
 ghost use mathlib.Core.Path.{_≡_};
 ghost use Prim.Native.Nat.{_+_, _*_, _/_, _≤_, _<_};

@@ -1,5 +1,5 @@
-// The last steps of replace, as r9's exec.rs does in `sysexec` past the point of no return: the process's pages are freed, and it enters
-// the image, or ends.
+// The last steps of replace, as r9's exec.rs does in `sysexec` past the point of no return: the process's pages are freed, and it
+// enters the image, or ends. Its caller has checked everything but the frames.
 
 ghost use mathlib.Core.Path.{_≡_};
 ghost use Rattle.spec.specs.Exec.{argsOf};

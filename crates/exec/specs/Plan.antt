@@ -1,4 +1,5 @@
--- What a start needs of an image.
+-- What a start needs of an image: its refusal, or its entry point, segments, bss and pages. It is the specification's, gathered into
+-- one record, since the code parses an image once and hands this on.
 -- Assumes nothing.
 use Prim.Native.Nat.{ℕ, _-_}
 use mathlib.Core.List.{List, _∷_, _++_}

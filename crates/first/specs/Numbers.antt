@@ -1,4 +1,5 @@
--- Numbers 1 to 5, which come first in every call, in this order: the first that is given, or 0.
+-- Numbers 1 to 5, which come first in every call, in this order: the first that is given, or 0. The specification gives them in
+-- `answer` and `judge`, call by call; here they stand once for each kind of call, as the functions look them up.
 -- Assumes nothing.
 use Prim.Native.Nat.{ℕ}
 use mathlib.Core.Bool.{Bool, true, not, _&&_}

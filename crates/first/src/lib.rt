@@ -1,4 +1,5 @@
-// Numbers 1 to 3, which come first in every call, in that order: sizes, the book, the process's number.
+// Numbers 1 to 3, which come first in every call, in that order: sizes, the book, the process's number. The check of the book is
+// made here, once a call.
 
 ghost use mathlib.Core.Path.{_≡_};
 ghost use lib.ListN.{length};

@@ -1,4 +1,5 @@
--- What the ELF header's fields are and what is checked of them; the number of a verdict.
+-- What the ELF header's fields are and what is checked of them; the number of a verdict. The code reads a header once and then
+-- checks what it read, so that checks 13 to 20 are stated over the fields.
 -- Assumes nothing.
 use Prim.Native.Nat.{ℕ, _+_, _*_, _%_}
 use mathlib.Core.Bool.{_||_}

@@ -1,4 +1,4 @@
--- The lines of bytes and sums.
+-- The lines of bytes and sums: two digits for each byte, eight for a sum. `-` stands for no bytes.
 -- Assumes nothing.
 use Prim.Native.Nat.{ℕ, _/_, _%_}
 use mathlib.Core.List.{List, [], _∷_, _++_}

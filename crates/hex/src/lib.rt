@@ -1,4 +1,5 @@
-// Bytes and sums in hex digits, as lines of the replay program.
+// Bytes and sums in hex digits, as lines of the replay program. A lent buffer is shown whole, so that bytes behind a copy are seen
+// to be as they were.
 
 ghost use mathlib.Core.Path.{_≡_};
 ghost use Prim.Native.Nat.{_+_, _*_, _≤_, _<_};

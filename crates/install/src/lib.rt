@@ -1,5 +1,6 @@
-// The last steps of a start, which replace shares, as r9's exec.rs does in `exec` once nothing can fail any more: an accepted image's
-// pages, its arguments on the stack, its record, and the registers to enter it with.
+// The last steps of a start, which replace shares, as r9's exec.rs does in `exec` once nothing can fail any more: an accepted
+// image's pages, its arguments on the stack, its record, and the registers to enter it with. It asks that the process has no page
+// yet, not that the book is sound.
 
 ghost use mathlib.Core.Path.{_≡_};
 ghost use Prim.Native.Nat.{_*_, _-_, _≤_, _<_};

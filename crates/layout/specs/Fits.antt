@@ -1,4 +1,5 @@
--- What the layout of an image comes to: whether its segments fit, and the bss behind them.
+-- What the layout of an image comes to: whether its segments fit, and the bss behind them. The code goes header by header, so that
+-- it is stated for one more segment and for all; `fits` is the specification's `layoutOk` with `bssOf`.
 -- Assumes nothing.
 use Prim.Native.Nat.{_+_}
 use mathlib.Core.Bool.{false, not, _&&_, _||_}

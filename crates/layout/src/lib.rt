@@ -1,5 +1,5 @@
-// The layout of an image, as r9's exec.rs checks it: each segment lies between UTZERO and the guard page below the stack, nothing follows
-// data, and the bss is what the last segment leaves behind it.
+// The layout of an image, as r9's exec.rs checks it: each segment lies between UTZERO and the guard page below the stack, nothing
+// follows data, and the bss is what the last segment leaves behind it. It is the second half of refusal 30.
 
 ghost use mathlib.Core.Path.{_≡_};
 ghost use Prim.Native.Nat.{_+_, _-_, _*_, _^_, _≤_, _<_};

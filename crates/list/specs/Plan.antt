@@ -1,4 +1,5 @@
--- The text of a plan.
+-- The text of a plan, and what is put of a listing into a buffer. The lines are the specification's `listing`, taken from the plan
+-- that a start would use.
 -- Assumes nothing.
 use mathlib.Core.List.{List, [], _++_}
 use Prim.Native.Nat.{ℕ}

@@ -1,4 +1,5 @@
-// The whole listing of an image, as the listing program prints it, in a buffer that the caller lends.
+// The whole listing of an image, as the listing program prints it, in a buffer that the caller lends. The bytes are proved equal to
+// the definition's, so that the program has only to read and write.
 
 ghost use mathlib.Core.Path.{_≡_};
 ghost use Prim.Native.Nat.{_≤_};

@@ -1,4 +1,5 @@
--- What a sound book leaves for a call's lookups, and what an entry of the table answers.
+-- What a sound book leaves for a call's lookups, and what an entry of the table answers. Functions that look pages up ask it of
+-- their caller, who has made the check.
 -- Assumes nothing.
 use Prim.Native.Nat.{ℕ, _-_, _<_}
 use mathlib.Core.Path.{_≡_}

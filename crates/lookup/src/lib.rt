@@ -1,4 +1,5 @@
-// The frame of a process's page, by the plan and the table that the check of the book has left, without the book.
+// The frame of a process's page, by the plan and the table that the check of the book has left, without the book. User access and
+// fork find their frames so; a page costs a search among sixteen parts.
 
 ghost use mathlib.Core.Path.{_≡_};
 ghost use mathlib.Core.List.{List};

@@ -1,4 +1,4 @@
--- What a program header that was read stands for in the specification.
+-- What a program header that was read stands for in the specification. The checks are the specification's own, over that.
 -- Assumes nothing.
 use Rattle.spec.specs.Elf.{Phdr}
 use Rattle.phdr.specs.declared.Phdr.{Phdr as Read}

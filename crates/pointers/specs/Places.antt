@@ -1,4 +1,5 @@
--- A place of the array of pointers.
+-- A place of the array of pointers: a string's address, the null at its end, or none that can be read. It is one step of the
+-- specification's `argvFrom`.
 -- Assumes nothing.
 use Prim.Native.Nat.{ℕ}
 use mathlib.Core.Bool.{false, not}

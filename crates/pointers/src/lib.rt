@@ -1,5 +1,5 @@
-// The null-terminated array of pointers at a user address, as r9's copy_argv in exec.rs reads it: where pointer i stands, and what stands
-// there.
+// The null-terminated array of pointers at a user address, as r9's copy_argv in exec.rs reads it: where pointer i stands, and what
+// stands there. An address past 64 bits stands nowhere, and is refused.
 
 ghost use mathlib.Core.Path.{_≡_};
 ghost use Prim.Native.Nat.{_+_, _*_, _≤_, _<_};

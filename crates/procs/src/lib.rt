@@ -1,4 +1,5 @@
-// The records of processes by value: whether one lives, one read and set, and the pages of one.
+// The records of processes by value: whether one lives, one read and set, and the pages of one. Every call takes all records and
+// hands them back, so that what a call does to them is one equation.
 
 ghost use mathlib.Core.Path.{_≡_};
 ghost use mathlib.Core.Bool.{_&&_, true};

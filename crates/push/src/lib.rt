@@ -1,4 +1,5 @@
-// The call `push`: arguments onto the stack of a living process, as `push_args` of r9's exec.rs (crate push_args).
+// The call `push`: arguments onto the stack of a living process, as `push_args` of r9's exec.rs (crate push_args). All of its
+// numbers are weighed before the first byte is written.
 
 ghost use mathlib.Core.Path.{_≡_};
 ghost use Rattle.spec.specs.Machine.{push, plainly};

@@ -1,5 +1,5 @@
-// Ranges of user memory, as `user_range_ok` of r9's uaccess.rs, which follows Plan 9's validaddr in port/fault.c. A page's frame is found
-// by the table that the check of the book has left (`sound::prepare`).
+// Ranges of user memory, as `user_range_ok` of r9's uaccess.rs, which follows Plan 9's validaddr in port/fault.c. A page's frame is
+// found by the table that the check of the book has left (`sound::prepare`).
 
 ghost use mathlib.Core.Path.{_≡_};
 ghost use mathlib.Core.List.{List};

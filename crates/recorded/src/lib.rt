@@ -1,4 +1,5 @@
-// The segments of a process's record that an image's pages make, as r9's exec.rs records them.
+// The segments of a process's record that an image's pages make, as r9's exec.rs records them. The data's pages end where the bss
+// begins, and over fifteen are only counted, which is refusal 31.
 
 ghost use mathlib.Core.Path.{_≡_};
 ghost use Prim.Native.Nat.{_+_, _-_, _*_, _^_, _≤_, _<_};

@@ -1,5 +1,5 @@
 // Replace: a process becomes another program, as r9's exec.rs does in `sysexec` once it has read the image; its last steps stand in
-// crate enter.
+// crate enter. Arguments are read and all but the frames is checked before the old pages go.
 
 ghost use mathlib.Core.Path.{_≡_};
 ghost use Rattle.spec.specs.Machine.{replace, plainly};

@@ -1,4 +1,5 @@
--- The lines of a process's table.
+-- The lines of a process's table: its name, segments, bss and the frame of each page. It shows record and book as they are, sound or
+-- not.
 -- Assumes nothing.
 use Prim.Native.Nat.{ℕ, _+_, _-_}
 use mathlib.Core.Bool.{_&&_}

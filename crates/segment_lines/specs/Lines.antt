@@ -1,4 +1,4 @@
--- The lines of a record's segments.
+-- The lines of a record's segments. They are the specification's `segmentLines`, kept shut, since a decimal unfolds to twenty tests.
 -- Assumes nothing.
 use mathlib.Core.List.{List, _++_}
 use Prim.Native.Nat.{ℕ}

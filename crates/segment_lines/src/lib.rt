@@ -1,4 +1,5 @@
-// The lines of a record's segments in a buffer that the caller lends, as the listing of an image has them.
+// The lines of a record's segments in a buffer that the caller lends, as the listing of an image has them. Each is a kind and two
+// numbers, at most fifteen of them.
 
 ghost use Prim.Native.Nat.{_+_, _*_, _≤_};
 ghost use lib.ListN.{length, take};

@@ -1,4 +1,5 @@
-// Start: a new process from an image and its arguments, as r9's exec.rs does in `exec`; its last steps stand in crate install.
+// Start: a new process from an image and its arguments, as r9's exec.rs does in `exec`; its last steps stand in crate install. All
+// numbers are weighed before the first page is placed.
 
 ghost use mathlib.Core.Path.{_≡_};
 ghost use Rattle.spec.specs.Machine.{start, plainly};

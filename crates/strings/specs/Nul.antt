@@ -1,4 +1,4 @@
--- The bytes before a NUL.
+-- The bytes before a NUL. A string copy goes part by part, and in each part asks for this number.
 -- Assumes nothing.
 use Prim.Native.Nat.{ℕ, suc}
 use mathlib.Core.List.{List, [], _∷_}

@@ -1,4 +1,5 @@
--- The bytes that are summed.
+-- The bytes that are summed: records and book words as little-endian bytes, in the order of docs/REPLAY.md. The sum itself is crate
+-- script's `Crc`.
 -- Assumes nothing.
 use Prim.Native.Nat.{ℕ}
 use mathlib.Core.List.{List, [], _∷_, _++_}

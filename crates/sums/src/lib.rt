@@ -1,4 +1,5 @@
-// CRC-32 of records, of book words and of bytes, which the replay program answers with.
+// CRC-32 of records, of book words and of bytes, which the replay program answers with. Two programs whose sums agree after each
+// call hold the same memory.
 
 ghost use mathlib.Core.Path.{_≡_};
 ghost use Rattle.script.specs.Crc.{crcFrom, crcOf};

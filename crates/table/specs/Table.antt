@@ -1,4 +1,5 @@
--- The pass over the book, and the table that it leaves: for each rank the frame of its page.
+-- The pass over the book, and the table that it leaves: for each rank the frame of its page. A word that is of no part's page, or
+-- whose place is taken, ends the pass: the book is torn.
 -- Assumes nothing.
 use Prim.Native.Nat.{ℕ, _+_, _<_}
 use mathlib.Core.Path.{_≡_}

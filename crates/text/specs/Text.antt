@@ -1,4 +1,5 @@
--- What putting text into a buffer leaves and answers, and the text of a number.
+-- What putting text into a buffer leaves and answers, and the text of a number. The texts are the specification's; they are kept
+-- shut here, since a decimal unfolds to twenty tests.
 -- Assumes nothing.
 use mathlib.Core.Path.{_≡_}
 use mathlib.Core.List.{List, [], _∷_, _++_}

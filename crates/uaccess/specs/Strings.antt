@@ -1,4 +1,5 @@
--- What a string copy comes to.
+-- What a string copy comes to. The specification's `copyStr` goes byte by byte; the code goes page by page and looks for the NUL in
+-- each part.
 -- Assumes nothing.
 use Prim.Native.Nat.{ℕ}
 use mathlib.Core.Bool.{Bool}
