@@ -7,7 +7,7 @@ use mathlib.Core.Option.{Option, none, some}
 use mathlib.Core.List.{List}
 use lib.ListN.{length, getD, replicate}
 use borrow.Author.Tests.{ne-eqb}
-use Rattle.spec.specs.Book.{ownerOf, pageOf, frameOf}
+use Rattle.spec.specs.Book.{ownerOf, pageOf, frameOf, free}
 use Rattle.spec.specs.Sound.{Sound}
 use Rattle.spec.specs.declared.Found.{Found}
 use Rattle.spec.specs.declared.Found.the-variants.{At, Nothing}
@@ -19,7 +19,7 @@ use Rattle.sound.specs.Table.{frameWith, entry, answerOf, Planned, Table
 use Rattle.book.specs.Lent.{foundOf}
 use Rattle.sound.proofs.Pass.{with-found, hit-fact, rank-below, rank-word, hit-owner}
 use Rattle.sound.proofs.Planning.{Made, plan}
-use Rattle.sound.proofs.Decides.{option-some, full-of}
+use Rattle.sound.proofs.Decides.{option-some, Matched, free-matched, full-of}
 
 -- an empty table
 pub blank-zeros : (n t : ℕ) → getD {A = ℕ} (replicate n 0) t 0 ≡ 0
@@ -62,3 +62,15 @@ module _ (b tags bases table : List ℕ) (r : Ready b tags bases table) where
       let f = hit-fact tags bases (getD b i 0) (k .0) (k .2) in
       let w : getD b i 0 ≡ page + 16 * n + getD tags (k .0) 0 % 16 = omega (arith, m .1 .owner, m .1 .page, f .from, f .whole) in
       (k .0, k .1, omega (arith, own, m .1 .owner), omega (arith, m .1 .page), rw w at (k .2))
+
+  -- frames are free that are no rank's
+  pub free-frames : free b + getD bases 272 0 ≡ length b
+  free-frames = free-matched b (nth tags bases) (getD bases 272 0) (record {
+    apart = r .plan .apart;
+    some = r .plan .some;
+    full = r .full;
+    fits = λ i nz.
+        let k = r .planned .fits i (in-range b i nz) nz in
+        (rank tags bases (getD b i 0) (k .0), rank-below tags bases (r .plan) (getD b i 0) (k .0) (k .1) (k .2), rank-word tags bases (r .plan) (getD b i 0) (k .0) (k .1) (k .2));
+    once = λ i j u e. r .once i j u (ap ownerOf e) (ap pageOf e);
+  })

@@ -7,7 +7,7 @@ ghost use mathlib.Core.List.{List};
 ghost use Prim.Native.Nat.{ℕ, _+_, _<_, _≤_};
 ghost use lib.ListN.{length, getD};
 ghost use Rattle.spec.specs.Tests.{allBelow};
-ghost use Rattle.spec.specs.Book.{frameOf};
+ghost use Rattle.spec.specs.Book.{frameOf, free};
 ghost use Rattle.spec.specs.Sound.{soundBook};
 ghost use Rattle.sound.specs.Plan.{Plan};
 ghost use Rattle.sound.specs.Table.{Marked, Blank, marked, Ready, answerOf};
@@ -139,4 +139,12 @@ pub fn frame_at(
         k += 1;
     }
     Found::Nothing
+}
+
+// How many frames are free of a book that the lists are ready for: those that are no page's.
+pub fn free_frames(book: &[u64], bases: &[u64; 273]) -> usize
+    requires { ⌜ getD (now bases) 272 0 ≤ length (now book) ⌝ }
+    ensures { λ r. ⌜ ((tags table : List ℕ) → Ready (now (book .entry)) tags (now (bases .entry)) table → r ≡ free (now (book .entry))) ⌝ }
+{
+    book.len() - bases[272] as usize
 }
