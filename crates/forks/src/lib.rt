@@ -69,7 +69,7 @@ fn fork_number(
         return e;
     }
     let p = front::record::proc_at(procs, number);
-    let free = book::free_count(book) as u64;
+    let free = sound::free_frames(book, bases) as u64;
     if front::pages::own_pages(p) > free {
         return spec::ENOVMEM;
     }

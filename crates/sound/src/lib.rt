@@ -4,8 +4,10 @@
 
 ghost use mathlib.Core.Path.{_≡_};
 ghost use mathlib.Core.Bool.{true};
-ghost use Prim.Native.Nat.{_≤_};
-ghost use lib.ListN.{length};
+ghost use mathlib.Core.List.{List};
+ghost use Prim.Native.Nat.{ℕ, _≤_};
+ghost use lib.ListN.{length, getD};
+ghost use Rattle.spec.specs.Book.{free};
 ghost use Rattle.spec.specs.Sound.{soundBook};
 ghost use Rattle.table.specs.Table.{Blank};
 ghost use Rattle.lookup.specs.Ready.{Ready};
@@ -47,4 +49,12 @@ pub fn sound(book: &[u64], procs: Procs) -> bool
     let mut bases = [0u64; 273];
     let mut table = [0u16; 1024];
     prepare(book, procs, &mut tags, &mut bases, &mut table)
+}
+
+// How many frames are free of a book that the lists are ready for: those that are no page's.
+pub fn free_frames(book: &[u64], bases: &[u64; 273]) -> usize
+    requires { ⌜ getD (now bases) 272 0 ≤ length (now book) ⌝ }
+    ensures { λ r. ⌜ ((tags table : List ℕ) → Ready (now (book .entry)) tags (now (bases .entry)) table → r ≡ free (now (book .entry))) ⌝ }
+{
+    book.len() - bases[272] as usize
 }
