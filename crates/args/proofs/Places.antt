@@ -8,14 +8,13 @@ use lib.Dec.{leb}
 use lib.ListN.{length, take}
 use lib.Seq.{take-append-seam}
 use borrow.Author.Tests.{ltb-false, leb-true, leb-false, lt-ltb, le-ltb}
-use Rattle.spec.specs.Tests.{sum}
 use Rattle.spec.specs.Numbers.{ustktop, ustksize, argLimit}
 use Rattle.spec.specs.Frames.{put}
 use Rattle.spec.specs.Exec.{argsOf, strings, argsError, stringsAt, argvAt, registers, belowZero}
 use Rattle.spec.proofs.Bools.{split}
 use Rattle.spec.proofs.Args.{args-means}
 use Rattle.args.specs.Sizes.{belowZeroBy, argvBy, registersBy}
-use Rattle.args.proofs.Cut.{cut-count, cut-size}
+use Rattle.args.proofs.Cut.{cut-count}
 
 -- ---- the test of a push below address 0
 
@@ -32,23 +31,20 @@ low-words top size count =
 pub low-room : (top size count : ℕ) → belowZeroBy top size count ≡ false → 8 * (count + 1) ≤ (top - size) / 8 * 8
 low-room top size count e = ltb-false ((top - size) / 8 * 8) (8 * (count + 1)) e
 
--- ---- the specification's places, of bytes cut by lengths that sum to them
+-- ---- the specification's places, of bytes cut by lengths, by the size of the strings
 
-module _ (bytes lengths : List ℕ) (fit : sum lengths ≡ length bytes) where
-  abbrev size : ℕ
-  size = length bytes + length lengths
-
+module _ (bytes lengths : List ℕ) (size : ℕ) (sized : length (strings (argsOf bytes lengths)) ≡ size) where
   pub strings-at : (top : ℕ) → stringsAt top (argsOf bytes lengths) ≡ top - size
-  strings-at top = ap (λ (n : ℕ). top - n) (cut-size bytes lengths fit)
+  strings-at top = ap (λ (n : ℕ). top - n) sized
 
   pub argv-at : (top : ℕ) → argvAt top (argsOf bytes lengths) ≡ argvBy top size (length lengths)
-  argv-at top = ap₂ (argvBy top) (cut-size bytes lengths fit) (cut-count bytes lengths)
+  argv-at top = ap₂ (argvBy top) sized (cut-count bytes lengths)
 
   pub below-zero-at : (top : ℕ) → belowZero top (argsOf bytes lengths) ≡ belowZeroBy top size (length lengths)
-  below-zero-at top = ap₂ (belowZeroBy top) (cut-size bytes lengths fit) (cut-count bytes lengths)
+  below-zero-at top = ap₂ (belowZeroBy top) sized (cut-count bytes lengths)
 
   pub registers-at : (pc top : ℕ) → registers pc top (argsOf bytes lengths) ≡ registersBy pc top size (length lengths)
-  registers-at pc top = ap₂ (registersBy pc top) (cut-size bytes lengths fit) (cut-count bytes lengths)
+  registers-at pc top = ap₂ (registersBy pc top) sized (cut-count bytes lengths)
 
 -- ---- arguments that pass
 
@@ -78,5 +74,5 @@ pub passed-stack : (args : List (List ℕ)) → argsError args ≡ 0 → Pushed 
 passed-stack args e = let p = passed-places ustktop args e (omega arith) in (p, omega (arith, p .low))
 
 -- ---- what a buffer begins with, once bytes are put at its start
-pub put-begins : (d s : List ℕ) → take (length s) (put d 0 s) ≡ s
-put-begins d s = take-append-seam s _
+pub put-begins : (d s b : List ℕ) (n : ℕ) → b ≡ put d 0 s → n ≡ length s → take n b ≡ s
+put-begins d s b n e f = ap₂ take f e ∙ take-append-seam s _

@@ -1,14 +1,14 @@
 -- The places and the two ranges of a push, by the size of the strings and the count of arguments.
 use Prim.Native.Nat.{ℕ, _+_, _*_, _-_}
-use mathlib.Core.Path.{_≡_, sym, ap, ap₂, _∙_}
+use mathlib.Core.Path.{_≡_, sym, ap₂, _∙_}
 use mathlib.Core.Bool.{Bool, true, false, not, _&&_}
 use mathlib.Core.List.{List}
 use lib.ListN.{length}
 use Rattle.spec.specs.Frames.{Mem}
 use Rattle.spec.specs.Access.{userRangeOk}
-use Rattle.spec.specs.Exec.{argsOf, strings, stringsAt, argvAt, registers, pushOk}
+use Rattle.spec.specs.Exec.{argsOf, strings, pushOk}
 use Rattle.spec.proofs.Bools.{both, not-true}
-use Rattle.args.specs.Sizes.{belowZeroBy, argvBy, registersBy}
+use Rattle.args.specs.Sizes.{belowZeroBy, argvBy}
 use Rattle.args.proofs.Cut.{cut-count}
 use Rattle.args.proofs.Size.{Passed}
 
@@ -51,15 +51,6 @@ allowed-by mem top size count ok =
 -- ---- of arguments that passed
 
 module _ (bytes lengths : List ℕ) (size : ℕ) (passed : Passed bytes lengths size) (top : ℕ) where
-  pub strings-place : stringsAt top (argsOf bytes lengths) ≡ top - size
-  strings-place = ap (λ (n : ℕ). top - n) (sym (passed .strings-size))
-
-  pub argv-place : argvAt top (argsOf bytes lengths) ≡ argvBy top size (length lengths)
-  argv-place = ap₂ (argvBy top) (sym (passed .strings-size)) (cut-count bytes lengths)
-
-  pub registers-by : (pc : ℕ) → registers pc top (argsOf bytes lengths) ≡ registersBy pc top size (length lengths)
-  registers-by pc = ap₂ (registersBy pc top) (sym (passed .strings-size)) (cut-count bytes lengths)
-
   pub allowed : (mem : Mem) → pushOk mem top (argsOf bytes lengths) ≡ true → Allowed mem top size (length lengths)
   allowed mem ok =
       allowed-by mem top size (length lengths)

@@ -1,22 +1,17 @@
--- What a push writes: strings and pointers from a buffer, then both as `pushIn` says.
+-- What a push writes: strings, then pointers, as `pushIn` says.
 use Prim.Native.Nat.{ℕ, _+_, _*_, _-_}
 use native.Mathlib.Omega.{arith}
 use mathlib.Core.Path.{_≡_, refl, sym, ap, _∙_}
 use mathlib.Core.List.{List, [], _∷_}
-use lib.ListN.{length, take, length-append}
+use lib.ListN.{length, length-append}
 use Rattle.spec.specs.Numbers.{leBytes}
-use Rattle.spec.specs.Frames.{Store, put, pokes}
+use Rattle.spec.specs.Frames.{Store, pokes}
 use Rattle.spec.specs.Exec.{argsOf, strings, argvAt, pointers}
 use Rattle.spec.specs.World.{pushIn}
 use Rattle.args.specs.Sizes.{pointersBy, argvBy}
 use Rattle.args.proofs.Cut.{cut-pointers}
 use Rattle.args.proofs.Size.{Passed}
-use Rattle.args.proofs.Places.{put-begins}
-use Rattle.push_args.proofs.Ranges.{strings-place, argv-place}
-
--- a buffer b, once s is put at its start, begins with s
-pub buffer-begins : (d s b : List ℕ) (n : ℕ) → b ≡ put d 0 s → n ≡ length s → take n b ≡ s
-buffer-begins d s b n e f = ap (take n) e ∙ ap (λ (k : ℕ). take k (put d 0 s)) f ∙ put-begins d s
+use Rattle.args.proofs.Places.{strings-at, argv-at}
 
 -- how long the pointers are
 pub pointers-size : (s : ℕ) (lengths : List ℕ) → length (pointersBy s lengths) ≡ 8 * (length lengths + 1)
@@ -37,6 +32,6 @@ module _ (m m₁ m₂ : Store) (n top size : ℕ) (bytes lengths : List ℕ) (pa
   pub written : m₁ ≡ pokes m n (top - size) (strings args) → m₂ ≡ pokes m₁ n argv (pointersBy (top - size) lengths) → m₂ ≡ pushIn m n top args
   written e₁ e₂ =
       e₂ ∙ ap (λ (x : Store). pokes x n argv (pointersBy (top - size) lengths)) e₁
-      ∙ sym (ap (λ (s : ℕ). pokes (pokes m n s (strings args)) n (argvAt top args) (pointers s args)) (strings-place bytes lengths size passed top)
-      ∙ ap (λ (a : ℕ). pokes (pokes m n (top - size) (strings args)) n a (pointers (top - size) args)) (argv-place bytes lengths size passed top)
+      ∙ sym (ap (λ (s : ℕ). pokes (pokes m n s (strings args)) n (argvAt top args) (pointers s args)) (strings-at bytes lengths size (sym (passed .strings-size)) top)
+      ∙ ap (λ (a : ℕ). pokes (pokes m n (top - size) (strings args)) n a (pointers (top - size) args)) (argv-at bytes lengths size (sym (passed .strings-size)) top)
       ∙ ap (pokes (pokes m n (top - size) (strings args)) n argv) (cut-pointers (top - size) bytes lengths (passed .sums)))

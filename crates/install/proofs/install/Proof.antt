@@ -14,6 +14,7 @@ use Rattle.spec.specs.declared.Answer.the-variants.{Regs}
 use Rattle.laws.proofs.Owned.{valid-means}
 use Rattle.pagealloc.specs.Lent.{Mapped}
 use Rattle.args.specs.Sizes.{registersBy}
+use Rattle.args.proofs.Cut.{cut-size}
 use Rattle.args.proofs.Places.{registers-at}
 use Rattle.front.proofs.States.{state-is}
 use Rattle.install.proofs.Installed.{stack-mapped, plan-bss, plan-entry, plan-record}
@@ -79,7 +80,7 @@ returns c =
           (w .with-proc .ensures ∙ ap (setProc (a .procs) (a .number)) (c .before .before .record-of .ensures ∙ plan-record _ _ _ _ _ _ i (now (a .name)))),
       ap Regs (c .registers .ensures
           ∙ ap (λ (pc : ℕ). registersBy pc ustktop (length (bytes w) + length (lengths w)) (length (lengths w))) (plan-entry _ _ _ _ _ _ i)
-          ∙ sym (registers-at (bytes w) (lengths w) (i .args .sums) _ ustktop)),
+          ∙ sym (registers-at (bytes w) (lengths w) _ (cut-size (bytes w) (lengths w) (i .args .sums)) _ ustktop)),
     )
 
 pub install-spec : {M : Type 1} → statement M

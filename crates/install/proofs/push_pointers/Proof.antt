@@ -10,9 +10,9 @@ use Rattle.spec.specs.Numbers.{ustktop, argLimit}
 use Rattle.spec.specs.Frames.{put, pokes}
 use Rattle.spec.specs.Exec.{argsOf, stringsAt, pointers}
 use Rattle.book.specs.Lent.{store}
-use Rattle.args.proofs.Places.{low-room}
+use Rattle.args.proofs.Places.{low-room, put-begins}
 use Rattle.install.specs.Installing.{Fitting}
-use Rattle.install.proofs.Pushing.{inside, part-is, strings-room, pointers-room, argv-is, argv-low, push-above, pointers-are, pointers-long}
+use Rattle.install.proofs.Pushing.{inside, strings-room, pointers-room, argv-is, argv-low, push-above, pointers-are, pointers-long}
 use Rattle.install.proofs.push_pointers.Statement.{statement}
 use Rattle.install.proofs.push_pointers.Tie as tie
 
@@ -51,7 +51,7 @@ module _ (c : tie.After-pointers-into) where
 
   laid : take (c .pointers-into .result) (c .pointers-into .last .0) ≡ pointers (stringsAt ustktop (argsOf (bytes start) (lengths start))) (argsOf (bytes start) (lengths start))
   laid =
-      part-is (c .pointers-into .last .0) (replicate argLimit 0) _ (c .pointers-into .result)
+      put-begins (replicate argLimit 0) _ (c .pointers-into .last .0) (c .pointers-into .result)
       (c .pointers-into .ensures .0 ∙ ap (put (replicate argLimit 0) 0) (pointers-are (bytes start) (lengths start) (fit start)))
       (c .pointers-into .ensures .1 ∙ pointers-long (bytes start) (lengths start) (fit start))
 

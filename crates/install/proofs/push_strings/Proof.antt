@@ -10,7 +10,8 @@ use Rattle.spec.specs.Numbers.{ustktop, argLimit}
 use Rattle.spec.specs.Frames.{pokes}
 use Rattle.spec.specs.Exec.{argsOf, strings}
 use Rattle.book.specs.Lent.{store}
-use Rattle.install.proofs.Pushing.{inside, part-is, strings-small, strings-room}
+use Rattle.args.proofs.Places.{put-begins}
+use Rattle.install.proofs.Pushing.{inside, strings-small, strings-room}
 use Rattle.install.proofs.push_strings.Statement.{statement}
 use Rattle.install.proofs.push_strings.Tie as tie
 
@@ -33,7 +34,7 @@ array-share-prefix-buf c = omega (arith, small (c .before .before), c .before .b
 -- its part that is written
 laid : (c : tie.After-strings-into)
     → take (c .strings-into .result) (c .strings-into .last .0) ≡ strings (argsOf (now (c .before .before .before .before .before .before .args .bytes)) (now (c .before .before .before .before .before .before .args .lengths)))
-laid c = part-is (c .strings-into .last .0) (replicate argLimit 0) _ (c .strings-into .result) (c .strings-into .ensures .0) (c .strings-into .ensures .1)
+laid c = put-begins (replicate argLimit 0) _ (c .strings-into .last .0) (c .strings-into .result) (c .strings-into .ensures .0) (c .strings-into .ensures .1)
 
 slice-aggregate-write-user : tie.Need-slice-aggregate-write-user
 slice-aggregate-write-user c = let s = c .before .before .before in s .strings-into .ensures .1 ∙ sym (ap length (laid s))

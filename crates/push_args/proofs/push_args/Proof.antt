@@ -13,9 +13,9 @@ use Rattle.spec.specs.Access.{userRangeOk}
 use Rattle.spec.specs.declared.UserRegs.{UserRegs}
 use Rattle.book.specs.Lent.{store}
 use Rattle.args.specs.Sizes.{pointersBy}
-use Rattle.args.proofs.Places.{low-room}
+use Rattle.args.proofs.Places.{low-room, registers-at}
 use Rattle.args.proofs.Size.{Passed, size-passed}
-use Rattle.push_args.proofs.Ranges.{Allowed, allowed, registers-by}
+use Rattle.push_args.proofs.Ranges.{Allowed, allowed}
 use Rattle.push_args.proofs.Written.{written}
 use Rattle.push_args.proofs.push_args.Statement.{statement}
 use Rattle.push_args.proofs.push_args.Tie as tie
@@ -79,7 +79,7 @@ returns c =
           (s .write-strings .ensures)
           (w .write-pointers .ensures
           ∙ ap (λ (x : UserRegs). pokes (store (s .write-strings .last .0) (now (a .book))) (a .number) (x .argv) (pointersBy (a .top - a .size) (now (a .lengths)))) (r .ensures)),
-      r .ensures ∙ sym (registers-by (now (a .bytes)) (now (a .lengths)) (a .size) p (a .top) (a .pc)),
+      r .ensures ∙ sym (registers-at (now (a .bytes)) (now (a .lengths)) (a .size) (sym (p .strings-size)) (a .pc) (a .top)),
     )
 
 pub push-args-spec : {M : Type 1} → statement M

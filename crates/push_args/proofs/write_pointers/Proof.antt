@@ -9,7 +9,8 @@ use Rattle.spec.specs.Frames.{memOf, pokes}
 use Rattle.spec.specs.Access.{userRangeOk}
 use Rattle.book.specs.Lent.{store}
 use Rattle.args.specs.Sizes.{pointersBy}
-use Rattle.push_args.proofs.Written.{buffer-begins, pointers-size}
+use Rattle.args.proofs.Places.{put-begins}
+use Rattle.push_args.proofs.Written.{pointers-size}
 use Rattle.push_args.proofs.write_pointers.Statement.{statement}
 use Rattle.push_args.proofs.write_pointers.Tie as tie
 
@@ -28,7 +29,7 @@ laid : (c : tie.After-buf3) → let i = c .before .before .before in let a = i .
 laid c =
     let i = c .before .before .before .pointers-into in
     let a = c .before .before .before .before .before .before .before .before .args in
-    buffer-begins _ _ (i .last .0) (i .result) (i .ensures .0) (i .ensures .1 ∙ sym (pointers-size (a .first) (now (a .lengths))))
+    put-begins _ _ (i .last .0) (i .result) (i .ensures .0) (i .ensures .1 ∙ sym (pointers-size (a .first) (now (a .lengths))))
 
 slice-aggregate-write-user : tie.Need-slice-aggregate-write-user
 slice-aggregate-write-user c =

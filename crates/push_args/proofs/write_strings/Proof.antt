@@ -12,7 +12,7 @@ use Rattle.spec.specs.Access.{userRangeOk}
 use Rattle.spec.specs.Exec.{argsOf, strings}
 use Rattle.book.specs.Lent.{store}
 use Rattle.args.proofs.Cut.{cut-size}
-use Rattle.push_args.proofs.Written.{buffer-begins}
+use Rattle.args.proofs.Places.{put-begins}
 use Rattle.push_args.proofs.write_strings.Statement.{statement}
 use Rattle.push_args.proofs.write_strings.Tie as tie
 
@@ -30,7 +30,7 @@ array-share-prefix-buf c =
 -- what is lent to the write
 laid : (c : tie.After-buf3) → let i = c .before .before .before in let a = i .before .before .before .before .before .before .args in
     take (i .strings-into .result) (i .strings-into .last .0) ≡ strings (argsOf (now (a .bytes)) (now (a .lengths)))
-laid c = let i = c .before .before .before .strings-into in buffer-begins _ _ (i .last .0) (i .result) (i .ensures .0) (i .ensures .1)
+laid c = let i = c .before .before .before .strings-into in put-begins _ _ (i .last .0) (i .result) (i .ensures .0) (i .ensures .1)
 
 slice-aggregate-write-user : tie.Need-slice-aggregate-write-user
 slice-aggregate-write-user c = c .before .before .before .strings-into .ensures .1 ∙ sym (ap length (laid c))
