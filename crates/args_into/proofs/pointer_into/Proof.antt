@@ -1,10 +1,10 @@
--- `args::pointer_into` meets its contract: a lent part.
+-- `args_into::pointer_into` meets its contract: a lent part.
 use mathlib.Core.Path.{_∙_}
 use denote.Ref.{now}
 use borrow.Author.Needs.{needs}
-use Rattle.args.proofs.Lay.{put-pointer}
-use Rattle.args.proofs.pointer_into.Statement.{statement}
-use Rattle.args.proofs.pointer_into.Tie as tie
+use Rattle.args_into.proofs.Lay.{put-pointer}
+use Rattle.args_into.proofs.pointer_into.Statement.{statement}
+use Rattle.args_into.proofs.pointer_into.Tie as tie
 
 to-le-bytes-requires : tie.Need-to-le-bytes-requires
 to-le-bytes-requires c κs = search needs

@@ -1,10 +1,10 @@
--- `args::string_into` meets its contract: a lent part, then a store behind it.
+-- `args_into::string_into` meets its contract: a lent part, then a store behind it.
 use native.Mathlib.Omega.{arith}
 use denote.Ref.{now}
 use borrow.Author.Needs.{needs}
-use Rattle.args.proofs.Lay.{put-string}
-use Rattle.args.proofs.string_into.Statement.{statement}
-use Rattle.args.proofs.string_into.Tie as tie
+use Rattle.args_into.proofs.Lay.{put-string}
+use Rattle.args_into.proofs.string_into.Statement.{statement}
+use Rattle.args_into.proofs.string_into.Tie as tie
 
 add-end : tie.Need-add-end
 add-end c = search needs

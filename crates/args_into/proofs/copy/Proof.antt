@@ -1,13 +1,13 @@
--- `args::copy` meets its contract. The loop's invariant: the first `i` bytes of `s` are in place.
+-- `args_into::copy` meets its contract. The loop's invariant: the first `i` bytes of `s` are in place.
 use mathlib.Core.Path.{_≡_, refl, _∙_}
 use Prim.Native.Nat.{_-_, _≤_}
 use native.Mathlib.Omega.{arith}
 use denote.Ref.{now}
 use lib.ListN.{length, length-set}
 use lib.Seq.{paste, paste-zero}
-use Rattle.args.proofs.Lay.{paste-next, paste-whole}
-use Rattle.args.proofs.copy.Statement.{statement}
-use Rattle.args.proofs.copy.Tie as tie
+use Rattle.args_into.proofs.Lay.{paste-next, paste-whole}
+use Rattle.args_into.proofs.copy.Statement.{statement}
+use Rattle.args_into.proofs.copy.Tie as tie
 
 abbrev Inv-loop : tie.InvT-loop
 Inv-loop d₀ s i₀ d i = (i ≤ length d) × (length d ≡ length d₀) × (d ≡ paste d₀ 0 s i)

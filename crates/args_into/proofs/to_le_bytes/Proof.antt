@@ -1,9 +1,9 @@
--- `args::to_le_bytes` meets its contract.
+-- `args_into::to_le_bytes` meets its contract.
 use native.Mathlib.Omega.{arith}
 use borrow.Author.Needs.{needs}
-use Rattle.args.proofs.Lay.{word-bytes}
-use Rattle.args.proofs.to_le_bytes.Statement.{statement}
-use Rattle.args.proofs.to_le_bytes.Tie as tie
+use Rattle.args_into.proofs.Lay.{word-bytes}
+use Rattle.args_into.proofs.to_le_bytes.Statement.{statement}
+use Rattle.args_into.proofs.to_le_bytes.Tie as tie
 
 cast-t3 : tie.Need-cast-t3
 cast-t3 c = search needs

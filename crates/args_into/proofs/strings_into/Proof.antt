@@ -1,4 +1,4 @@
--- `args::strings_into` meets its contract. The loop's invariant: the strings from `i` on, laid at their place, would complete the buffer.
+-- `args_into::strings_into` meets its contract. The loop's invariant: the strings from `i` on, laid at their place, would complete the buffer.
 use mathlib.Core.Path.{_≡_, refl, sym, ap, _∙_}
 use Prim.Native.Nat.{ℕ, _+_, _-_, _≤_}
 use native.Mathlib.Omega.{arith}
@@ -9,11 +9,11 @@ use lib.Seq.{length-take-le}
 use Rattle.spec.specs.Tests.{sum}
 use Rattle.spec.specs.Frames.{put}
 use Rattle.spec.specs.Exec.{argsOf, strings}
 use Rattle.args.proofs.Scan.{sum-next, sum-none}
 use Rattle.args.proofs.Cut.{cut-size}
-use Rattle.args.proofs.Lay.{strings-turn, strings-end}
-use Rattle.args.proofs.strings_into.Statement.{statement}
-use Rattle.args.proofs.strings_into.Tie as tie
+use Rattle.args_into.proofs.Lay.{strings-turn, strings-end}
+use Rattle.args_into.proofs.strings_into.Statement.{statement}
+use Rattle.args_into.proofs.strings_into.Tie as tie
 
 abbrev Inv-loop : tie.InvT-loop
 Inv-loop buf₀ bytes lengths from₀ i₀ buf from i =

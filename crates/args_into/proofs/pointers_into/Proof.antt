@@ -1,4 +1,4 @@
--- `args::pointers_into` meets its contract. The loop's invariant: the pointers from `i` on, laid at their place, would complete the buffer.
+-- `args_into::pointers_into` meets its contract. The loop's invariant: the pointers from `i` on, laid at their place, would complete the buffer.
 use mathlib.Core.Path.{_≡_, refl, sym, ap, _∙_}
 use Prim.Native.Nat.{ℕ, _+_, _*_, _-_, _≤_}
 use native.Mathlib.Omega.{arith}
@@ -7,11 +7,11 @@ use denote.Ref.{now}
 use lib.ListN.{length, getD, drop}
 use Rattle.spec.specs.Tests.{sum}
 use Rattle.spec.specs.Frames.{put}
 use Rattle.args.specs.Sizes.{pointersBy}
 use Rattle.args.proofs.Scan.{sum-next}
-use Rattle.args.proofs.Lay.{pointers-turn, pointers-end}
-use Rattle.args.proofs.pointers_into.Statement.{statement}
-use Rattle.args.proofs.pointers_into.Tie as tie
+use Rattle.args_into.proofs.Lay.{pointers-turn, pointers-end}
+use Rattle.args_into.proofs.pointers_into.Statement.{statement}
+use Rattle.args_into.proofs.pointers_into.Tie as tie
 
 abbrev Inv-loop : tie.InvT-loop
 Inv-loop buf₀ first lengths s₀ i₀ buf s i =
