@@ -31,7 +31,7 @@ fn push_strings(frames: &mut [u8], book: &[u64], number: u64, bytes: &[u8], leng
     ensures { λ _. ⌜ store (now (frames .exit)) (now (book .entry)) ≡ pokes (store (now (frames .entry)) (now (book .entry))) number (stringsAt ustktop (argsOf (now (bytes .entry)) (now (lengths .entry)))) (strings (argsOf (now (bytes .entry)) (now (lengths .entry)))) ⌝ }
 {
     let mut buf = [0u8; BUFFER_SIZE];
-    let size = args::strings_into(&mut buf, bytes, lengths);
+    let size = args_into::strings_into(&mut buf, bytes, lengths);
     let at = spec::USTKTOP - (size as u64);
     pagealloc::user::write_user(frames, book, number, at, &buf[..size]);
 }
@@ -45,7 +45,7 @@ fn push_pointers(frames: &mut [u8], book: &[u64], number: u64, bytes: &[u8], len
 {
     let mut buf = [0u8; BUFFER_SIZE];
     let first = spec::USTKTOP - ((bytes.len() + lengths.len()) as u64);
-    let size = args::pointers_into(&mut buf, first, lengths);
+    let size = args_into::pointers_into(&mut buf, first, lengths);
     let argv = first / 8 * 8 - (size as u64);
     pagealloc::user::write_user(frames, book, number, argv, &buf[..size]);
 }

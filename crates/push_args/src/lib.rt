@@ -67,7 +67,7 @@ fn write_strings(
     ensures { λ _. ⌜ store (now (frames .exit)) (now (book .entry)) ≡ pokes (store (now (frames .entry)) (now (book .entry))) number at (strings (argsOf (now (bytes .entry)) (now (lengths .entry)))) ⌝ }
 {
     let mut buf = [0u8; ARG_LIMIT];
-    let n = args::strings_into(&mut buf, bytes, lengths);
+    let n = args_into::strings_into(&mut buf, bytes, lengths);
     uaccess::write_user(frames, book, tags, bases, table, number, at, &buf[..n]);
 }
 
@@ -89,7 +89,7 @@ fn write_pointers(
     ensures { λ _. ⌜ store (now (frames .exit)) (now (book .entry)) ≡ pokes (store (now (frames .entry)) (now (book .entry))) number at (pointersBy first (now (lengths .entry))) ⌝ }
 {
     let mut buf = [0u8; ARG_LIMIT];
-    let n = args::pointers_into(&mut buf, first, lengths);
+    let n = args_into::pointers_into(&mut buf, first, lengths);
     uaccess::write_user(frames, book, tags, bases, table, number, at, &buf[..n]);
 }
 
