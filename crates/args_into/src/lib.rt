@@ -1,5 +1,5 @@
-// The bytes of arguments that go onto a stack, as r9's push_args lays them out, put into a buffer: their strings, each with its NUL, and
-// the pointers to them with the null after them.
+// The bytes of arguments that go onto a stack, as r9's push_args lays them out, put into a buffer: their strings, each with its NUL,
+// and the pointers to them with the null after them. Start and push write the buffer to user memory at once.
 
 ghost use mathlib.Core.Path.{_≡_};
 ghost use mathlib.Core.List.{[], _∷_, _++_};

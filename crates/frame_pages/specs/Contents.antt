@@ -1,4 +1,5 @@
--- What pages hold.
+-- What pages hold: file bytes between zeros. The specification's `pageBytes` goes address by address; these are the same bytes as
+-- the code copies them, in runs.
 -- Assumes nothing.
 use Prim.Native.Nat.{ℕ, _+_, _-_}
 use mathlib.Core.List.{List, _++_}

@@ -1,4 +1,5 @@
-// Frames filled: with zeros, with bytes between zeros, with another frame's bytes, and with a page of a segment.
+// Frames filled: with zeros, with bytes between zeros, with another frame's bytes, and with a page of a segment. One frame at a
+// time; which frame it is, and its book word, is crate pagealloc's business.
 
 ghost use mathlib.Core.Path.{_≡_};
 ghost use mathlib.Core.Logic.{_⊎_};

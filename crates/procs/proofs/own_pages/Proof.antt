@@ -3,7 +3,7 @@ use native.Mathlib.Omega.{arith}
 use mathlib.Core.Path.{_≡_}
 use lib.ListN.{length}
 use borrow.Author.Needs.{needs}
-use Rattle.front.proofs.Own.{count-last}
+use Rattle.procs.proofs.Own.{count-last}
 use Rattle.records.proofs.Walk.{length-mapped}
 use Rattle.procs.proofs.own_pages.Statement.{statement}
 use Rattle.procs.proofs.own_pages.Tie as tie
