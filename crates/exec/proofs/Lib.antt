@@ -1,3 +1,1 @@
-pub mod Fitted
-pub mod Kept
 pub mod Planned
