@@ -1,3 +1,4 @@
 pub mod Given
 pub mod Lists
 pub mod Fitting
+pub mod Several
