@@ -2,3 +2,4 @@
 pub mod Given
 pub mod Lists
 pub mod Fitting
+pub mod Several

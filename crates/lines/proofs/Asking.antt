@@ -11,20 +11,23 @@ use lib.ListN.{length, take}
 use lib.Seq.{length-take-le}
 use borrow.Author.Tests.{eqb-true, le-ltb, lt-ltb}
 use Rattle.spec.specs.Tests.{_is_, _⇒_else_, ascii}
-use Rattle.spec.specs.Machine.{Call, copy-from-user, try-copy-str-from-user, Reply}
+use Rattle.spec.specs.Machine.{Call, fork, copy-from-user, try-copy-str-from-user, Reply}
 use Rattle.spec.specs.World.{State, Does}
 use Rattle.spec.specs.declared.Procs.{Procs}
 use Rattle.spec.proofs.Bools.{split}
 use Rattle.front.specs.Numbers.{stateOf, call}
-use Rattle.script.specs.Words.{headOf, tailOf, afterOf, sameBytes}
+use Rattle.script.specs.Words.{tailOf, afterOf, sameBytes}
 use Rattle.script.specs.Bytes.{formOf}
 use Rattle.script.specs.declared.bytes.Form.the-variants.{File}
 use Rattle.asked.specs.Given.{bytesOf, Gives}
+use Rattle.asked.specs.Lists.{listOf}
+use Rattle.asked.proofs.Collecting.{head-short}
+use Rattle.lines.specs.declared.words.Two.the-variants.{Are as TwoAre}
 use Rattle.lines.specs.declared.words.Three.{Three}
 use Rattle.lines.specs.declared.words.Three.the-variants.{Are as ThreeAre}
 use Rattle.lines.specs.Words.{wordOf, threeOf}
 use Rattle.lines.specs.Texts.{replyText, Says}
-use Rattle.lines.specs.Asks.{Reading, Reads, rangeIn, rangeAsks, blank, fromOf, stringOf, lineAfter, lineText, Replies, Answers}
+use Rattle.lines.specs.Asks.{Reading, Reads, forkOf, rangeIn, rangeAsks, blank, fromOf, stringOf, lineAfter, lineText, Replies, Answers}
 
 -- ---- what words gave
 
@@ -36,20 +39,22 @@ pub plain-reads : (line : List ℕ) → Reads line (plain line)
 plain-reads line k = record { known = λ no. refl }
 
 -- word j gave o
-abbrev pub reading : List ℕ → ℕ → Option (List ℕ) → Reading
-reading line j o k = k is j ⇒ o else plain line k
+abbrev pub with-word : Reading → ℕ → Option (List ℕ) → Reading
+with-word given j o k = k is j ⇒ o else given k
 
-pub reading-reads : (line : List ℕ) (j : ℕ) {o : Option (List ℕ)} → Gives (wordOf j line) o → Reads line (reading line j o)
-reading-reads line j {o} g k =
+pub with-reads : (line : List ℕ) (given : Reading) (j : ℕ) {o : Option (List ℕ)} → Reads line given → Gives (wordOf j line) o → Reads line (with-word given j o)
+with-reads line given j {o} known g k =
     split (eqb k j)
     (λ q. let e : k ≡ j = eqb-true k j q in rw q (subst (λ (i : ℕ). Gives (wordOf i line) o) (sym e) g))
-    (λ q. rw q (plain-reads line k))
+    (λ q. rw q (known k))
+
+abbrev pub reading : List ℕ → ℕ → Option (List ℕ) → Reading
+reading line = with-word (plain line)
+
+pub reading-reads : (line : List ℕ) (j : ℕ) {o : Option (List ℕ)} → Gives (wordOf j line) o → Reads line (reading line j o)
+reading-reads line j g = with-reads line (plain line) j (plain-reads line) g
 
 -- a word is no longer than its line
-head-short : (line : List ℕ) → length (headOf line) ≤ length line
-head-short [] = omega arith
-head-short (b ∷ line) = split (eqb b 32) (λ q. rw q (omega arith)) (λ q. rw q (omega (arith, head-short line)))
-
 tail-short : (line : List ℕ) → length (tailOf line) ≤ length line
 tail-short [] = omega arith
 tail-short (b ∷ line) = split (eqb b 32) (λ q. rw q (omega arith)) (λ q. rw q (omega (arith, tail-short line)))
@@ -65,6 +70,9 @@ word-short k line = omega (arith, head-short (afterOf k line), after-short k lin
 pub word-gives : (k : ℕ) (line w : List ℕ) (n : ℕ) {o : Option (List ℕ)} → length line ≤ n → w ≡ wordOf k line → ((formOf w ≡ File → ⊥) → length w ≤ n → o ≡ bytesOf w) → Gives (wordOf k line) o
 word-gives k line w n {o} h e f =
     subst (λ (x : List ℕ). Gives x o) e (record { known = λ no. f no (rw e (omega (arith, word-short k line))) })
+
+pub named-gives : (k : ℕ) (line : List ℕ) {w : List ℕ} {o : Option (List ℕ)} → w ≡ wordOf k line → Gives w o → Gives (wordOf k line) o
+named-gives k line {w} {o} e g = subst (λ (x : List ℕ). Gives x o) e g
 
 -- ---- a line that is no call, and one that makes a call
 
@@ -100,6 +108,12 @@ pub same-asks : {s t : State} (f g : List ℕ → Reading → Option Call) (line
     → Answers s f line t out size → Answers s g line t out size
 same-asks {s} f g line e a =
     record { given = a .given; known = a .known; left = a .left ∙ ap (lineAfter s) (e (a .given)); said = a .said ∙ ap (lineText s) (e (a .given)); room = a .room }
+
+-- ---- a fork's list
+
+pub fork-more : (procs : Procs) {n child : ℕ} (xs : List ℕ) → (length xs ≡ 0 → ⊥) → some (call n (fork child (listOf xs))) ≡ forkOf procs (TwoAre n child) (some xs)
+fork-more procs [] h = absurd (h refl)
+fork-more procs (x ∷ xs) h = refl
 
 -- ---- a range's last word
 

@@ -1,19 +1,24 @@
 -- What the lines ask for: the call of each, or none for a bad line; and what a line leaves and answers.
 -- Assumes nothing.
-use Prim.Native.Nat.{ℕ, _≤_}
+use Prim.Native.Nat.{ℕ, _-_, _≤_}
 use mathlib.Core.Path.{_≡_}
 use mathlib.Core.Bool.{Bool, true, false}
 use mathlib.Core.Option.{Option, none, some}
-use mathlib.Core.List.{List}
+use mathlib.Core.List.{List, [], _∷_}
 use lib.ListN.{length, take, replicate}
 use Rattle.spec.specs.Tests.{_above_, _⇒_else_, ascii}
-use Rattle.spec.specs.Machine.{Call, break, end, user-range-ok, copy-from-user, copy-to-user, try-copy-str-from-user}
+use Rattle.spec.specs.Machine.{Call, start, replace, break, fork, end, user-range-ok, copy-from-user, copy-to-user, try-copy-str-from-user}
+use Rattle.spec.specs.Book.{used, procAt}
 use Rattle.spec.specs.World.{State, answer, after}
+use Rattle.spec.specs.declared.Procs.{Procs}
+use Rattle.spec.specs.declared.UserSegment.{UserSegment}
 use Rattle.front.specs.Numbers.{call}
-use Rattle.script.specs.Words.{sameBytes}
+use Rattle.script.specs.Words.{afterOf, spacesOf, sameBytes}
 use Rattle.script.specs.declared.words.Number.{Number}
 use Rattle.script.specs.declared.words.Number.the-variants.{Is, Bad}
 use Rattle.asked.specs.Given.{Gives}
+use Rattle.asked.specs.Lists.{listOf}
+use Rattle.asked.specs.Several.{numbersOf, atMost}
 use Rattle.lines.specs.declared.words.Two.{Two}
 use Rattle.lines.specs.declared.words.Two.the-variants.{Are as TwoAre, Bad as TwoBad}
 use Rattle.lines.specs.declared.words.Three.{Three}
@@ -45,6 +50,20 @@ endOf Bad = none
 
 abbrev pub endAsks : List ℕ → Reading → Option Call
 endAsks line given = endOf (numberOf 1 line)
+
+-- fork PARENT CHILD [START END PERM ..]: without a list the record's own; of a longer list 17 segments are lent, one more than a
+-- record has
+abbrev pub forkList : Procs → ℕ → List ℕ → List UserSegment
+forkList procs n [] = used (procAt procs n .segments)
+forkList procs n (x ∷ xs) = listOf (x ∷ xs)
+
+abbrev pub forkOf : Procs → Two → Option (List ℕ) → Option Call
+forkOf procs (TwoAre n child) (some xs) = some (call n (fork child (forkList procs n xs)))
+forkOf procs (TwoAre n child) none = none
+forkOf procs TwoBad xs = none
+
+abbrev pub forkAsks : Procs → List ℕ → Reading → Option Call
+forkAsks procs line given = forkOf procs (twoOf line) (atMost 51 (numbersOf (spacesOf line - 2) (afterOf 3 line)))
 
 -- range NUMBER ADDRESS LENGTH r|w
 abbrev pub rangeIn : Three → Bool → Option Call
@@ -83,6 +102,25 @@ toOf TwoBad bytes = none
 
 abbrev pub toAsks : List ℕ → Reading → Option Call
 toAsks line given = toOf (twoOf line) (given 3)
+
+-- replace NUMBER NAME IMAGE ARGV
+abbrev pub replaceWith : ℕ → ℕ → List ℕ → Option (List ℕ) → Option Call
+replaceWith n argv name (some image) = some (call n (replace image name argv))
+replaceWith n argv name none = none
+
+abbrev pub replaceOf : Number → Number → Option (List ℕ) → Option (List ℕ) → Option Call
+replaceOf (Is n) (Is argv) (some name) image = replaceWith n argv name image
+replaceOf (Is n) (Is argv) none image = none
+replaceOf (Is n) Bad name image = none
+replaceOf Bad argv name image = none
+
+abbrev pub replaceAsks : List ℕ → Reading → Option Call
+replaceAsks line given = replaceOf (numberOf 1 line) (numberOf 4 line) (given 2) (given 3)
+
+-- start with a name and arguments, and the image of word 3
+abbrev pub startWith : ℕ → List ℕ → List ℕ → List ℕ → Option (List ℕ) → Option Call
+startWith n name bytes lengths (some image) = some (call n (start image name bytes lengths))
+startWith n name bytes lengths none = none
 
 -- ---- what a line leaves and answers: a bad one changes nothing
 

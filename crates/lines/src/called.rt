@@ -8,7 +8,7 @@ ghost use Rattle.front.specs.Numbers.{stateOf, call};
 ghost use Rattle.replies.specs.Lines.{answerText};
 ghost use Rattle.lines.specs.Texts.{Says};
 ghost use Rattle.lines.specs.Words.{threeOf};
-ghost use Rattle.lines.specs.Asks.{breakAsks, endAsks, rangeIn, rangeAsks, fromAsks, stringAsks, toAsks, blank, Replies, Answers};
+ghost use Rattle.lines.specs.Asks.{breakAsks, endAsks, forkAsks, rangeIn, rangeAsks, fromAsks, stringAsks, toAsks, blank, Replies, Answers};
 use crate::words::Three;
 use crate::words::Two;
 use crate::words::first_three;
@@ -64,13 +64,7 @@ const BLANK: u8 = 238;
 const BUFFER_MAX: u64 = 65536;
 
 // break NUMBER ADDRESS
-pub fn brk(
-    frames: &mut [u8],
-    book: &mut [u64],
-    out: &mut [u8],
-    procs: Procs,
-    line: &[u8],
-) -> Said
+pub fn brk(frames: &mut [u8], book: &mut [u64], out: &mut [u8], procs: Procs, line: &[u8]) -> Said
     requires { ⌜ 131136 ≤ length (now out) ⌝ }
     ensures { λ r. ⌜ Answers (stateOf (now (frames .entry)) (now (book .entry)) procs) breakAsks (now (line .entry)) (stateOf (now (frames .exit)) (now (book .exit)) (r .procs)) (now (out .exit)) (r .size) ⌝ }
 {
@@ -81,13 +75,7 @@ pub fn brk(
 }
 
 // end NUMBER
-pub fn end(
-    frames: &mut [u8],
-    book: &mut [u64],
-    out: &mut [u8],
-    procs: Procs,
-    line: &[u8],
-) -> Said
+pub fn end(frames: &mut [u8], book: &mut [u64], out: &mut [u8], procs: Procs, line: &[u8]) -> Said
     requires { ⌜ 131136 ≤ length (now out) ⌝ }
     ensures { λ r. ⌜ Answers (stateOf (now (frames .entry)) (now (book .entry)) procs) endAsks (now (line .entry)) (stateOf (now (frames .exit)) (now (book .exit)) (r .procs)) (now (out .exit)) (r .size) ⌝ }
 {
@@ -98,15 +86,9 @@ pub fn end(
 }
 
 // fork PARENT CHILD [START END PERM ..]
-pub fn fork(
-    frames: &mut [u8],
-    book: &mut [u64],
-    out: &mut [u8],
-    procs: Procs,
-    line: &[u8],
-) -> Said
+pub fn fork(frames: &mut [u8], book: &mut [u64], out: &mut [u8], procs: Procs, line: &[u8]) -> Said
     requires { ⌜ 131136 ≤ length (now out) ⌝ }
-    ensures { λ r. ⌜ r .size ≤ length (now (out .exit)) ⌝ }
+    ensures { λ r. ⌜ Answers (stateOf (now (frames .entry)) (now (book .entry)) procs) (forkAsks procs) (now (line .entry)) (stateOf (now (frames .exit)) (now (book .exit)) (r .procs)) (now (out .exit)) (r .size) ⌝ }
 {
     let Two::Are(number, child) = first_two(line) else {
         return bad(out, procs);
@@ -149,13 +131,7 @@ fn ranged(
 }
 
 // range NUMBER ADDRESS LENGTH r|w
-pub fn range(
-    frames: &mut [u8],
-    book: &mut [u64],
-    out: &mut [u8],
-    procs: Procs,
-    line: &[u8],
-) -> Said
+pub fn range(frames: &mut [u8], book: &mut [u64], out: &mut [u8], procs: Procs, line: &[u8]) -> Said
     requires { ⌜ 131136 ≤ length (now out) ⌝ }
     ensures { λ r. ⌜ Answers (stateOf (now (frames .entry)) (now (book .entry)) procs) rangeAsks (now (line .entry)) (stateOf (now (frames .exit)) (now (book .exit)) (r .procs)) (now (out .exit)) (r .size) ⌝ }
 {

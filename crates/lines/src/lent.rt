@@ -92,13 +92,7 @@ fn fill_of(line: &[u8]) -> Number {
 }
 
 // frames N [FILL]
-pub fn frames(
-    frames: &mut [u8],
-    book: &mut [u64],
-    out: &mut [u8],
-    w: World,
-    line: &[u8],
-) -> Step
+pub fn frames(frames: &mut [u8], book: &mut [u64], out: &mut [u8], w: World, line: &[u8]) -> Step
     requires { ⌜ length (now frames) ≡ 4198400 ⌝ }
     requires { ⌜ length (now book) ≡ 1025 ⌝ }
     requires { ⌜ 131136 ≤ length (now out) ⌝ }

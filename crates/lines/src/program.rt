@@ -1,6 +1,8 @@
 // The lines of calls that have an image or arguments.
 ghost use Prim.Native.Nat.{_≤_};
 ghost use lib.ListN.{length};
+ghost use Rattle.front.specs.Numbers.{stateOf};
+ghost use Rattle.lines.specs.Asks.{startWith, replaceWith, replaceAsks, Answers};
 use crate::called::Said;
 use crate::called::answered;
 use crate::called::bad;
@@ -24,14 +26,23 @@ fn start_image(
     line: &[u8],
 ) -> Said
     requires { ⌜ (length (now line) ≤ length (now space)) × (131136 ≤ length (now out)) ⌝ }
-    ensures { λ r. ⌜ r .size ≤ length (now (out .exit)) ⌝ }
+    ensures { λ r. ⌜ Answers (stateOf (now (frames .entry)) (now (book .entry)) procs) (λ l given. startWith number (now (name .entry)) (now (bytes .entry)) (now (lengths .entry)) (given 3)) (now (line .entry)) (stateOf (now (frames .exit)) (now (book .exit)) (r .procs)) (now (out .exit)) (r .size) ⌝ }
 {
     let Taken::Size(m) = asked::bytes(space, script::word(line, 3)) else {
         return bad(out, procs);
     };
     answered(
         out,
-        calls::start(frames, book, procs, number, &space[..m], name, bytes, lengths),
+        calls::start(
+            frames,
+            book,
+            procs,
+            number,
+            &space[..m],
+            name,
+            bytes,
+            lengths,
+        ),
     )
 }
 
@@ -106,7 +117,7 @@ fn replace_image(
     line: &[u8],
 ) -> Said
     requires { ⌜ (length (now line) ≤ length (now space)) × (131136 ≤ length (now out)) ⌝ }
-    ensures { λ r. ⌜ r .size ≤ length (now (out .exit)) ⌝ }
+    ensures { λ r. ⌜ Answers (stateOf (now (frames .entry)) (now (book .entry)) procs) (λ l given. replaceWith number argv (now (name .entry)) (given 3)) (now (line .entry)) (stateOf (now (frames .exit)) (now (book .exit)) (r .procs)) (now (out .exit)) (r .size) ⌝ }
 {
     let Taken::Size(m) = asked::bytes(space, script::word(line, 3)) else {
         return bad(out, procs);
@@ -127,7 +138,7 @@ pub fn replace(
     line: &[u8],
 ) -> Said
     requires { ⌜ (length (now line) ≤ length (now space)) × (131136 ≤ length (now out)) ⌝ }
-    ensures { λ r. ⌜ r .size ≤ length (now (out .exit)) ⌝ }
+    ensures { λ r. ⌜ Answers (stateOf (now (frames .entry)) (now (book .entry)) procs) replaceAsks (now (line .entry)) (stateOf (now (frames .exit)) (now (book .exit)) (r .procs)) (now (out .exit)) (r .size) ⌝ }
 {
     let Number::Is(number) = asked::number(line, 1) else {
         return bad(out, procs);
@@ -139,7 +150,17 @@ pub fn replace(
     let Taken::Size(n) = asked::name(space, &mut name, script::word(line, 2)) else {
         return bad(out, procs);
     };
-    replace_image(frames, book, space, out, procs, number, &name[..n], argv, line)
+    replace_image(
+        frames,
+        book,
+        space,
+        out,
+        procs,
+        number,
+        &name[..n],
+        argv,
+        line,
+    )
 }
 
 // Pushes the arguments that the words behind word 3 give.

@@ -7,10 +7,10 @@ use Rattle.lines.proofs.program.push_args.Statement.{statement}
 use Rattle.lines.proofs.program.push_args.Tie as tie
 
 slice-aggregate-push : tie.Need-slice-aggregate-push
-slice-aggregate-push c = sym (length-take-le _ _ (c .before .before .before .before .before .before .before .before .before .take-args .ensures .sized))
+slice-aggregate-push c = sym (length-take-le _ _ (c .before .before .before .before .before .before .before .before .before .take-args .ensures .0 .sized))
 
 slice-aggregate-push-2 : tie.Need-slice-aggregate-push-2
-slice-aggregate-push-2 c = sym (length-take-le _ _ (c .before .before .before .before .before .before .before .before .before .before .take-args .ensures .counted))
+slice-aggregate-push-2 c = sym (length-take-le _ _ (c .before .before .before .before .before .before .before .before .before .before .take-args .ensures .0 .counted))
 
 pub push-args-spec : {M : Type 1} → statement M
 push-args-spec =

@@ -7,10 +7,10 @@ use Rattle.lines.proofs.program.start_args.Statement.{statement}
 use Rattle.lines.proofs.program.start_args.Tie as tie
 
 slice-aggregate-start-image : tie.Need-slice-aggregate-start-image
-slice-aggregate-start-image c = sym (length-take-le _ _ (c .before .before .before .before .before .before .before .before .before .before .take-args .ensures .sized))
+slice-aggregate-start-image c = sym (length-take-le _ _ (c .before .before .before .before .before .before .before .before .before .before .take-args .ensures .0 .sized))
 
 slice-aggregate-start-image-2 : tie.Need-slice-aggregate-start-image-2
-slice-aggregate-start-image-2 c = sym (length-take-le _ _ (c .before .before .before .before .before .before .before .before .before .before .before .take-args .ensures .counted))
+slice-aggregate-start-image-2 c = sym (length-take-le _ _ (c .before .before .before .before .before .before .before .before .before .before .before .take-args .ensures .0 .counted))
 
 pub start-args-spec : {M : Type 1} → statement M
 start-args-spec =
