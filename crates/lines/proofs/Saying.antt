@@ -1,6 +1,6 @@
 -- Bytes put at the start of a buffer are what it says.
 -- Assumes nothing.
-use mathlib.Core.Path.{_≡_, sym, ap, ap₂, subst, _∙_}
+use mathlib.Core.Path.{_≡_, sym, ap, subst, _∙_}
 use mathlib.Core.List.{List}
 use Prim.Native.Nat.{ℕ}
 use native.Mathlib.Omega.{arith}
@@ -18,7 +18,7 @@ use Rattle.lines.specs.Texts.{yesText, stringText, Says}
 pub says : {d s t e : List ℕ} {r : ℕ} → s ≡ t → Puts d 0 s e r → Says t e r
 says {d} {s} {t} {e} {r} q p =
     let n : r ≡ length s = omega (arith, p .place) in
-    record { bytes = ap₂ take n (p .bytes) ∙ put-begins d s ∙ q; room = counts p .1 .0 }
+    record { bytes = put-begins d s e r (p .bytes) n ∙ q; room = counts p .1 .0 }
 
 -- a text by another name
 pub same-says : {s t e : List ℕ} {r : ℕ} → s ≡ t → Says s e r → Says t e r
