@@ -1,4 +1,5 @@
-// Break: the end of a process's bss moves, as `ibrk` moves it.
+// Break: the end of a process's bss moves, as `ibrk` moves it. Crate segment has the rule; here its answer is carried out: pages
+// past the new end are released, new ones are placed and zeroed.
 
 ghost use mathlib.Core.Path.{_≡_};
 ghost use mathlib.Core.Bool.{true, _&&_};
@@ -50,7 +51,19 @@ fn move_break(frames: &mut [u8], book: &mut [u64], procs: Procs, number: u64, to
 pub fn brk(frames: &mut [u8], book: &mut [u64], procs: Procs, number: u64, addr: u64) -> Left
     ensures { λ r. ⌜ Does (stateOf (now (frames .entry)) (now (book .entry)) procs) (call number (break addr)) (stateOf (now (frames .exit)) (now (book .exit)) (r .procs)) (plainly (r .answer)) ⌝ }
 {
-    let e = front::numbers::plain_error(frames, book, procs, number, true);
+    let mut tags = [0u64; 272];
+    let mut bases = [0u64; 273];
+    let mut table = [0u16; 1024];
+    let e = front::numbers::plain_ready(
+        frames,
+        book,
+        procs,
+        number,
+        true,
+        &mut tags,
+        &mut bases,
+        &mut table,
+    );
     if e != 0 {
         return Left {
             procs: procs,
@@ -59,7 +72,7 @@ pub fn brk(frames: &mut [u8], book: &mut [u64], procs: Procs, number: u64, addr:
     }
     let p = front::record::proc_at(procs, number);
     let bss = p.bss;
-    let free = book::free_count(book) as u64;
+    let free = sound::free_frames(book, &bases) as u64;
     let b = segment::ibrk(segment::Bss::Set(bss), addr, free);
     let error = b.error;
     let value = b.value;

@@ -1,4 +1,5 @@
--- Parts of an image.
+-- Parts of an image: bytes from a place on, or none where they leave it. A reader that asks nothing of its caller answers for every
+-- place, and an accepted image never has such a one.
 -- Assumes nothing.
 use Prim.Native.Nat.{ℕ, _+_}
 use mathlib.Core.List.{List, []}

@@ -1,4 +1,6 @@
--- What the reader's types stand for in the specification: a segment, a step over one header, and the answer of `parse` with the scope's number.
+-- What the reader's types stand for in the specification: a segment, a step over one header, and the answer of `parse` with the
+-- scope's number. The code walks the headers once, so that checks 21 to 27 are stated here from any header on; `parsed` is the
+-- whole, and is `elfError`'s.
 -- Assumes nothing.
 use Prim.Native.Nat.{ℕ, _+_, _-_, _*_, _%_, _^_, _≤_}
 use mathlib.Core.Path.{_≡_}

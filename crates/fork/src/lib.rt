@@ -1,4 +1,5 @@
-// Fork: a child takes a copy of every page of its parent's, and its record and name.
+// Fork: a child takes a copy of every page of its parent's, and its record and name. The parent's frames come from the table that
+// the check of the book leaves, the child's are the highest free ones.
 
 pub mod copy;
 
@@ -69,7 +70,7 @@ pub fn fork(frames: &mut [u8], book: &mut [u64], procs: Procs, number: u64, chil
         };
     }
     let p = front::record::proc_at(procs, number);
-    let free = book::free_count(book) as u64;
+    let free = sound::free_frames(book, &bases) as u64;
     if front::pages::own_pages(p) > free {
         return Left {
             procs: procs,

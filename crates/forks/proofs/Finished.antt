@@ -16,10 +16,11 @@ use Rattle.spec.specs.declared.UserSegment.{UserSegment}
 use Rattle.spec.specs.declared.Procs.{Procs}
 use Rattle.spec.specs.declared.Answer.the-variants.{Done}
 use Rattle.spec.proofs.Bools.{both, split, clash, within-means}
-use Rattle.laws.proofs.Lists.{Each}
+use Rattle.laws.proofs.Lists.{Each, each-at}
 use Rattle.laws.proofs.Frame.{Fits}
 use Rattle.laws.proofs.Record.{Whole, same-is}
 use Rattle.book.specs.Lent.{store}
+use Rattle.sound.specs.Table.{Ready}
 use Rattle.pagealloc.specs.Lent.{Passed}
 use Rattle.front.specs.Numbers.{stateOf, forkError}
 use Rattle.front.specs.declared.left.Left.{Left}
@@ -27,10 +28,11 @@ use Rattle.front.proofs.First.{Forks, fork-none, fork-other, sizes-words}
 use Rattle.front.proofs.Living.{passed-sound, living-shape}
 use Rattle.front.proofs.Own.{take-more}
 use Rattle.front.proofs.States.{state-is}
-use Rattle.fork.proofs.Forked.{mapped-still, Copied, copied-none, copied-more, each-at, copyable-segments, copyable-bss}
-use Rattle.fork.proofs.Forked as by-value
-use Rattle.forks.specs.Lent.{Copyable}
-use Rattle.forks.proofs.Copies.{as-copyable, of-copyable, copiesOf, Numbers}
+use Rattle.fork.proofs.Forked.{mapped-still, Copied, copied-none, copied-more, copyable-segments, copyable-bss}
+use Rattle.fork.specs.Lent.{Copyable}
+use Rattle.fork.proofs.Told.{tells-first}
+use Rattle.forks.specs.declared.parent.Parent.{Parent}
+use Rattle.forks.proofs.Copies.{copiesOf, Told, Asked}
 
 -- a list that passes the test is the record's
 pub same-means : (gs hs : List UserSegment) → same sameSegment gs hs ≡ true → gs ≡ hs
@@ -54,7 +56,7 @@ copied-up-to m number child gs fits small other can (suc i) h =
     let t = copiesOf (r .0) number child (getD gs i zeroSegment ∷ []) in (
       t,
       subst (Copied m t number child) (sym (take-more gs i h) ∙ ap (λ (k : ℕ). take k gs) s)
-          (copied-more m (r .0) t number child (take i gs) (getD gs i zeroSegment) fits small other (r .1) (as-copyable (m .book) number _ (can i h)) refl),
+          (copied-more m (r .0) t number child (take i gs) (getD gs i zeroSegment) fits small other (r .1) (can i h) refl),
     )
 
 pub copied-all : (m t : Store) (number child : ℕ) (gs : List UserSegment) → Fits m → child < 256 → (number ≡ child → ⊥) → ((i : ℕ) → i < length gs → Copyable (m .book) number (getD gs i zeroSegment))
@@ -64,8 +66,11 @@ copied-all m t number child gs fits small other can e =
     let c = subst (Copied m (r .0) number child) (take-all (length gs) gs (omega arith)) (r .1) in
     subst (λ (x : Store). Copied m x number child gs) (c .is ∙ sym e) c
 
-module _ (frames book : List ℕ) (procs : Procs) (number child : ℕ) (gs : List UserSegment) (whole : Whole procs)
-    (none : forkError (stateOf frames book procs) number child ≡ 0) (alike : same sameSegment gs (used (procAt procs number .segments)) ≡ true) where
+module _ (frames book : List ℕ) (procs : Procs) (parent : Parent) (child : ℕ) (gs : List UserSegment) (whole : Whole procs)
+    (none : forkError (stateOf frames book procs) (parent .number) child ≡ 0) (alike : same sameSegment gs (used (procAt procs (parent .number) .segments)) ≡ true) (ready : Ready book (parent .tags) (parent .bases) (parent .table)) where
+  abbrev number : ℕ
+  number = parent .number
+
   abbrev state : State
   state = stateOf frames book procs
 
@@ -90,28 +95,28 @@ module _ (frames book : List ℕ) (procs : Procs) (number child : ℕ) (gs : Lis
   list-is : gs ≡ used (procAt procs number .segments)
   list-is = same-means gs (used (procAt procs number .segments)) alike
 
-  pub copy-numbers : Numbers frames book number child
+  pub copy-numbers : Asked frames book parent child
   copy-numbers =
       let n = within-means 1 17 number (forks .passed .number) in
       let k = within-means 1 17 child (forks .second) in
-      (fits, n .0, omega (arith, n .1), k .0, omega (arith, k .1), other)
+      (fits, n .0, omega (arith, n .1), k .0, omega (arith, k .1), other, tells-first _ _ _ _ _ ready)
 
   pub can-copy : (i : ℕ) → i < length gs → Copyable book number (getD gs i zeroSegment)
   can-copy i h =
       let e = copyable-segments book procs whole sound number (forks .passed .number) (shape .0) (shape .1) in
-      let u = each-used (by-value.Copyable book number) (procAt procs number .segments) e in
-      of-copyable book number _ (each-at (by-value.Copyable book number) zeroSegment gs (subst (Each (by-value.Copyable book number)) (sym list-is) u) i h)
+      let u = each-used (Copyable book number) (procAt procs number .segments) e in
+      each-at (Copyable book number) zeroSegment gs (subst (Each (Copyable book number)) (sym list-is) u) i h
 
   -- once the list's pages are copied
-  module _ (frames′ book′ : List ℕ) (top : ℕ) (copied : store frames′ book′ ≡ copiesOf m number child gs) (passed : Passed top book′) where
+  module _ (frames′ book′ : List ℕ) (top : ℕ) (copied : store frames′ book′ ≡ copiesOf m number child gs) (passed : Passed top book′) (told : Told parent book′) where
     copies : Copied m (store frames′ book′) number child gs
     copies = copied-all m (store frames′ book′) number child gs fits (copy-numbers .4) other can-copy copied
 
-    bss : by-value.Copyable book number (bssSegment (procAt procs number .bss))
+    bss : Copyable book number (bssSegment (procAt procs number .bss))
     bss = copyable-bss book procs whole sound number (forks .passed .number) (shape .0) (shape .1)
 
     pub asks-finish : (length frames′ ≡ 4096 * length book′) × (valid number ≡ true) × (valid child ≡ true) × (number ≡ child → ⊥) × (pageUp (procAt procs number .bss .start) < 2 ^ 64)
-        × Copyable book′ number (bssSegment (procAt procs number .bss)) × Passed top book′
+        × Copyable book′ number (bssSegment (procAt procs number .bss)) × Passed top book′ × Told parent book′
     asks-finish =
         let b = shape .1 in (
           copies .fits,
@@ -121,6 +126,7 @@ module _ (frames book : List ℕ) (procs : Procs) (number child : ℕ) (gs : Lis
           omega (arith, b .bss-order, b .bss-end .1),
           record { start = bss .start; end = bss .end; high = bss .high; perm = bss .perm; mapped = mapped-still m (store frames′ book′) number _ _ (copies .sees) (bss .mapped) },
           passed,
+          told,
         )
 
     pub forked-is : (frames″ book″ : List ℕ) (r : Left) → store frames″ book″ ≡ copiesOf (store frames′ book′) number child (bssSegment (procAt procs number .bss) ∷ [])

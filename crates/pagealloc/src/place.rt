@@ -5,14 +5,14 @@
 ghost use mathlib.Core.Path.{_≡_};
 ghost use mathlib.Core.Option.{some};
 ghost use mathlib.Core.List.{[], _∷_};
-ghost use Prim.Native.Nat.{ℕ, _+_, _*_, _%_, _^_, _≤_, _<_};
+ghost use Prim.Native.Nat.{_+_, _*_, _%_, _^_, _≤_, _<_};
 ghost use lib.ListN.{length, getD};
 ghost use Rattle.spec.specs.Tests.{_is_};
 ghost use Rattle.spec.specs.Numbers.{pageBytes, zeroPage};
-ghost use Rattle.spec.specs.Book.{highest, frameOf, segment};
+ghost use Rattle.spec.specs.Book.{highest, segment};
 ghost use Rattle.spec.specs.Frames.{pagesOf, hold, place, frameBytes};
 ghost use Rattle.book.specs.Lent.{store, foundOf};
-ghost use Rattle.pagealloc.specs.Lent.{Passed, Mapped};
+ghost use Rattle.pagealloc.specs.Lent.{Passed};
 ghost use Rattle.pagealloc.specs.Contents.{fileAt};
 
 // The highest free frame below frame `c`, as `allocate_physpage`, which leaves the book as it is.
@@ -138,57 +138,4 @@ pub fn hold_copied(
         crate::frames::frame_addr(k),
     );
     book[k] = book::pack(page, child, perm);
-}
-
-// Frame `k`, which is free, becomes the child's copy of a page of the parent's.
-fn hold_found(
-    frames: &mut [u8],
-    book: &mut [u64],
-    k: usize,
-    parent: u64,
-    child: u64,
-    perm: u64,
-    page: u64,
-)
-    requires { ⌜ (length (now frames) ≡ 4096 * length (now book)) × (k < length (now book)) × (getD (now book) k 0 ≡ 0) ⌝ }
-    requires { ⌜ (1 ≤ parent) × (parent < 256) × (child < 256) × (perm < 16) × (page % 4096 ≡ 0) × (page < 2 ^ 63) ⌝ }
-    requires { ⌜ ((j : ℕ) × (frameOf (now book) parent page ≡ some j)) ⌝ }
-    ensures { λ _. ⌜ store (now (frames .exit)) (now (book .exit)) ≡ hold (store (now (frames .entry)) (now (book .entry))) child (record { page = page; perm = perm; bytes = frameBytes (now (frames .entry)) (frameOf (now (book .entry)) parent page) }) (some k) ⌝ }
-{
-    let spec::Found::At(from) = book::frame_of(book, parent, page) else {
-        return;
-    };
-    hold_copied(frames, book, from, k, child, perm, page);
-}
-
-// Places copies of the pages of a segment of the parent's for the child, as `copy_segments`.
-pub fn copy_segment(
-    frames: &mut [u8],
-    book: &mut [u64],
-    top: usize,
-    parent: u64,
-    child: u64,
-    recorded: spec::UserSegment,
-) -> usize
-    requires { ⌜ (length (now frames) ≡ 4096 * length (now book)) × (1 ≤ parent) × (parent < 256) × (1 ≤ child) × (child < 256) × (parent ≡ child → ⊥) ⌝ }
-    requires { ⌜ (recorded .range .start % 4096 ≡ 0) × (recorded .range .end % 4096 ≡ 0) × (recorded .range .end < 2 ^ 63) × (recorded .perm < 16) ⌝ }
-    requires { ⌜ Mapped (now book) parent (recorded .range .start) (recorded .range .end) ⌝ }
-    requires { ⌜ Passed top (now book) ⌝ }
-    ensures { λ _. ⌜ store (now (frames .exit)) (now (book .exit)) ≡ place (store (now (frames .entry)) (now (book .entry))) child (pagesOf (λ a. frameBytes (now (frames .entry)) (frameOf (now (book .entry)) parent a)) (recorded ∷ [])) ⌝ }
-    ensures { λ r. ⌜ Passed r (now (book .exit)) ⌝ }
-{
-    let perm = recorded.perm;
-    let range = recorded.range;
-    let end = range.end;
-    let mut page = range.start;
-    let mut c = top;
-    while page < end {
-        let spec::Found::At(k) = free_below(book, c) else {
-            return 0;
-        };
-        hold_found(frames, book, k, parent, child, perm, page);
-        c = k;
-        page += spec::PAGE_SIZE_4K;
-    }
-    c
 }

@@ -1,5 +1,4 @@
 -- `fork` meets its contract: the parent's pages are counted, then copied.
-use Prim.Native.Nat.{ℕ, _≤_, _<_}
 use native.Mathlib.Omega.{arith}
 use mathlib.Core.Path.{_≡_, refl, sym, ap, _∙_}
 use mathlib.Core.Bool.{true}
@@ -13,7 +12,7 @@ use Rattle.spec.specs.declared.UserSegment.{UserSegment}
 use Rattle.spec.specs.declared.Proc.{Proc}
 use Rattle.laws.proofs.Record.{Whole}
 use Rattle.records.proofs.Whole.{whole-procs}
-use Rattle.sound.proofs.Lookup.{blank-zeros}
+use Rattle.sound.proofs.Lookup.{blank-zeros, free-frames}
 use Rattle.front.specs.Numbers.{stateOf}
 use Rattle.front.proofs.First.{Forks, fork-none}
 use Rattle.front.proofs.Answers.{fork-refused, fork-goes}
@@ -41,12 +40,15 @@ module _ (c : tie.Else1) where
   shape : (image : List UserSegment) × Shape (procAt (start .args .procs) (start .args .number)) image
   shape = living-shape state (start .args .number) true whole (forks .passed) (forks .parent)
 
--- the count is the specification's
-counted : (c : tie.After-own-pages) → c .own-pages .result ≡ pageCount (piecesOf (procAt (start (c .before .before .before .before) .args .procs) (start (c .before .before .before .before) .args .number)))
+-- the counts are the specification's
+free-is : (c : tie.After-free-frames) → c .free-frames .result ≡ free (now (start (c .before .before .before .before) .args .book))
+free-is c = let f = c .before .before .before .before in c .free-frames .ensures _ _ (f .before .fork-ready .ensures .1 (f .if1 .left))
+
+counted : (c : tie.After-own-pages) → c .own-pages .result ≡ pageCount (piecesOf (procAt (start (c .before .before .before .before .before) .args .procs) (start (c .before .before .before .before .before) .args .number)))
 counted c =
-    let f = c .before .before .before .before in
+    let f = c .before .before .before .before .before in
     let h = shape f in
-    c .own-pages .ensures ∙ ap (λ (p : Proc). pageCount (p .segments ++ bssSegment (p .bss) ∷ [])) (c .before .before .before .proc-at .ensures)
+    c .own-pages .ensures ∙ ap (λ (p : Proc). pageCount (p .segments ++ bssSegment (p .bss) ∷ [])) (c .before .before .before .before .proc-at .ensures)
     ∙ count-own (procAt (start f .args .procs) (start f .args .number)) (h .0) (h .1)
 
 fork-ready-requires : tie.Need-fork-ready-requires
@@ -64,11 +66,11 @@ returns c = let e = c .before .fork-ready in fork-refused _ _ _ (e .result) (e .
 proc-at-requires : tie.Need-proc-at-requires
 proc-at-requires c κs = forks c .passed .number
 
-free-count-requires : tie.Need-free-count-requires
-free-count-requires c κs = search needs
+free-frames-requires : tie.Need-free-frames-requires
+free-frames-requires c κs = let f = c .before .before .before in omega (arith, free-frames _ _ _ _ (f .before .fork-ready .ensures .1 (f .if1 .left)))
 
 own-pages-requires : tie.Need-own-pages-requires
-own-pages-requires c κs = let b = shape (c .before .before .before) .1 in rw (c .before .before .proc-at .ensures) (omega (arith, b .bss-order, b .bss-end .1))
+own-pages-requires c κs = let b = shape (c .before .before .before .before) .1 in rw (c .before .before .before .proc-at .ensures) (omega (arith, b .bss-order, b .bss-end .1))
 
 same-length-3 : tie.Need-same-length-3
 same-length-3 c = search needs
@@ -78,19 +80,19 @@ same-length-4 c = search needs
 
 returns-2 : tie.Need-returns-2
 returns-2 c =
-    let f = c .before .before .before .before .before in
+    let f = c .before .before .before .before .before .before in
     let a = start f .args in
     let e = f .before .fork-ready in
     fork-goes (state f) (a .number) (a .child) (e .result) (e .ensures .0) (f .if1 .left) _ _
-    (fork-short (view (state f) (a .number)) (free (now (a .book))) (a .child) (used (procAt (a .procs) (a .number) .segments)) (omega (arith, counted (c .before), c .before .before .free-count .ensures))) refl
+    (fork-short (view (state f) (a .number)) (free (now (a .book))) (a .child) (used (procAt (a .procs) (a .number) .segments)) (omega (arith, counted (c .before), free-is (c .before .before)))) refl
 
 copy-segments-requires : tie.Need-copy-segments-requires
 copy-segments-requires c κs =
-    let f = c .before .before .before .before .before .before .before .before .before .before in
+    let f = c .before .before .before .before .before .before .before .before .before .before .before in
     (sym (f .before .fork-ready .ensures .0) ∙ f .if1 .left, f .before .fork-ready .ensures .1 (f .if1 .left))
 
 with-proc-requires : tie.Need-with-proc-requires
-with-proc-requires c κs = forks (c .before .before .before .before .before .before .before .before .before .before .before .before .before .before .before) .second
+with-proc-requires c κs = forks (c .before .before .before .before .before .before .before .before .before .before .before .before .before .before .before .before) .second
 
 same-length-5 : tie.Need-same-length-5
 same-length-5 c = search needs
@@ -101,12 +103,12 @@ same-length-6 c = search needs
 returns-3 : tie.Need-returns-3
 returns-3 c =
     let u = c .before .before .before .before .before .before .before .before .before .before .before in
-    let f = u .before .before .before .before .before in
+    let f = u .before .before .before .before .before .before in
     let a = start f .args in
     let e = f .before .fork-ready in
     fork-goes (state f) (a .number) (a .child) (e .result) (e .ensures .0) (f .if1 .left) _ _
-    (fork-fits (view (state f) (a .number)) (free (now (a .book))) (a .child) (used (procAt (a .procs) (a .number) .segments)) (omega (arith, counted (u .before), u .before .before .free-count .ensures)))
-    (state-is _ _ _ _ (c .before .before .before .before .before .copy-segments .ensures) (c .with-proc .ensures ∙ ap (setProc (a .procs) (a .child)) (u .before .before .before .before .proc-at .ensures)))
+    (fork-fits (view (state f) (a .number)) (free (now (a .book))) (a .child) (used (procAt (a .procs) (a .number) .segments)) (omega (arith, counted (u .before), free-is (u .before .before))))
+    (state-is _ _ _ _ (c .before .before .before .before .before .copy-segments .ensures) (c .with-proc .ensures ∙ ap (setProc (a .procs) (a .child)) (u .before .before .before .before .before .proc-at .ensures)))
 
 pub fork-spec : {M : Type 1} → statement M
 fork-spec =
@@ -117,7 +119,7 @@ fork-spec =
     same-length-2
     returns
     proc-at-requires
-    free-count-requires
+    free-frames-requires
     own-pages-requires
     same-length-3
     same-length-4

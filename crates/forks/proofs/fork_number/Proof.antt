@@ -5,13 +5,14 @@ use mathlib.Core.Bool.{true}
 use mathlib.Core.List.{List, [], _∷_, _++_}
 use denote.Ref.{now}
 use borrow.Author.Needs.{needs}
-use Rattle.spec.specs.Book.{bssSegment, pageCount, procAt, piecesOf}
+use Rattle.spec.specs.Book.{free, bssSegment, pageCount, procAt, piecesOf}
 use Rattle.spec.specs.Sound.{Shape}
 use Rattle.spec.specs.World.{State}
 use Rattle.spec.specs.declared.UserSegment.{UserSegment}
 use Rattle.spec.specs.declared.Proc.{Proc}
 use Rattle.laws.proofs.Record.{Whole}
 use Rattle.records.proofs.Whole.{whole-procs}
+use Rattle.sound.proofs.Lookup.{free-frames}
 use Rattle.front.specs.Numbers.{stateOf}
 use Rattle.front.proofs.First.{Forks, fork-none}
 use Rattle.front.proofs.Living.{living-shape}
@@ -23,13 +24,13 @@ use Rattle.forks.proofs.fork_number.Tie as tie
 -- where no number came first
 module _ (c : tie.Else2) where
   abbrev start : tie.Start
-  start = c .before .before .before .before .before .before
+  start = c .before .before .before .before .before .before .before .before .before
 
   abbrev state : State
   state = stateOf (now (start .args .frames)) (now (start .args .book)) (start .args .procs)
 
   forks : Forks state (start .args .number) (start .args .child)
-  forks = fork-none state (start .args .number) (start .args .child) (sym (c .before .before .before .fork-error .ensures) ∙ c .if2 .left)
+  forks = fork-none state (start .args .number) (start .args .child) (sym (c .before .before .before .fork-ready .ensures .0) ∙ c .if2 .left)
 
   whole : Whole (start .args .procs)
   whole = let g = start .good .1 .1 .0 .1 .1 .0 in whole-procs (start .args .procs) (g .0) (g .1 .1) (g .1 .0 .1)
@@ -37,69 +38,72 @@ module _ (c : tie.Else2) where
   shape : (image : List UserSegment) × Shape (procAt (start .args .procs) (start .args .number)) image
   shape = living-shape state (start .args .number) true whole (forks .passed) (forks .parent)
 
--- the count is the specification's
-counted : (c : tie.After-own-pages) → c .own-pages .result ≡ pageCount (piecesOf (procAt (start (c .before .before .before) .args .procs) (start (c .before .before .before) .args .number)))
+-- the counts are the specification's
+free-is : (c : tie.After-free-frames) → c .free-frames .result ≡ free (now (start (c .before .before .before) .args .book))
+free-is c = let f = c .before .before .before in c .free-frames .ensures _ _ (f .before .before .before .fork-ready .ensures .1 (f .if2 .left))
+
+counted : (c : tie.After-own-pages) → c .own-pages .result ≡ pageCount (piecesOf (procAt (start (c .before .before .before .before) .args .procs) (start (c .before .before .before .before) .args .number)))
 counted c =
-    let f = c .before .before .before in
+    let f = c .before .before .before .before in
     let h = shape f in
-    c .own-pages .ensures ∙ ap (λ (p : Proc). pageCount (p .segments ++ bssSegment (p .bss) ∷ [])) (c .before .before .proc-at .ensures)
+    c .own-pages .ensures ∙ ap (λ (p : Proc). pageCount (p .segments ++ bssSegment (p .bss) ∷ [])) (c .before .before .before .proc-at .ensures)
     ∙ count-own (procAt (start f .args .procs) (start f .args .number)) (h .0) (h .1)
 
-fork-error-requires : tie.Need-fork-error-requires
-fork-error-requires c κs = search needs
+fork-ready-requires : tie.Need-fork-ready-requires
+fork-ready-requires c κs = search needs
 
 is-number-requires : tie.Need-is-number-requires
 is-number-requires c κs = search needs
 
 returns : tie.Need-returns
 returns c =
-    let a = c .before .before .before .before .before .args in
-    let e = c .before .before .fork-error in
+    let a = c .before .before .before .before .before .before .before .before .args in
+    let e = c .before .before .fork-ready in
     let v = c .before .is-number in
-    torn (stateOf (now (a .frames)) (now (a .book)) (a .procs)) (a .number) (a .child) (a .alike) (e .result) (v .result) (e .ensures) (v .ensures) (c .if1 .taken)
+    (torn (stateOf (now (a .frames)) (now (a .book)) (a .procs)) (a .number) (a .child) (a .alike) (e .result) (v .result) (e .ensures .0) (v .ensures) (c .if1 .taken), λ z. absurd (omega arith))
 
 returns-2 : tie.Need-returns-2
 returns-2 c =
-    let a = c .before .before .before .before .before .before .args in
-    let e = c .before .before .before .fork-error in
+    let a = c .before .before .before .before .before .before .before .before .before .args in
+    let e = c .before .before .before .fork-ready in
     let v = c .before .before .is-number in
-    first-number (stateOf (now (a .frames)) (now (a .book)) (a .procs)) (a .number) (a .child) (a .alike) (e .result) (v .result) (e .ensures) (v .ensures) (c .before .if1 .left) (c .if2 .taken)
+    (first-number (stateOf (now (a .frames)) (now (a .book)) (a .procs)) (a .number) (a .child) (a .alike) (e .result) (v .result) (e .ensures .0) (v .ensures) (c .before .if1 .left) (c .if2 .taken), λ z. absurd (c .if2 .taken z))
 
 proc-at-requires : tie.Need-proc-at-requires
 proc-at-requires c κs = forks c .passed .number
 
-free-count-requires : tie.Need-free-count-requires
-free-count-requires c κs = search needs
+free-frames-requires : tie.Need-free-frames-requires
+free-frames-requires c κs = let f = c .before .before in omega (arith, free-frames _ _ _ _ (f .before .before .before .fork-ready .ensures .1 (f .if2 .left)))
 
 own-pages-requires : tie.Need-own-pages-requires
-own-pages-requires c κs = let b = shape (c .before .before) .1 in rw (c .before .proc-at .ensures) (omega (arith, b .bss-order, b .bss-end .1))
+own-pages-requires c κs = let b = shape (c .before .before .before) .1 in rw (c .before .before .proc-at .ensures) (omega (arith, b .bss-order, b .bss-end .1))
 
 returns-3 : tie.Need-returns-3
 returns-3 c =
-    let f = c .before .before .before .before in
+    let f = c .before .before .before .before .before in
     let a = start f .args in
-    let e = f .before .before .before .fork-error in
+    let e = f .before .before .before .fork-ready in
     let v = f .before .before .is-number in
-    too-few (state f) (a .number) (a .child) (a .alike) (e .result) (v .result) (e .ensures) (v .ensures) (f .before .if1 .left) (f .if2 .left) (omega (arith, counted (c .before), c .before .before .free-count .ensures, c .if3 .taken))
+    (too-few (state f) (a .number) (a .child) (a .alike) (e .result) (v .result) (e .ensures .0) (v .ensures) (f .before .if1 .left) (f .if2 .left) (omega (arith, counted (c .before), free-is (c .before .before), c .if3 .taken)), λ z. absurd (omega arith))
 
 returns-4 : tie.Need-returns-4
 returns-4 c =
-    let f = c .before .before .before .before in
+    let f = c .before .before .before .before .before in
     let a = start f .args in
-    let e = f .before .before .before .fork-error in
+    let e = f .before .before .before .fork-ready in
     let v = f .before .before .is-number in
-    enough (state f) (a .number) (a .child) (a .alike) (e .result) (v .result) (e .ensures) (v .ensures) (f .before .if1 .left) (f .if2 .left) (omega (arith, counted (c .before), c .before .before .free-count .ensures, c .if3 .left))
+    (enough (state f) (a .number) (a .child) (a .alike) (e .result) (v .result) (e .ensures .0) (v .ensures) (f .before .if1 .left) (f .if2 .left) (omega (arith, counted (c .before), free-is (c .before .before), c .if3 .left)), λ z. e .ensures .1 (f .if2 .left))
 
 pub fork-number-spec : {M : Type 1} → statement M
 fork-number-spec =
     tie.close
     (tie.spec
-    fork-error-requires
+    fork-ready-requires
     is-number-requires
     returns
     returns-2
     proc-at-requires
-    free-count-requires
+    free-frames-requires
     own-pages-requires
     returns-3
     returns-4)

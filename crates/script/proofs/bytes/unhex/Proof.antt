@@ -56,9 +56,11 @@ returns-3 : tie.Need-returns-3 Inv-loop μ-loop
 returns-3 c =
     let a = c .before .before .before .before .before .before .before .before .before .before .before .args in
     let at = c .before .before .before .before .before .before .loop in
-    let high = c .before .before .before .digit in
-    (no-bytes (now (a .dst)) (now (a .word))
-    (at .inv .2 ∙ ap (behind (take (at .i) (at .dst))) (pairs-high (now (a .word)) (at .i) (high .result) (omega arith) (high .ensures .1) (c .if3 .taken))), at .inv .3)
+    let high = c .before .before .before .digit in (
+      no-bytes (now (a .dst)) (now (a .word))
+          (at .inv .2 ∙ ap (behind (take (at .i) (at .dst))) (pairs-high (now (a .word)) (at .i) (high .result) (omega arith) (high .ensures .1) (c .if3 .taken))),
+      at .inv .3,
+    )
 
 same-length-2 : tie.Need-same-length-2 Inv-loop μ-loop
 same-length-2 c = omega arith
@@ -67,9 +69,11 @@ returns-4 : tie.Need-returns-4 Inv-loop μ-loop
 returns-4 c =
     let a = c .before .before .before .before .before .before .before .before .before .before .before .before .args in
     let at = c .before .before .before .before .before .before .before .loop in
-    let low = c .before .before .digit2 in
-    (no-bytes (now (a .dst)) (now (a .word))
-    (at .inv .2 ∙ ap (behind (take (at .i) (at .dst))) (pairs-low (now (a .word)) (at .i) (low .result) (omega arith) (low .ensures .1) (c .if4 .taken))), at .inv .3)
+    let low = c .before .before .digit2 in (
+      no-bytes (now (a .dst)) (now (a .word))
+          (at .inv .2 ∙ ap (behind (take (at .i) (at .dst))) (pairs-low (now (a .word)) (at .i) (low .result) (omega arith) (low .ensures .1) (c .if4 .taken))),
+      at .inv .3,
+    )
 
 mul-dst : tie.Need-mul-dst Inv-loop μ-loop
 mul-dst c = omega arith
