@@ -10,8 +10,9 @@
  *   - a pointer is not null and is aligned, also with length 0, and what it points to is there, as long as the length says;
  *   - what is not const overlaps nothing else that the call is given, and nothing else touches it until the call returns;
  *   - a bool is 0 or 1.
- * The library keeps nothing between calls, allocates nothing, and needs memcpy, memmove and memset. Its calls were measured to use up to 56
- * KiB of stack (replace; most use 20 to 30).
+ * The library keeps nothing between calls, allocates nothing, and needs memcpy, memmove and memset. It follows the System V calling
+ * convention of x86-64, with its red zone and SSE registers. Of stack, replace was measured to use 62 KiB, start 43, fork 36 and the other
+ * calls 22 to 30.
  *
  * Numbers. A page is 4,096 bytes. UTZERO is 65,536; user addresses end at 2^47, where the stack of 16,384 bytes ends too; limit is
  * 140,737,488,334,848, one guard page below the stack.
@@ -32,8 +33,9 @@ extern "C" {
  * Frames: 4,096 bytes a frame, 1 to 1,024 frames, any contents.
  * Book: a word for each frame. 0 is a free frame; otherwise page address + 16 * owner + permission, the owner a process's number and
  * the permission as below. All zero at first.
- * Records: processes 1 to 16. A record that is all zero is no process. All zero at first.
- * Callers may read all three between calls; whoever writes them may tear the book (2).
+ * Records: of processes 1 to 16. A process lives unless its record is all zero. All zero at first.
+ * Callers may read all three between calls. Every call checks book and records first and refuses those that don't agree (2), so a stray
+ * write to them is found, not followed.
  */
 enum {
     HOLTHRIMI_PAGE = 4096,
@@ -98,7 +100,7 @@ struct holthrimi_answer {
 /* The numbers of refusals. 1 to 5 come first in every call, in this order; then each call's own, in the order named with it. */
 enum {
     HOLTHRIMI_SIZES = 1,     /* frame bytes aren't 4,096 * words, words outside 1 to 1,024, or argument lengths don't sum to their bytes */
-    HOLTHRIMI_TORN = 2,      /* the book is not sound */
+    HOLTHRIMI_TORN = 2,      /* the book is not sound: its words and the records don't agree */
     HOLTHRIMI_NUMBER = 3,    /* a process's number outside 1 to 16 */
     HOLTHRIMI_DEAD = 4,      /* the process isn't living */
     HOLTHRIMI_TAKEN = 5,     /* the new process's number lives */
@@ -139,7 +141,8 @@ struct holthrimi_answer holthrimi_replace(uint8_t *frames, size_t frame_bytes, u
                                           const uint8_t *name, size_t name_bytes, uint64_t argv);
 
 /*
- * Pushes arguments onto a process's stack: their strings end at `top`, their pointers and a null lie below, and regs has pc as given.
+ * Pushes arguments onto a process's stack: their strings end at `top`, and below them lie pointers to them and a null, from a multiple
+ * of 8 on, which is regs.argv; regs.sp is that rounded down to 16, and regs.pc as given.
  * Refused, after 1 to 4: 36, 32, 33, and 35, which ends the process, with no byte written.
  */
 struct holthrimi_answer holthrimi_push(uint8_t *frames, size_t frame_bytes, uint64_t *book, size_t words,
@@ -186,7 +189,7 @@ struct holthrimi_answer holthrimi_copy_to_user(uint8_t *frames, size_t frame_byt
 
 /*
  * Copies a string of a process at `src` to dst up to a NUL, which isn't stored; the rest of dst stays. Value is its length, or `count`
- * where there is no NUL within that many bytes. Pages are checked one by one, as they are reached.
+ * where there is no NUL within that many bytes. Pages are checked one by one, as they are reached; with count 0, none is.
  * Refused, after 1 to 4: 35 at a bad page; the bytes before it stay copied, and the process lives.
  */
 struct holthrimi_answer holthrimi_try_copy_str_from_user(const uint8_t *frames, size_t frame_bytes, const uint64_t *book,
@@ -210,8 +213,8 @@ uint64_t holthrimi_parse(const uint8_t *image, size_t image_bytes);
 
 /*
  * What a start needs of an image: number is 30, 31 or 0; with 30, elf is the image's own number, or 0 if it is the layout's. Then the
- * entry point; the record's segments, `count` of the image and the stack; the bss; and the pages that a start takes, with the stack.
- * Zeros if it is refused.
+ * entry point; the record's segments, `count` of the image, then the stack; the bss; and the pages that a start takes, with the
+ * stack. All but number and elf are zeros if it is refused.
  */
 struct holthrimi_planned {
     uint64_t number;
@@ -249,7 +252,7 @@ uint64_t holthrimi_args_error(const uint8_t *bytes, size_t count, const uint64_t
 
 /*
  * Copies a name: up to 27 bytes as they are, the rest of the 28 zeroed; a longer one is cut at the largest place up to 24 where no byte
- * 128 to 191 starts, and "..." follows.
+ * 128 to 191 starts, and "..." and zeros follow.
  */
 void holthrimi_kstrcpy(uint8_t dst[HOLTHRIMI_NAME], const uint8_t *src, size_t count);
 

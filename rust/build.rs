@@ -6,6 +6,9 @@ use std::path::PathBuf;
 fn main() {
     let beside = PathBuf::from(env::var("CARGO_MANIFEST_DIR").unwrap()).join("../target/staticlib");
     let dir = env::var("HOLTHRIMI_LIB").map(PathBuf::from).unwrap_or(beside);
+    if !dir.join("libholthrimi.a").is_file() {
+        println!("cargo:warning=no libholthrimi.a in {}: `rt staticlib holthrimi` writes it to target/staticlib", dir.display());
+    }
     println!("cargo:rustc-link-search=native={}", dir.display());
     println!("cargo:rustc-link-lib=static=holthrimi");
     println!("cargo:rerun-if-env-changed=HOLTHRIMI_LIB");

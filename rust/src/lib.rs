@@ -2,8 +2,8 @@
 //! each does, in which order it refuses, and what it changes).
 //!
 //! [`Lent`] is what every call is lent: frames, a book with a word for each, and the records of processes 1 to 16. The library keeps
-//! nothing between calls and allocates nothing. A call that is refused gives [`Refusal`]: either nothing changed, or the process has
-//! ended.
+//! nothing between calls and allocates nothing; the header's head says what it needs of the machine, its stack among it. A call that is
+//! refused gives [`Refusal`]: either nothing changed, or the process has ended.
 
 #![cfg_attr(not(test), no_std)]
 
@@ -24,24 +24,38 @@ pub const USTKSIZE: u64 = 16384;
 /// The highest address that an image or a bss may end at: one guard page lies between it and the stack.
 pub const LIMIT: u64 = USTKTOP - USTKSIZE - 4096;
 
-/// Permissions of segments and pages.
+/// The permissions of segments and pages: text may be read and executed,
 pub const TEXT: u64 = 1;
+/// rodata read,
 pub const RODATA: u64 = 2;
+/// and data read and written.
 pub const DATA: u64 = 3;
 
-/// The numbers of refusals; an image's own are 11 to 27.
+/// The numbers of refusals; an image's own are 11 to 27 (`holthrimi_parse` in `include/holthrimi.h`).
 pub mod number {
+    /// Frame bytes aren't 4,096 for each word, words outside 1 to 1,024, or argument lengths don't sum to their bytes.
     pub const SIZES: u64 = 1;
+    /// The book is not sound: its words and the records don't agree.
     pub const TORN: u64 = 2;
+    /// A process's number outside 1 to 16.
     pub const NUMBER: u64 = 3;
+    /// The process isn't living.
     pub const DEAD: u64 = 4;
+    /// The new process's number lives.
     pub const TAKEN: u64 = 5;
+    /// The image's layout, or any of 11 to 27.
     pub const EBADEXEC: u64 = 30;
+    /// Over 15 segments recorded.
     pub const TOO_MANY: u64 = 31;
+    /// A NUL in an argument; a break without bss.
     pub const EBADARG: u64 = 32;
+    /// Arguments over the limit; a break that can't be; too few frames.
     pub const ENOVMEM: u64 = 33;
+    /// A break above [`LIMIT`](super::LIMIT).
     pub const ESOVERLAP: u64 = 34;
+    /// A bad address: a range, or a push below address 0.
     pub const EFAULT: u64 = 35;
+    /// A top of stack that isn't a multiple of 16.
     pub const TOP: u64 = 36;
 }
 
@@ -132,21 +146,22 @@ pub struct Lent<'a> {
     pub procs: &'a mut Procs,
 }
 
-/// The first arguments of every call, taken apart.
+/// The first arguments of a call, taken apart.
 macro_rules! lent {
     ($s:expr) => {
         ($s.frames.as_mut_ptr(), $s.frames.len(), $s.book.as_mut_ptr(), $s.book.len(), &mut *$s.procs)
     };
 }
 
+/// The same of a call that changes none of them.
 macro_rules! looked {
     ($s:expr) => {
         ($s.frames.as_ptr(), $s.frames.len(), $s.book.as_ptr(), $s.book.len(), &*$s.procs)
     };
 }
 
-// Every pointer handed on is a slice's or a reference's, with the slice's length: not null, aligned, and alone where it is `&mut`. The
-// library's contracts ask nothing else.
+// SAFETY of all calls into the library, here and below: every pointer handed on is a slice's or a reference's, with the slice's
+// length: not null, aligned, and alone where it is `&mut`. The library's contracts ask nothing else.
 impl Lent<'_> {
     /// Starts process `number`, which must not live, from an ELF image. Its arguments are `bytes` cut by `lengths`.
     /// Refused with 1, 2, 3, 5, 32, 33 (arguments), 30, 31 or 33 (frames), in this order.
@@ -184,7 +199,8 @@ impl Lent<'_> {
         .map(|t| t.regs)
     }
 
-    /// Pushes arguments onto a process's stack, their strings up to `top`. Refused with 1 to 4, 36, 32, 33; ended with 35.
+    /// Pushes arguments onto a process's stack: their strings end at `top`, their pointers and a null lie below. Refused with 1 to 4,
+    /// 36, 32, 33; ended with 35.
     pub fn push(&mut self, number: u64, pc: u64, top: u64, bytes: &[u8], lengths: &[u64]) -> Result<UserRegs> {
         let (f, fl, b, bl, p) = lent!(self);
         let (a, l) = (bytes, lengths);
@@ -247,7 +263,7 @@ impl Lent<'_> {
     }
 }
 
-/// What a start needs of an image: its entry point; its record's segments, `count` of the image and the stack; its bss; and the pages
+/// What a start needs of an image: its entry point; its record's segments, `count` of the image, then the stack; its bss; and the pages
 /// that it takes with the stack.
 #[derive(Clone, Copy, Debug, PartialEq, Eq)]
 pub struct Plan {
@@ -258,7 +274,7 @@ pub struct Plan {
     pub pages: u64,
 }
 
-/// The plan of an image, or 30 or 31.
+/// The plan of an image; refused with 30 or 31.
 pub fn plan(image: &[u8]) -> Result<Plan> {
     let p = unsafe { sys::holthrimi_plan(image.as_ptr(), image.len()) };
     if p.number != 0 {
@@ -267,7 +283,7 @@ pub fn plan(image: &[u8]) -> Result<Plan> {
     Ok(Plan { entry: p.entry, segments: p.segments, count: p.count, bss: p.bss, pages: p.pages })
 }
 
-/// Whether the ELF reader takes an image, or one of 11 to 27.
+/// The ELF reader's check of an image; refused with one of 11 to 27.
 pub fn parse(image: &[u8]) -> Result<()> {
     match unsafe { sys::holthrimi_parse(image.as_ptr(), image.len()) } {
         0 => Ok(()),
@@ -275,7 +291,8 @@ pub fn parse(image: &[u8]) -> Result<()> {
     }
 }
 
-/// The break's rule by itself: its value, and the bss afterwards; or 32, 33 or 34.
+/// The break's rule by itself, over an optional bss with any numbers in it and a count of free frames: its value, and the bss
+/// afterwards; refused with 32, 33 or 34.
 pub fn ibrk(bss: Option<VirtRange>, addr: u64, free: u64) -> Result<(u64, VirtRange)> {
     let r = bss.unwrap_or_default();
     let b = unsafe { sys::holthrimi_ibrk(bss.is_some(), r.start, r.end, addr, free) };
@@ -290,7 +307,7 @@ pub fn stack_size(strings: u64, nargs: u64) -> u64 {
     unsafe { sys::holthrimi_stack_size(strings, nargs) }
 }
 
-/// Whether arguments can be pushed, or 1, 32 or 33.
+/// Whether arguments can be pushed; refused with 1, 32 or 33.
 pub fn check_args(bytes: &[u8], lengths: &[u64]) -> Result<()> {
     match unsafe { sys::holthrimi_args_error(bytes.as_ptr(), bytes.len(), lengths.as_ptr(), lengths.len()) } {
         0 => Ok(()),

@@ -2,9 +2,10 @@
 """Runs the same scripts through two commands and reports the first difference.
 
     compare.py random SEED COUNT A B [--small]   COUNT random calls, in histories of 40
-    compare.py directed A B [FILE ..]            the scripts of directed/, or the files named
+    compare.py directed A B [FILE ..]            the directed scripts of tests/replay, or the files named
     compare.py images SEED COUNT A B             the listing: every one-byte change and every prefix of the
-                                                 184-byte image, images.txt, and COUNT random images
+                                                 184-byte image, the images of tests/replay/images.txt, and
+                                                 COUNT random images
     compare.py write SEED COUNT [--small]        the random script on standard output
 
 A and B are commands, each in one word, that read a script on standard input and
@@ -22,9 +23,12 @@ from collections import Counter
 
 HERE = os.path.dirname(os.path.abspath(__file__))
 ROOT = os.path.dirname(os.path.dirname(HERE))
+REPLAY = os.path.join(ROOT, 'tests', 'replay')
 sys.path.insert(0, HERE)
-from histories import EXAMPLE, History, any_image, random_image, set_field  # noqa: E402
-from model import bytes_of  # noqa: E402
+from elf import change  # noqa: E402
+from histories import History  # noqa: E402
+from random_images import EXAMPLE, any_image, random_image  # noqa: E402
+from script import bytes_of, shown  # noqa: E402
 
 CALLS_A_HISTORY = 40
 HISTORIES_A_RUN = 50
@@ -168,10 +172,15 @@ def compare_random(seed, count, a, b, small, explain=True):
     return True
 
 
+def directed_scripts():
+    """The scripts that directed.py writes: all of tests/replay but the recorded random histories."""
+    names = sorted(n for n in os.listdir(REPLAY) if n.endswith('.txt') and not n.startswith('random-'))
+    return [os.path.join(REPLAY, n) for n in names]
+
+
 def compare_directed(a, b, files, explain=True):
     begin, total = time.time(), Count()
-    folder = os.path.join(HERE, 'directed')
-    files = files or [os.path.join(folder, f) for f in sorted(os.listdir(folder)) if f.endswith('.txt')]
+    files = files or directed_scripts()
     fine = True
     for file in files:
         with open(file, 'rb') as f:
@@ -189,12 +198,13 @@ def compare_directed(a, b, files, explain=True):
 
 
 def images_to_list(seed, count):
-    """Every one-byte change and every prefix of the example, images.txt, random images."""
+    """Every prefix and every one-byte change of the example, the images of the directed script, random images."""
     yield from (EXAMPLE[:n] for n in range(len(EXAMPLE) + 1))
-    yield from (set_field(EXAMPLE, at, 1, v) for at in range(len(EXAMPLE)) for v in range(256) if v != EXAMPLE[at])
+    yield from (change(EXAMPLE, at, 1, v) for at in range(len(EXAMPLE)) for v in range(256) if v != EXAMPLE[at])
     yield from (EXAMPLE + bytes(n - len(EXAMPLE)) for n in (32768, 32769))
-    with open(os.path.join(HERE, 'images.txt')) as f:
-        yield from (bytes_of(line.strip().encode()) for line in f if not line.startswith('#'))
+    with open(os.path.join(REPLAY, 'images.txt'), 'rb') as f:
+        lines = (line.split() for line in f)
+        yield from (bytes_of(words[3]) for words in lines if words[:1] == [b'start'])
     r = random.Random('images/%s' % seed)
     for _ in range(count):
         yield r.choice([any_image, random_image])(r, 'big' if r.random() < 0.1 else 'plain')
@@ -202,7 +212,7 @@ def images_to_list(seed, count):
 
 def listings(command, images):
     if command.endswith(' lists'):
-        out, failed = run(command, b''.join((i.hex() or '-').encode() + b'\n' for i in images))
+        out, failed = run(command, b''.join(shown(i).encode() + b'\n' for i in images))
         got = out.split(b'\n')[:-1]
         return got + [failed.encode()] * (len(images) - len(got))
     both = (run(command, i) for i in images)
@@ -217,7 +227,7 @@ def compare_images(seed, count, a, b):
         for image, x, y in zip(part, listings(a, part), listings(b, part)):
             n += 1
             if x != y:
-                print('image %d differs:\n  %s\n  A %s\n  B %s' % (n, image.hex() or '-', x.decode(), y.decode()))
+                print('image %d differs:\n  %s\n  A %s\n  B %s' % (n, shown(image), x.decode(), y.decode()))
                 return False
             kinds[x.decode().split(';')[0] if x.startswith(b'refused') else 'listed'] += 1
     print('seed %s: no difference in the listings of %d images, %.0f s' % (seed, n, time.time() - begin))

@@ -1,148 +1,23 @@
-"""Images and random histories of calls, from a seed.
+"""Random histories of calls, from a generator of random numbers.
 
-A history is a list of script lines. The model runs along while it is made, only
-to know which processes live and where their segments lie, so that addresses are
-apt; no answer of the model goes into a history.
+A history is a list of script lines. The model runs along while it is made, only to know which processes live and where their
+segments lie, so that addresses are apt; no answer of the model goes into a history.
 """
 import struct
 
-from model import (ARG_LIMIT, DATA, LIMIT, MAX, PAGE, RODATA, STACK, TEXT, USTKTOP, UTZERO,
-                   Script, down, elem, shown, stack_size, up)
-
-FLAGS = {TEXT: 5, RODATA: 4, DATA: 6}
-
-
-# Images
-
-def header(entry, count, table=64):
-    """A valid file header, 64 bytes."""
-    return b'\x7fELF\x02\x01\x01' + bytes(9) + struct.pack(
-        '<HHIQQQIHHHHHH', 2, 183, 1, entry % 2**64, table, 0, 0, 64, 56, count, 0, 0, 0)
-
-
-def program(flags, offset, vaddr, filesz, memsz, kind=1):
-    """A program header, 56 bytes."""
-    words = (v % 2**64 for v in (offset, vaddr, vaddr, filesz, memsz, PAGE))
-    return struct.pack('<II6Q', kind, flags, *words)
-
-
-# Document 01's 184-byte image.
-EXAMPLE = (header(65712, 2) + program(5, 0, 65536, 180, 180) + program(6, 180, 69812, 4, 8000)
-           + b'\x1f\x20\x03\xd5' + b'data')
-assert len(EXAMPLE) == 184
-
-
-def set_field(image, at, size, value):
-    b = bytearray(image)
-    b[at:at + size] = (value % 2**(8 * size)).to_bytes(size, 'little')
-    return bytes(b[:max(len(image), at + size)])
-
-
-def get_field(image, at, size):
-    return int.from_bytes(image[at:at + size], 'little')
-
-
-def random_image(r, size='plain'):
-    """An ELF image of 1 to 16 headers, mostly one that loads; `small` ones have up to 3, `big` ones more bytes."""
-    count = r.choice([1, 1, 2, 2, 2, 3, 3, 4, 5, 6, 8, 12, 15, 16])
-    if size == 'small':
-        count = r.choice([1, 1, 1, 2, 2, 3])
-    dense = count > 8 and r.random() < 0.5            # every header a segment of a page
-    body = bytes(r.randrange(256) for _ in range(r.randint(4, 12 if size == 'small' else 48)))
-    if size == 'big':
-        body += r.randbytes(r.randrange(9000))
-    table = 64 if r.random() < 0.8 else 64 + len(body)
-    total = 64 + 56 * count + len(body)
-    page = UTZERO // PAGE + r.choice([0, 0, 0, 1, 5])
-    data = count - 1 if r.random() < 0.7 else 0       # which header is the data, if any
-    table_bytes, texts = b'', []
-    for i in range(count):
-        odd = r.random()
-        if count > 1 and not dense and odd < 0.08:
-            fields = [r.getrandbits(64) for _ in range(4)]
-            table_bytes += program(r.getrandbits(32), *fields, kind=r.choice([0, 2, 6, 7]))
-            continue
-        if count > 1 and not dense and odd < 0.16:
-            fields = [r.getrandbits(64) for _ in range(3)]
-            table_bytes += program(r.getrandbits(32), *fields, 0)
-            continue
-        perm = DATA if i == data and i > 0 else r.choice([TEXT, TEXT, RODATA]) if texts else TEXT
-        offset = r.choice([0, r.randint(0, total), total - total % 4, total])
-        filesz = r.choice([0, total - offset, total - offset, r.randint(0, total - offset)])
-        if not texts and perm == TEXT:
-            offset, filesz = 0, r.randint(min(8, total), total)
-        vaddr = page * PAGE + offset % PAGE
-        fill = up(vaddr + filesz) - vaddr - filesz    # up to the end of its page
-        more = r.choice([0, 0, 1, fill, fill, fill + 1, r.randrange(3 * PAGE)])
-        memsz = max(filesz + (0 if dense else more), 1)
-        if i == count - 1 and r.random() < 0.04:      # at the very top
-            vaddr = LIMIT - PAGE + offset % PAGE
-            memsz = LIMIT - vaddr + r.choice([0, 0, 1])
-            filesz = min(filesz, memsz)
-        if r.random() < 0.02:
-            memsz += r.choice([PAGE * 1024, 2**40, 2**63])
-        flags = FLAGS[perm] + 8 * r.choice([0, 0, 0, 1, r.getrandbits(29)])
-        table_bytes += program(flags, offset, vaddr, filesz, memsz)
-        if perm == TEXT:
-            texts.append((vaddr, filesz))
-        page = up(vaddr + memsz) // PAGE + r.choice([0, 0, 0, 1])
-    places = [a for v, n in texts for a in (up4(v), (v + n - 1) // 4 * 4) if v <= a < v + n]
-    entry = r.choice(places) if places else UTZERO
-    head = header(entry, count, table)
-    return head + table_bytes + body if table == 64 else head + body + table_bytes
-
-
-def up4(a):
-    return (a + 3) // 4 * 4
-
-
-# Places and sizes of fields of the file header and of a program header.
-HEADER_FIELDS = [(4, 1), (5, 1), (6, 1), (16, 2), (18, 2), (20, 4), (24, 8), (32, 8), (54, 2), (56, 2)]
-PROGRAM_FIELDS = [(0, 4), (4, 4), (8, 8), (16, 8), (32, 8), (32, 8), (40, 8), (40, 8), (48, 8)]
-
-
-def damaged(r, image):
-    """The image with something wrong in it, or nothing."""
-    for _ in range(r.choice([1, 1, 1, 2])):
-        n = len(image)
-        count = min(get_field(image, 56, 2), 16) if n >= 64 else 0
-        way = r.random()
-        if n == 0 or way < 0.1:
-            image = image[:r.choice([0, 63, 64, r.randint(0, n), n - 1])]
-        elif way < 0.35:
-            image = set_field(image, r.randrange(n), 1, r.getrandbits(8))
-        elif way < 0.5 and n >= 64:
-            at, size = r.choice(HEADER_FIELDS)
-            image = set_field(image, at, size, near(r, image, get_field(image, at, size)))
-        elif count:
-            at, size = r.choice(PROGRAM_FIELDS)
-            at += get_field(image, 32, 8) + 56 * r.randrange(count)
-            if at + size <= n:
-                image = set_field(image, at, size, near(r, image, get_field(image, at, size)))
-    return image
-
-
-def near(r, image, old):
-    """A value for a field: near the old one or at a boundary."""
-    return r.choice([old + 1, old - 1, old + 4, old + PAGE, old - PAGE, old ^ 1 << r.randrange(64), 0, 1, len(image),
-                     len(image) + 1, UTZERO, UTZERO - 1, LIMIT, LIMIT + 1, 2**64 - PAGE, 2**64 - PAGE + 1, MAX,
-                     r.getrandbits(3), r.getrandbits(64)])
-
-
-def any_image(r, size='plain'):
-    way = r.random()
-    if way < 0.3:
-        return EXAMPLE
-    if way < 0.65:
-        return random_image(r, size)
-    return damaged(r, r.choice([EXAMPLE, random_image(r, size)]))
-
-
-# Histories
+from document01.layout import stack_size
+from document01.machine import ARG_LIMIT, DATA, LIMIT, MAX, PAGE, STACK, USTKTOP, UTZERO, down, up
+from document01.names import elem
+from random_images import EXAMPLE, any_image, random_image
+from script import Script, shown
 
 CONSTANTS = [0, 1, 8, 16, PAGE - 1, PAGE, UTZERO - 1, UTZERO, LIMIT - PAGE, LIMIT - 1, LIMIT, LIMIT + 1, STACK[0] - 1,
              STACK[0], USTKTOP - 8, USTKTOP - 1, USTKTOP, USTKTOP + 1, 2**63, MAX - PAGE, MAX - PAGE + 1,
              MAX - PAGE + 2, MAX - 7, MAX]
+
+
+def full_parts(record):
+    return [p for p in record.parts() if p[0] < p[1]]
 
 
 class History:
@@ -192,6 +67,9 @@ class History:
     def alive(self):
         return [n for n in range(1, 17) if self.w.records[n]]
 
+    def record(self, n):
+        return self.w.records[n] if 1 <= n <= 16 else None
+
     def number(self):
         r, alive = self.r, self.alive()
         if alive and r.random() < 0.97:
@@ -207,13 +85,13 @@ class History:
     def address(self, n):
         """An address that means something to process n, most of the time."""
         r = self.r
-        record = self.w.records[n] if 1 <= n <= 16 else None
+        record = self.record(n)
         way = r.random()
         if record and way < 0.45:
             edges = [e for s in record.segments for e in s[:2]] + [record.bss[0], up(record.bss[0]), record.bss[1]]
             a = r.choice(edges) + r.choice([0, 0, 0, 1, -1, 7, -7, 8, -8, 16, -16, -17, -24, -32, 100, -100])
         elif record and way < 0.85:
-            start, end, _ = r.choice([p for p in record.parts() if p[0] < p[1]])
+            start, end, _ = r.choice(full_parts(record))
             page = r.randrange(start, end, PAGE)
             a = page + r.choice([0, 1, 8, r.randrange(PAGE), r.randrange(PAGE), PAGE - 1, PAGE - 8])
         elif way < 0.96:
@@ -293,7 +171,7 @@ class History:
 
     def replace(self):
         r, n = self.r, self.number()
-        record = self.w.records[n] if 1 <= n <= 16 else None
+        record = self.record(n)
         argv = self.address(n)
         if record and r.random() < 0.75:
             argv = self.write_argv(n)
@@ -305,7 +183,7 @@ class History:
         """Strings and pointers written to process n's memory; where the pointers begin."""
         r = self.r
         record = self.w.records[n]
-        start, end, _ = r.choice([p for p in record.parts() if p[2] == DATA and p[0] < p[1]])
+        start, end, _ = r.choice([p for p in full_parts(record) if p[2] == DATA])
         args = self.args()
         at = r.choice([start, start + 3, end - 200, end - 40, r.randrange(start, end)])
         pointers = []
@@ -337,7 +215,7 @@ class History:
 
     def brk(self):
         r, n = self.r, self.number()
-        record = self.w.records[n] if 1 <= n <= 16 else None
+        record = self.record(n)
         a = self.address(n)
         if record and r.random() < 0.8:
             start, end = record.bss
@@ -350,7 +228,7 @@ class History:
     def fork(self):
         r, n = self.r, self.number()
         words = [n, self.new_number()]
-        record = self.w.records[n] if 1 <= n <= 16 else None
+        record = self.record(n)
         if r.random() < 0.25:
             lent = [list(s) for s in record.segments] if record else [list(STACK)]
             odd = r.random()
@@ -375,19 +253,19 @@ class History:
         n = self.number()
         a = self.address(n)
         length = self.length(a, 65536)
-        record = self.w.records[n] if 1 <= n <= 16 else None
+        record = self.record(n)
         if record and self.r.random() < 0.7:
-            start, end, _ = self.r.choice([p for p in record.parts() if p[0] < p[1]])
+            start, end, _ = self.r.choice(full_parts(record))
             length = min(length, end - start)
             a = self.r.choice([start, end - length, self.r.randint(start, end - length)])
         self.call('from', n, a, length)
 
     def copy_to(self):
         r, n = self.r, self.number()
-        record = self.w.records[n] if 1 <= n <= 16 else None
+        record = self.record(n)
         a, b = self.address(n), self.data()
         if record and r.random() < 0.85:
-            start, end, _ = r.choice([p for p in record.parts() if p[2] == DATA and p[0] < p[1]])
+            start, end, _ = r.choice([p for p in full_parts(record) if p[2] == DATA])
             b = b[:end - start]
             a = r.choice([start, end - len(b), r.randint(start, end - len(b)), r.randint(start, end - len(b))])
         self.call('to', n, a, shown(b))

@@ -3,7 +3,7 @@
 
     mutate.py ORACLE [--all] [K ..]    all edits, or the K-th ones; ORACLE is the unchanged oracle
 
-ORACLE_SRC names the published files, as for tests/oracle/build. Each edit is made
+ORACLE_SRC names the published files, as for tests/oracle/published. Each edit is made
 in a copy of them outside the repository, the oracle is built from it, and compared
 with the unchanged one by the directed scripts, random histories and images: by all
 three with --all, else until one notices.
@@ -61,8 +61,10 @@ def noticed(oracle, changed, every):
 def main(argv):
     thorough = '--all' in argv
     oracle, *numbers = [a for a in argv if a != '--all']
-    default = os.path.join(compare.ROOT, '../shared/docs/src/port/src')
-    published = os.environ.get('ORACLE_SRC', default)
+    found = subprocess.run([os.path.join(compare.ROOT, 'tests/oracle/published')], capture_output=True, text=True)
+    if found.returncode != 0:
+        sys.exit('mutate: ' + (found.stdout or found.stderr).strip())
+    published = found.stdout.strip()
     every = edits()
     chosen = [int(k) for k in numbers] or range(1, len(every) + 1)
     missed = 0
@@ -90,4 +92,6 @@ def main(argv):
 
 
 if __name__ == '__main__':
-    sys.exit(0 if len(sys.argv) > 1 and main(sys.argv[1:]) else 1)
+    if len(sys.argv) < 2:
+        sys.exit(__doc__)
+    sys.exit(0 if main(sys.argv[1:]) else 1)

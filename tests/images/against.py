@@ -5,39 +5,17 @@
 
 Standard input is a file, then a pipe that is written in pieces. Inputs longer than the cases are made here.
 """
-import subprocess
+import pathlib
 import sys
-import tempfile
-import time
 
-from readelf_check import cases
+from readelf_check import read_cases
 
-
-def from_file(command, image):
-    with tempfile.TemporaryFile() as file:
-        file.write(image)
-        file.seek(0)
-        return subprocess.run(command, stdin=file, capture_output=True).stdout
-
-
-def in_pieces(command, image, size, pause):
-    """Each piece is written by itself; `pause` lets the program read it before the next one comes."""
-    process = subprocess.Popen(command, stdin=subprocess.PIPE, stdout=subprocess.PIPE, bufsize=0)
-    try:
-        for at in range(0, len(image), size):
-            process.stdin.write(image[at:at + size])
-            time.sleep(pause)
-        process.stdin.close()
-    except BrokenPipeError:
-        # A program may stop reading once the input is too long.
-        pass
-    out = process.stdout.read()
-    process.wait()
-    return out
+sys.path.insert(0, str(pathlib.Path(__file__).resolve().parents[1] / 'compare'))
+from feed import from_file, in_pieces  # noqa: E402
 
 
 def main(command):
-    found = cases()
+    found = read_cases()
     example = found[0]
     long = [(f'1-length-{n}', example[1] + bytes(n - 184), ['refused=1']) for n in (65536, 65720, 131256, 3000000)]
     bad = runs = 0

@@ -2,7 +2,7 @@
 """Compares the listings in ../../crates/listing_cases/stdout with what `readelf -hlW` says of the same images.
 
 Every executable of the linker is compared, and every other image that has a listing. Kinds, starts, ends, bss and pages
-come from readelf's LOAD lines by the numbers of the pages touched, not by rules.py. Says 'skipped' where readelf is
+come from readelf's LOAD lines by the numbers of the pages touched, not by the model. Says 'skipped' where readelf is
 missing.
 """
 import os
@@ -18,7 +18,7 @@ LOAD = re.compile(r'  LOAD +(0x\w+) (0x\w+) 0x\w+ (0x\w+) (0x\w+) ([R ][W ][E ])
 KINDS = {'R E': 'text', 'R  ': 'rodata', 'RW ': 'data'}
 
 
-def cases():
+def read_cases():
     """(name, image, listing) of each case, from the two files that the gate uses."""
     packed = (CRATE / 'data' / 'cases').read_bytes()
     lines = (CRATE / 'stdout').read_text().splitlines()
@@ -84,7 +84,7 @@ def main():
     if readelf is None:
         print('images: comparison with readelf: skipped (no readelf)')
         return 0
-    chosen = [c for c in cases() if c[0].startswith('ld-') or len(c[2]) > 1]
+    chosen = [c for c in read_cases() if c[0].startswith('ld-') or len(c[2]) > 1]
     bad = 0
     with tempfile.TemporaryDirectory() as folder:
         for name, image, expected in chosen:

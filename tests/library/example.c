@@ -122,7 +122,8 @@ int main(void) {
     const uint64_t lengths[2] = {3, 3};
     CHECK(holthrimi_args_error(bytes, 6, lengths, 2) == 0 && holthrimi_stack_size(8, 2) == 40);
     a = holthrimi_start(LENT, 1, image, IMAGE, name, 8, bytes, 6, lengths, 2);
-    CHECK(accepted(a) && a.regs.pc == 65712 && a.regs.argc == 2 && a.regs.argv == top - 32 && a.regs.sp == top - 32);
+    struct holthrimi_regs regs = a.regs;
+    CHECK(accepted(a) && regs.pc == 65712 && regs.argc == 2 && regs.argv == top - 32 && regs.sp == top - 32);
     CHECK(memcmp(procs.all[0].text, "lex", 4) == 0);
     CHECK(free_frames() == WORDS - 7 && book[WORDS - 1] == 65536 + 16 * 1 + HOLTHRIMI_TEXT);
     CHECK(holthrimi_check(LENT) == 0);
@@ -130,7 +131,7 @@ int main(void) {
     uint8_t text[8] = "........";
     a = holthrimi_try_copy_str_from_user(LENT, 1, text, 8, top - 4);
     CHECK(accepted(a) && a.value == 3 && memcmp(text, "mot.....", 8) == 0);
-    printf("started: pc %llu, sp %llu\n", (unsigned long long)65712, (unsigned long long)(top - 32));
+    printf("started: pc %llu, sp %llu\n", (unsigned long long)regs.pc, (unsigned long long)regs.sp);
 
     /* Refusals change nothing. */
     CHECK(refused(holthrimi_start(LENT, 1, image, IMAGE, name, 8, bytes, 6, lengths, 2), HOLTHRIMI_TAKEN));

@@ -6,9 +6,9 @@
 Standard input is a file, then a pipe that is written in pieces. Scripts that are too long to be kept are made here, and answered
 by ../compare/model.py. All run on a stack of 8 MiB.
 """
+import functools
 import os
 import resource
-import subprocess
 import sys
 import tempfile
 import time
@@ -16,7 +16,8 @@ import time
 HERE = os.path.dirname(os.path.abspath(__file__))
 ROOT = os.path.dirname(os.path.dirname(HERE))
 sys.path.insert(0, os.path.join(ROOT, 'tests', 'compare'))
-from model import FILE_MAX, LINE_MAX, Script  # noqa: E402
+import feed  # noqa: E402
+from script import FILE_MAX, LINE_MAX, Script  # noqa: E402
 
 STACK = 8 << 20
 
@@ -25,25 +26,8 @@ def small_stack():
     resource.setrlimit(resource.RLIMIT_STACK, (STACK, resource.getrlimit(resource.RLIMIT_STACK)[1]))
 
 
-def from_file(command, script):
-    with tempfile.TemporaryFile() as file:
-        file.write(script)
-        file.seek(0)
-        return subprocess.run(command, stdin=file, capture_output=True, cwd=ROOT, preexec_fn=small_stack).stdout
-
-
-def in_pieces(command, script, size, pause=0):
-    """Each piece is written by itself; `pause` lets the program read it before the next one comes."""
-    with tempfile.TemporaryFile() as out:
-        process = subprocess.Popen(command, stdin=subprocess.PIPE, stdout=out, bufsize=0, cwd=ROOT, preexec_fn=small_stack)
-        for at in range(0, len(script), size):
-            process.stdin.write(script[at:at + size])
-            if pause:
-                time.sleep(pause)
-        process.stdin.close()
-        process.wait()
-        out.seek(0)
-        return out.read()
+from_file = functools.partial(feed.from_file, cwd=ROOT, preexec_fn=small_stack)
+in_pieces = functools.partial(feed.in_pieces, cwd=ROOT, preexec_fn=small_stack)
 
 
 def answered(script):
@@ -76,16 +60,19 @@ def made(folder):
     empty = file('empty', b'')
     full = b"to 1 69632 '" + b'x' * (LINE_MAX - 12)
     yield 'lines', b'\n'.join([
-        b'frames 40', b"start 1 'x " + elf, full[:LINE_MAX - 60000], full, full + b'x', b'#' * 200000, b'x' * 200000, b' ' * LINE_MAX,
-        b"start 2 'x " + elf + b' -' * 453, b"start 3 'x " + elf + b' -' * 454, b"start 3 'x " + elf + b' -' * 20000,
-        b'fork 1 3' + b' 1 2 3' * 9000, b'fork 1 3' + b' 1 2 3' * 17, b'sum', b'map 1', b'map 2', b'map 3', b'map 17'])
+        b'frames 40', b"start 1 'x " + elf, full[:LINE_MAX - 60000], full, full + b'x', b'#' * 200000, b'x' * 200000,
+        b' ' * LINE_MAX, b"start 2 'x " + elf + b' -' * 453, b"start 3 'x " + elf + b' -' * 454,
+        b"start 3 'x " + elf + b' -' * 20000, b'fork 1 3' + b' 1 2 3' * 9000, b'fork 1 3' + b' 1 2 3' * 17, b'sum',
+        b'map 1', b'map 2', b'map 3', b'map 17'])
+    top, low = b'140737488355328', b'140737488338944'
     yield 'files', b'\n'.join([
-        b'frames 600', b'start 1 ' + name + b' ' + most + b' ' + empty, b'map 1', b'start 2 ' + most + b' ' + elf, b'map 2', b'sum',
-        b"start 3 'x " + over, b'start 3 ' + over + b' ' + elf, b"start 3 'x " + elf + b' ' + over, b"start 3 'x " + elf + b' ' + nul,
-        b"start 3 'x " + elf + b' ' + letters, b"start 3 'x " + elf + b' ' + letters + b' ' + nul, b"start 3 'x " + elf + b' ' + most * 1,
-        b'push 1 0 140737488355328 ' + letters, b'push 1 0 140737488355328 ' + nul, b'push 1 0 140737488355328 ' + empty,
+        b'frames 600', b'start 1 ' + name + b' ' + most + b' ' + empty, b'map 1', b'start 2 ' + most + b' ' + elf, b'map 2',
+        b'sum', b"start 3 'x " + over, b'start 3 ' + over + b' ' + elf, b"start 3 'x " + elf + b' ' + over,
+        b"start 3 'x " + elf + b' ' + nul, b"start 3 'x " + elf + b' ' + letters,
+        b"start 3 'x " + elf + b' ' + letters + b' ' + nul, b"start 3 'x " + elf + b' ' + most,
+        b'push 1 0 ' + top + b' ' + letters, b'push 1 0 ' + top + b' ' + nul, b'push 1 0 ' + top + b' ' + empty,
         b'to 1 69632 @' + folder.encode(), b'to 1 69632 ' + empty, b'to 1 69632 @', b'to 1 69632 @' + b'x' * 5000,
-        b'to 1 140737488338944 ' + elf, b'to 1 69632 ' + over, b'from 1 140737488338944 184', b'name ' + name, b'name ' + most,
+        b'to 1 ' + low + b' ' + elf, b'to 1 69632 ' + over, b'from 1 ' + low + b' 184', b'name ' + name, b'name ' + most,
         b'replace 1 ' + name + b' ' + elf + b' 140737488355304', b'to 1 69632 ' + most, b'sum'])
     yield 'tails', b'frames 1\n\n\n#\nsum\nend 1\r\nsum\0\nname \'\xff\xfe\nmap 1'
     yield 'nothing', b''
@@ -112,7 +99,8 @@ def main(command):
         scripts = list(recorded())
         for name, script, wanted in scripts + [(name, script, answered(script)) for name, script in made(folder)]:
             ways = [('a file', from_file(command, script)), ('pieces of 65536', in_pieces(command, script, 65536)),
-                    ('pieces of 4095', in_pieces(command, script, 4095)), ('no last line feed', from_file(command, script.rstrip(b'\n')))]
+                    ('pieces of 4095', in_pieces(command, script, 4095)),
+                    ('no last line feed', from_file(command, script.rstrip(b'\n')))]
             if len(script) < 4500:
                 ways.append(('pieces of 7', in_pieces(command, script, 7, 0.0002)))
             for way, out in ways:
@@ -120,15 +108,16 @@ def main(command):
                 if out != wanted:
                     a, b = out.split(b'\n'), wanted.split(b'\n')
                     at = next(i for i in range(max(len(a), len(b)) + 1) if a[i:i + 1] != b[i:i + 1])
-                    print(f'against.py: {name} from {way}: answer {at + 1} is {a[at:at + 1]!r:.200}, not {b[at:at + 1]!r:.200}', file=sys.stderr)
+                    print(f'against.py: {name} from {way}: answer {at + 1} is {a[at:at + 1]!r:.200}, not {b[at:at + 1]!r:.200}',
+                          file=sys.stderr)
                     bad += 1
     took = short(command)
     if took > 1:
         print(f'against.py: a thousand short calls took {took:.2f} s', file=sys.stderr)
         bad += 1
     if not bad:
-        print(f'replay: {os.path.relpath(command[0], ROOT)}: {runs} runs of {len(scripts)} recorded scripts and others, all as answered;'
-              f' a thousand short calls in {1000 * took:.0f} ms')
+        print(f'replay: {os.path.relpath(command[0], ROOT)}: {runs} runs of {len(scripts)} recorded scripts and others, '
+              f'all as answered; a thousand short calls in {1000 * took:.0f} ms')
     return min(bad, 1)
 
 

@@ -4,7 +4,5 @@ pub mod Saturated
 -- Bytes cut into arguments by lengths, and what args_size comes to.
 pub mod Cut
 pub mod Size
--- Strings and pointers laid into a buffer.
-pub mod Lay
 -- Where a push goes.
 pub mod Places

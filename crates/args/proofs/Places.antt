@@ -1,20 +1,20 @@
 -- Where a push goes: its room, its two ranges and its registers, by the sizes of arguments.
 use Prim.Native.Nat.{ℕ, _+_, _*_, _-_, _/_, _≤_, _<_}
 use native.Mathlib.Omega.{arith}
-use mathlib.Core.Path.{_≡_, refl, sym, ap, ap₂, _∙_}
-use mathlib.Core.Bool.{Bool, true, false}
-use mathlib.Core.List.{List, [], _∷_}
+use mathlib.Core.Path.{_≡_, sym, ap, ap₂, _∙_}
+use mathlib.Core.Bool.{true, false}
+use mathlib.Core.List.{List}
 use lib.Dec.{leb}
-use lib.ListN.{length, take, length-append}
+use lib.ListN.{length, take}
 use lib.Seq.{take-append-seam}
 use borrow.Author.Tests.{ltb-false, leb-true, leb-false, lt-ltb, le-ltb}
-use Rattle.spec.specs.Tests.{_above_, _⇒_else_, any, has, sum}
-use Rattle.spec.specs.Numbers.{ustktop, ustksize, argLimit, leBytes}
+use Rattle.spec.specs.Numbers.{ustktop, ustksize, argLimit}
 use Rattle.spec.specs.Frames.{put}
-use Rattle.spec.specs.Exec.{argsOf, strings, stackSize, argsError, stringsAt, argvAt, registers, pointers, belowZero}
+use Rattle.spec.specs.Exec.{argsOf, strings, argsError, stringsAt, argvAt, registers, belowZero}
 use Rattle.spec.proofs.Bools.{split}
+use Rattle.spec.proofs.Args.{args-means}
 use Rattle.args.specs.Sizes.{belowZeroBy, argvBy, registersBy}
-use Rattle.args.proofs.Cut.{cut-count, cut-size}
+use Rattle.args.proofs.Cut.{cut-count}
 
 -- ---- the test of a push below address 0
 
@@ -31,59 +31,37 @@ low-words top size count =
 pub low-room : (top size count : ℕ) → belowZeroBy top size count ≡ false → 8 * (count + 1) ≤ (top - size) / 8 * 8
 low-room top size count e = ltb-false ((top - size) / 8 * 8) (8 * (count + 1)) e
 
--- ---- the specification's places, of bytes cut by lengths that sum to them
+-- ---- the specification's places, of bytes cut by lengths, by the size of the strings
 
-module _ (bytes lengths : List ℕ) (fit : sum lengths ≡ length bytes) where
-  abbrev size : ℕ
-  size = length bytes + length lengths
-
+module _ (bytes lengths : List ℕ) (size : ℕ) (sized : length (strings (argsOf bytes lengths)) ≡ size) where
   pub strings-at : (top : ℕ) → stringsAt top (argsOf bytes lengths) ≡ top - size
-  strings-at top = ap (λ (n : ℕ). top - n) (cut-size bytes lengths fit)
+  strings-at top = ap (λ (n : ℕ). top - n) sized
 
   pub argv-at : (top : ℕ) → argvAt top (argsOf bytes lengths) ≡ argvBy top size (length lengths)
-  argv-at top = ap₂ (argvBy top) (cut-size bytes lengths fit) (cut-count bytes lengths)
+  argv-at top = ap₂ (argvBy top) sized (cut-count bytes lengths)
 
   pub below-zero-at : (top : ℕ) → belowZero top (argsOf bytes lengths) ≡ belowZeroBy top size (length lengths)
-  below-zero-at top = ap₂ (belowZeroBy top) (cut-size bytes lengths fit) (cut-count bytes lengths)
+  below-zero-at top = ap₂ (belowZeroBy top) sized (cut-count bytes lengths)
 
   pub registers-at : (pc top : ℕ) → registers pc top (argsOf bytes lengths) ≡ registersBy pc top size (length lengths)
-  registers-at pc top = ap₂ (registersBy pc top) (cut-size bytes lengths fit) (cut-count bytes lengths)
+  registers-at pc top = ap₂ (registersBy pc top) sized (cut-count bytes lengths)
 
 -- ---- arguments that pass
 
-chain : (a b : Bool) → _≡_ {A = ℕ} (a ⇒ 32 else b ⇒ 33 else 0) 0 → b ≡ false
-chain true b e = absurd (omega arith)
-chain false true e = absurd (omega arith)
-chain false false e = refl
-
--- take at most a quarter of the stack
-pub passed-size : (args : List (List ℕ)) → argsError args ≡ 0 → stackSize (length (strings args)) (length args) ≤ argLimit
-passed-size args e = ltb-false argLimit (stackSize (length (strings args)) (length args)) (chain (any (has 0) args) (stackSize (length (strings args)) (length args) above argLimit) e)
-
-pub length-pointers : (args : List (List ℕ)) (s : ℕ) → length (pointers s args) ≡ 8 * (length args + 1)
-length-pointers [] s = refl
-length-pointers (a ∷ args) s =
-    let e = length-append (leBytes 8 s) (pointers (s + length a + 1) args) in
-    let r = length-pointers args (s + length a + 1) in
-    omega arith
-
--- so that a buffer of that size holds the strings, and the pointers
+-- a buffer of a quarter of the stack holds the strings
 pub passed-strings : (args : List (List ℕ)) → argsError args ≡ 0 → length (strings args) ≤ argLimit
-passed-strings args e = omega (arith, passed-size args e)
+passed-strings args e = omega (arith, args-means args e .1)
 
-pub passed-pointers : (args : List (List ℕ)) (s : ℕ) → argsError args ≡ 0 → length (pointers s args) ≤ argLimit
-passed-pointers args s e = omega (arith, passed-size args e, length-pointers args s)
-
--- and that a push below a top of that height or more stays below it: pointers first, then strings up to top
+-- and a push below a top of that height or more stays below it: pointers first, then strings up to top
 pub record Pushed (top : ℕ) (args : List (List ℕ)) : Type 0 where
   pub above-zero : belowZero top args ≡ false
   pub low : top - argLimit ≤ argvAt top args
   pub apart : argvAt top args + 8 * (length args + 1) ≤ stringsAt top args
   pub high : stringsAt top args + length (strings args) ≡ top
 
-pub passed-places : (top : ℕ) (args : List (List ℕ)) → argsError args ≡ 0 → argLimit ≤ top → Pushed top args
+passed-places : (top : ℕ) (args : List (List ℕ)) → argsError args ≡ 0 → argLimit ≤ top → Pushed top args
 passed-places top args e h =
-    let room = passed-size args e in
+    let room = args-means args e .1 in
     record {
       above-zero = le-ltb (stringsAt top args / 8 * 8) (8 * (length args + 1)) (omega arith);
       low = omega arith;
@@ -96,5 +74,5 @@ pub passed-stack : (args : List (List ℕ)) → argsError args ≡ 0 → Pushed 
 passed-stack args e = let p = passed-places ustktop args e (omega arith) in (p, omega (arith, p .low))
 
 -- ---- what a buffer begins with, once bytes are put at its start
-pub put-begins : (d s : List ℕ) → take (length s) (put d 0 s) ≡ s
-put-begins d s = take-append-seam s _
+pub put-begins : (d s b : List ℕ) (n : ℕ) → b ≡ put d 0 s → n ≡ length s → take n b ≡ s
+put-begins d s b n e f = ap₂ take f e ∙ take-append-seam s _

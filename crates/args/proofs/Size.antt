@@ -13,7 +13,7 @@ use Rattle.spec.proofs.Bools.{split}
 use Rattle.args.specs.declared.ArgsSize.{ArgsSize}
 use Rattle.args.specs.Sizes.{argsSize}
 use Rattle.args.proofs.Cut.{cut-count, cut-size, cut-has}
-use Rattle.args.proofs.Places.{passed-size}
+use Rattle.spec.proofs.Args.{args-means}
 
 -- the arguments' refusal, in numbers
 abbrev errorBy : List ℕ → List ℕ → ℕ
@@ -27,11 +27,11 @@ module _ (bytes lengths : List ℕ) where
   unfolding argsSize
   size-unfit u = rw u
 
-  pub size-error : (k : ℕ) → (sum lengths is length bytes) ≡ true → argsError (argsOf bytes lengths) ≡ k → (k is 0) ≡ false → argsSize bytes lengths ≡ record { error = k; strings = 0 }
+  size-error : (k : ℕ) → (sum lengths is length bytes) ≡ true → argsError (argsOf bytes lengths) ≡ k → (k is 0) ≡ false → argsSize bytes lengths ≡ record { error = k; strings = 0 }
   unfolding argsSize
   size-error k f e n = rw (f, e, n)
 
-  pub size-fine : (sum lengths is length bytes) ≡ true → argsError (argsOf bytes lengths) ≡ 0 → argsSize bytes lengths ≡ record { error = 0; strings = length bytes + length lengths }
+  size-fine : (sum lengths is length bytes) ≡ true → argsError (argsOf bytes lengths) ≡ 0 → argsSize bytes lengths ≡ record { error = 0; strings = length bytes + length lengths }
   unfolding argsSize
   size-fine f e = rw (f, e) (ap (λ (n : ℕ). record { error = 0; strings = n }) (cut-size bytes lengths (eqb-true (sum lengths) (length bytes) f)))
 
@@ -80,6 +80,6 @@ size-passed bytes lengths r e z =
       passed = none;
       strings-size = size ∙ sym (cut-size bytes lengths fit);
       bytes-size = size;
-      limit = rw (size ∙ sym (cut-size bytes lengths fit), ← cut-count bytes lengths) (passed-size (argsOf bytes lengths) none);
+      limit = rw (size ∙ sym (cut-size bytes lengths fit), ← cut-count bytes lengths) (args-means (argsOf bytes lengths) none .1);
     })
     (λ q. absurd (let w : r .error ≡ 1 = ap (λ (x : ArgsSize). x .error) (e ∙ size-unfit bytes lengths q) in omega arith))

@@ -1,4 +1,6 @@
--- What is asked of arguments by their sizes alone, and sums that 64 bits don't hold.
+-- What is asked of arguments by their sizes alone: refusal, size, pointers and registers. The functions see arguments as bytes and
+-- lengths, where the specification has a list of strings; each definition here comes to the same as one of Exec's, and this crate's
+-- laws prove it.
 -- Assumes nothing.
 use Prim.Native.Nat.{ℕ, _+_, _*_, _-_, _/_, _^_}
 use mathlib.Core.Bool.{Bool}

@@ -13,12 +13,14 @@ use Rattle.spec.specs.Access.{Str, copyStr}
 use Rattle.spec.specs.Exec.{argsOf, stackSize, Argv, argBuffer, argvFrom, copyArgv}
 use Rattle.laws.proofs.Lists.{length-put}
 use Rattle.args.specs.Sizes.{saturated}
-use Rattle.argv.specs.declared.Pointer.{Pointer}
-use Rattle.argv.specs.declared.Pointer.the-variants.{Bad, Null, At}
-use Rattle.argv.specs.Reading.{pointerAt, stringError, Added, withString}
-use Rattle.argv.proofs.Buffered.{str-length}
-use Rattle.argv.proofs.Turned.{pointer-saturated, sum-snoc, turn-bad, turn-null, turn-stop, turn-next}
-use Rattle.argv.proofs.Adding.{added-error, added-none, error-none}
+use Rattle.pointers.specs.declared.Pointer.{Pointer}
+use Rattle.pointers.specs.declared.Pointer.the-variants.{Bad, Null, At}
+use Rattle.pointers.specs.Places.{pointerAt}
+use Rattle.pointers.proofs.Pointing.{pointer-saturated}
+use Rattle.copy_arg.specs.Strings.{stringError, Added, withString}
+use Rattle.copy_arg.proofs.Buffered.{str-length}
+use Rattle.argv.proofs.Turned.{sum-snoc, turn-bad, turn-null, turn-stop, turn-next}
+use Rattle.copy_arg.proofs.Adding.{added-error, added-none, error-none}
 
 -- a text behind the bytes so far, and a length behind the lengths
 take-put : (d s : List ℕ) (at : ℕ) → at ≤ length d → take (at + length s) (put d at s) ≡ take at d ++ s

@@ -1,2 +1,2 @@
--- What reading the arguments of replace comes to, step by step.
+-- What reading the arguments of replace comes to.
 pub mod Reading

@@ -5,3 +5,4 @@ pub mod Handing
 pub mod Recorded
 pub mod Forking
 pub mod Short
+pub mod Collecting

@@ -1,6 +1,7 @@
 -- What a word gives: bytes, but for a file's, of which nothing is known.
 -- Assumes nothing.
 use Prim.Native.Nat.{ℕ}
+use mathlib.Core.Path.{_≡_}
 use mathlib.Core.Option.{Option, none, some}
 use mathlib.Core.List.{List, []}
 use lib.ListN.{take, drop}
@@ -30,3 +31,7 @@ bytesIn BadForm word = none
 
 abbrev pub bytesOf : List ℕ → Option (List ℕ)
 bytesOf word = bytesIn (formOf word) word
+
+-- what a word gave: bytes or none. Of a file's bytes nothing is known
+pub record Gives (word : List ℕ) (o : Option (List ℕ)) : Type 0 where
+  pub known : (formOf word ≡ File → ⊥) → o ≡ bytesOf word

@@ -2,13 +2,15 @@
 // for; what is kept of them then has the same answer.
 ghost use mathlib.Core.Path.{_≡_};
 ghost use mathlib.Core.List.{List, [], _∷_, _++_};
-ghost use Prim.Native.Nat.{ℕ, _≤_};
+ghost use Prim.Native.Nat.{ℕ, _-_, _≤_};
 ghost use lib.ListN.{length, take};
 ghost use Rattle.spec.specs.Tests.{_⇒_else_};
 ghost use Rattle.spec.specs.Exec.{argsError};
 ghost use Rattle.spec.specs.Name.{elem, kstrcpy};
-ghost use Rattle.asked.specs.Given.{sizeOf};
+ghost use Rattle.script.specs.Words.{afterOf, spacesOf};
+ghost use Rattle.asked.specs.Given.{sizeOf, takenOf};
 ghost use Rattle.asked.specs.Fitting.{Fits, Keeps, held};
+ghost use Rattle.asked.specs.Several.{wordsOf, Adds, Collects, Takes, Names, numbersOf, atMost};
 use crate::words::Taken;
 use script::Number;
 
@@ -33,8 +35,9 @@ fn short_name(dst: &mut [u8], name: &[u8]) -> usize
 
 // Puts the name that a word gives, as much of it as a process keeps.
 pub fn name(space: &mut [u8], dst: &mut [u8], word: &[u8]) -> Taken
-    requires { ⌜ length (now dst) ≡ 28 ⌝ }
+    requires { ⌜ (length (now dst) ≡ 28) × (length (now word) ≤ length (now space)) ⌝ }
     ensures { λ r. ⌜ sizeOf r ≤ 28 ⌝ }
+    ensures { λ r. ⌜ Names (now (word .entry)) r (now (dst .exit)) ⌝ }
 {
     let t = crate::words::bytes(space, word);
     let Taken::Size(n) = t else {
@@ -49,6 +52,7 @@ fn add(bytes: &mut [u8], lengths: &mut [u64], a: Args, arg: &[u8]) -> Args
     requires { ⌜ Fits a (now bytes) (now lengths) ⌝ }
     ensures { λ r. ⌜ Fits r (now (bytes .exit)) (now (lengths .exit)) ⌝ }
     ensures { λ r. ⌜ ((args : List (List ℕ)) → Keeps a (now (bytes .entry)) (now (lengths .entry)) args → Keeps r (now (bytes .exit)) (now (lengths .exit)) (args ++ now (arg .entry) ∷ [])) ⌝ }
+    ensures { λ r. ⌜ r .bad ≡ a .bad ⌝ }
 {
     let count = a.count;
     let size = a.size;
@@ -77,7 +81,9 @@ fn add(bytes: &mut [u8], lengths: &mut [u64], a: Args, arg: &[u8]) -> Args
 fn add_word(space: &mut [u8], bytes: &mut [u8], lengths: &mut [u64], a: Args, word: &[u8]) -> Args
     requires { ⌜ (length (now bytes) ≡ 4096) × (length (now lengths) ≡ 512) ⌝ }
     requires { ⌜ Fits a (now bytes) (now lengths) ⌝ }
+    requires { ⌜ length (now word) ≤ length (now space) ⌝ }
     ensures { λ r. ⌜ Fits r (now (bytes .exit)) (now (lengths .exit)) ⌝ }
+    ensures { λ r. ⌜ Adds (now (word .entry)) a (now (bytes .entry)) (now (lengths .entry)) r (now (bytes .exit)) (now (lengths .exit)) ⌝ }
 {
     let t = crate::words::bytes(space, word);
     let Taken::Size(n) = t else {
@@ -95,7 +101,9 @@ fn add_word(space: &mut [u8], bytes: &mut [u8], lengths: &mut [u64], a: Args, wo
 // Adds the words of a line behind its first four.
 fn add_words(space: &mut [u8], bytes: &mut [u8], lengths: &mut [u64], line: &[u8]) -> Args
     requires { ⌜ (length (now bytes) ≡ 4096) × (length (now lengths) ≡ 512) ⌝ }
+    requires { ⌜ length (now line) ≤ length (now space) ⌝ }
     ensures { λ r. ⌜ Fits r (now (bytes .exit)) (now (lengths .exit)) ⌝ }
+    ensures { λ r. ⌜ Collects (wordsOf (spacesOf (now (line .entry)) - 3) (afterOf 4 (now (line .entry)))) r (now (bytes .exit)) (now (lengths .exit)) ⌝ }
 {
     let mut a = Args {
         count: 0,
@@ -131,6 +139,7 @@ fn given(bytes: &mut [u8], lengths: &mut [u64], a: Args) -> Args
     ensures { λ r. ⌜ Fits r (now (bytes .exit)) (now (lengths .exit)) ⌝ }
     ensures { λ r. ⌜ ((args : List (List ℕ)) → Keeps a (now (bytes .entry)) (now (lengths .entry)) args → argsError (held r (now (bytes .exit)) (now (lengths .exit))) ≡ argsError args) ⌝ }
     ensures { λ r. ⌜ ((args : List (List ℕ)) → Keeps a (now (bytes .entry)) (now (lengths .entry)) args → argsError args ≡ 0 → held r (now (bytes .exit)) (now (lengths .exit)) ≡ args) ⌝ }
+    ensures { λ r. ⌜ r .bad ≡ a .bad ⌝ }
 {
     if !a.over {
         return a;
@@ -149,7 +158,9 @@ fn given(bytes: &mut [u8], lengths: &mut [u64], a: Args) -> Args
 // Takes the words of a line behind its first four as arguments.
 pub fn take_args(space: &mut [u8], bytes: &mut [u8], lengths: &mut [u64], line: &[u8]) -> Args
     requires { ⌜ (length (now bytes) ≡ 4096) × (length (now lengths) ≡ 512) ⌝ }
+    requires { ⌜ length (now line) ≤ length (now space) ⌝ }
     ensures { λ r. ⌜ Fits r (now (bytes .exit)) (now (lengths .exit)) ⌝ }
+    ensures { λ r. ⌜ Takes (wordsOf (spacesOf (now (line .entry)) - 3) (afterOf 4 (now (line .entry)))) r (now (bytes .exit)) (now (lengths .exit)) ⌝ }
 {
     let a = add_words(space, bytes, lengths, line);
     given(bytes, lengths, a)
@@ -159,6 +170,7 @@ pub fn take_args(space: &mut [u8], bytes: &mut [u8], lengths: &mut [u64], line: 
 fn add_number(dst: &mut [u64], n: usize, x: u64) -> usize
     requires { ⌜ n ≤ length (now dst) ⌝ }
     ensures { λ r. ⌜ r ≤ length (now (dst .exit)) ⌝ }
+    ensures { λ r. ⌜ ((zs : List ℕ) → take (length (now (dst .entry))) (take r (now (dst .exit)) ++ zs) ≡ take (length (now (dst .entry))) (take n (now (dst .entry)) ++ x ∷ zs)) ⌝ }
 {
     if n == dst.len() {
         return n;
@@ -170,6 +182,7 @@ fn add_number(dst: &mut [u64], n: usize, x: u64) -> usize
 // Takes the words of a line behind its first three as numbers, as many as there is room for.
 pub fn numbers(dst: &mut [u64], line: &[u8]) -> Taken
     ensures { λ r. ⌜ sizeOf r ≤ length (now (dst .exit)) ⌝ }
+    ensures { λ r. ⌜ takenOf r (now (dst .exit)) ≡ atMost (length (now (dst .entry))) (numbersOf (spacesOf (now (line .entry)) - 2) (afterOf 3 (now (line .entry)))) ⌝ }
 {
     let mut at = script::place(line, 3);
     let mut left = script::spaces(line);

@@ -1,4 +1,3 @@
--- Loops over the book, and loops that overwrite a list from the front.
+-- Loops over the book.
 pub mod Searches
-pub mod Overwrite
 pub mod Released

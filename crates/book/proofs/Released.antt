@@ -7,7 +7,7 @@ use lib.ListN.{length, getD, set}
 use Rattle.spec.specs.Tests.{_⇒_else_}
 use Rattle.spec.specs.Frames.{release}
 use Rattle.book.specs.Lent.{store}
-use Rattle.book.proofs.Overwrite.{mix, map-turn, map-all}
+use Rattle.laws.proofs.Overwrite.{mix, map-turn, map-all}
 
 -- the words before i are those after the release of the words that pass t
 abbrev pub released : (ℕ → Bool) → List ℕ → ℕ → List ℕ

@@ -2,14 +2,16 @@
 use Prim.Native.Nat.{ℕ, suc, _+_, _-_, _/_, _%_, _≤_, _<_}
 use native.Mathlib.Omega.{arith}
 use native.Mathlib.Numerals.{add-one}
-use mathlib.Core.Path.{_≡_, ap, _∙_}
+use mathlib.Core.Path.{_≡_, refl, ap, _∙_}
 use mathlib.Core.Bool.{Bool, true, false}
-use mathlib.Core.Option.{none, some}
+use mathlib.Core.Option.{Option, none, some}
 use mathlib.Core.List.{List}
 use lib.ListN.{length, getD, drop, drop-of-length-le}
 use lib.Seq.{drop-cons}
 use borrow.Author.Tests.{eq-eqb, ne-eqb}
 use Rattle.spec.specs.Book.{highest, owns, free}
+use Rattle.spec.specs.declared.Found.the-variants.{At, Nothing}
+use Rattle.book.specs.Lent.{foundOf}
 use Rattle.spec.proofs.Bools.{split}
 use Rattle.laws.proofs.Frame.{owns-means, owns-test}
 
@@ -35,6 +37,16 @@ highest-less t i h e = let d : i ≡ suc (i - 1) = omega arith in ap (highest t)
 
 pub highest-end : (t : ℕ → Bool) (i : ℕ) → i ≡ 0 → highest t i ≡ none
 highest-end t i e = ap (highest t) e
+
+-- ---- what a search answers
+
+pub found-at : (o : Option ℕ) (k : ℕ) → At k ≡ foundOf o → o ≡ some k
+found-at none k e = absurd (let z : _≡_ {A = ℕ} 0 1 = cc in omega arith)
+found-at (some j) k e = cc
+
+pub found-none : (o : Option ℕ) → Nothing ≡ foundOf o → o ≡ none
+found-none none e = refl
+found-none (some j) e = absurd (let z : _≡_ {A = ℕ} 0 1 = cc in omega arith)
 
 -- ---- a word without its permission is owner and page
 

@@ -1,4 +1,5 @@
--- Frames and book as a call finds them, and what a search of the book answers.
+-- Frames and book as a call finds them, and what a search of the book answers. The contracts of every crate above cite `store` for
+-- the two lists that are lent.
 -- Assumes nothing.
 use Prim.Native.Nat.{ℕ}
 use mathlib.Core.Option.{Option, none, some}

@@ -1,12 +1,12 @@
 -- A break: what moves, and its answer.
-use Prim.Native.Nat.{ℕ, _*_, _-_, _/_, _≤_, _<_}
+use Prim.Native.Nat.{ℕ, _-_, _/_, _≤_}
 use native.Mathlib.Omega.{arith}
 use mathlib.Core.Path.{_≡_, refl, sym, ap, ap₂, _∙_}
-use mathlib.Core.Bool.{Bool, true, false, not, _&&_}
+use mathlib.Core.Bool.{Bool, false, _&&_, and-false}
 use mathlib.Core.Option.{some}
 use mathlib.Core.List.{List, [], _∷_, map}
 use borrow.Author.Tests.{eq-eqb, ne-eqb}
-use Rattle.spec.specs.Tests.{_is_, _isnt_, within, _⇒_else_}
+use Rattle.spec.specs.Tests.{_is_, within, _⇒_else_}
 use Rattle.spec.specs.Numbers.{pageUp, zeroPage}
 use Rattle.spec.specs.Book.{pageOf, ownerOf, segment, procAt}
 use Rattle.spec.specs.Frames.{Store, pagesOf, place, release}
@@ -14,11 +14,9 @@ use Rattle.spec.specs.Segment.{Break, ibrk}
 use Rattle.spec.specs.Machine.{weighBreak}
 use Rattle.spec.specs.World.{State, brk}
 use Rattle.spec.specs.declared.VirtRange.{VirtRange}
-use Rattle.spec.specs.declared.Answer.{Answer}
 use Rattle.spec.specs.declared.Answer.the-variants.{Value, Refused}
-use Rattle.spec.proofs.Bools.{split, within-means}
+use Rattle.spec.proofs.Bools.{within-not}
 use Rattle.spec.proofs.Chain.{isnt-holds, isnt-fails}
-use Rattle.laws.proofs.Frame.{within-not}
 
 -- ---- pages
 
@@ -27,17 +25,13 @@ none-taken : (t : ℕ → Bool) → ((w : ℕ) → t w ≡ false) → (book : Li
 none-taken t h [] = refl
 none-taken t h (w ∷ ws) = rw (h w) (ap (_∷_ w) (none-taken t h ws))
 
-and-no : (a b : Bool) → b ≡ false → (a && b) ≡ false
-and-no true b h = h
-and-no false b h = refl
-
 -- a bss that grows frees nothing
 pub grows-free : (m : Store) (n old new : ℕ) → old ≤ new → release m (λ w. ownerOf w is n && within new old (pageOf w)) ≡ m
 unfolding release
 grows-free m n old new h =
     let t : ℕ → Bool = λ w. ownerOf w is n && within new old (pageOf w) in
     ap (λ (b : List ℕ). record { frames = m .frames; book = b })
-    (none-taken t (λ w. and-no (ownerOf w is n) (within new old (pageOf w)) (within-not new old (pageOf w) (λ x y. omega arith))) (m .book))
+    (none-taken t (λ w. ap (λ (b : Bool). ownerOf w is n && b) (within-not new old (pageOf w) (λ x y. omega arith)) ∙ and-false (ownerOf w is n)) (m .book))
 
 -- a bss that shrinks places nothing
 pub shrinks-place : (m : Store) (n old new : ℕ) → new ≤ old → place m n (pagesOf zeroPage (segment old new 3 ∷ [])) ≡ m

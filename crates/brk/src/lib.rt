@@ -1,4 +1,5 @@
-// Break: the end of a process's bss moves, as `ibrk` moves it.
+// Break: the end of a process's bss moves, as `ibrk` moves it. Crate segment has the rule; here its answer is carried out: pages
+// past the new end are released, new ones are placed and zeroed.
 
 ghost use mathlib.Core.Path.{_≡_};
 ghost use mathlib.Core.Bool.{true, _&&_};

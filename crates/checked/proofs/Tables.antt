@@ -6,7 +6,10 @@ use mathlib.Core.List.{List}
 use lib.ListN.{length, take, drop, length-drop}
 use lib.Seq.{getD-take, getD-drop, length-take-le}
 use Rattle.spec.specs.Numbers.{le}
+use borrow.Author.Tests.{le-ltb}
 use Rattle.spec.specs.Elf.{phdrAt}
+use Rattle.elf.specs.Reader.{loadOf, loadIn}
+use Rattle.checked.specs.Parts.{partOf}
 
 -- a number in a part of the image
 le-part : (k n o : ℕ) (image : List ℕ) (at : ℕ) → at + k ≤ n → le k (take n (drop o image)) at ≡ le k image (o + at)
@@ -20,7 +23,7 @@ le-part (suc k) n o image at h =
 field-part : (k c n o : ℕ) (image : List ℕ) (at : ℕ) → at + c + k ≤ n → le k (take n (drop o image)) (at + c) ≡ le k image (o + at + c)
 field-part k c n o image at h = let e : o + (at + c) ≡ o + at + c = omega arith in le-part k n o image (at + c) h ∙ ap (le k image) e
 
-pub header-part : (n o : ℕ) (image : List ℕ) (at : ℕ) → at + 56 ≤ n → phdrAt (take n (drop o image)) at ≡ phdrAt image (o + at)
+header-part : (n o : ℕ) (image : List ℕ) (at : ℕ) → at + 56 ≤ n → phdrAt (take n (drop o image)) at ≡ phdrAt image (o + at)
 header-part n o image at h = λ i. record {
   type = le-part 4 n o image at (omega (arith, h)) i;
   flags = field-part 4 4 n o image at (omega (arith, h)) i;
@@ -31,9 +34,20 @@ header-part n o image at h = λ i. record {
 }
 
 -- the table has all its headers
-pub table-length : (n o : ℕ) (image : List ℕ) → o + n ≤ length image → length (take n (drop o image)) ≡ n
+table-length : (n o : ℕ) (image : List ℕ) → o + n ≤ length image → length (take n (drop o image)) ≡ n
 table-length n o image h = length-take-le n (drop o image) (omega (arith, h, length-drop o image))
 
 -- header i is in it
-pub header-within : (i count : ℕ) → i < count → 56 * i + 56 ≤ 56 * count
+header-within : (i count : ℕ) → i < count → 56 * i + 56 ≤ 56 * count
 header-within i count h = omega (arith, h)
+
+-- bytes that an image has
+pub part-in : (image : List ℕ) (o n : ℕ) → o + n ≤ length image → partOf image o n ≡ take n (drop o image)
+part-in image o n h = rw (le-ltb (length image) (o + n) h)
+
+-- header i of the image's table is the header read from the image
+pub load-in : (image : List ℕ) (o count i : ℕ) → o + 56 * count ≤ length image → i < count → loadIn (partOf image o (56 * count)) i ≡ loadOf (phdrAt image (o + 56 * i))
+load-in image o count i h k =
+    let table = take (56 * count) (drop o image) in
+    let within : 56 * i + 56 ≤ length table = omega (arith, table-length (56 * count) o image h, header-within i count k) in
+    ap (λ (t : List ℕ). loadIn t i) (part-in image o (56 * count) h) ∙ rw (le-ltb (length table) (56 * i + 56) within) (ap loadOf (header-part (56 * count) o image (56 * i) (header-within i count k)))

@@ -7,7 +7,8 @@ ghost use mathlib.Core.Path.{_≡_};
 ghost use Prim.Native.Nat.{_+_, _*_, _≤_, _<_};
 ghost use lib.ListN.{length, take, drop};
 ghost use Rattle.spec.specs.Elf.{phdrAt};
-ghost use Rattle.elf.specs.Reader.{loadOf};
+ghost use Rattle.elf.specs.Reader.{loadOf, loadIn};
+ghost use Rattle.checked.specs.Parts.{partOf};
 use elf::Load;
 use elf::Segment;
 
@@ -18,29 +19,35 @@ pub struct Elf<'a> {
     pub entry: u64,
 }
 
-// `n` bytes of an image from a place on.
+// `n` bytes of an image from a place on, or none where they leave the image.
 fn part<'a>(image: &'a [u8], from: usize, n: usize) -> &'a [u8]
-    requires { ⌜ from + n ≤ length (now image) ⌝ }
-    ensures { λ r. ⌜ now r ≡ take n (drop from (now (image .entry))) ⌝ }
+    ensures { λ r. ⌜ now r ≡ partOf (now (image .entry)) from n ⌝ }
 {
+    if from > image.len() {
+        return &image[..0];
+    }
+    if n > image.len() - from {
+        return &image[..0];
+    }
     let to = from + n;
     &image[from..to]
 }
 
-// The program headers of an image that `elf::parse` accepted as `h`.
+// The program headers of an image that `elf::parse` accepted as `h`, or none where they leave the image.
 fn table_of<'a>(image: &'a [u8], h: elf::Elf) -> &'a [u8]
-    requires { ⌜ h .phoff + 56 * h .phnum ≤ length (now image) ⌝ }
-    ensures { λ r. ⌜ now r ≡ take (56 * h .phnum) (drop (h .phoff) (now (image .entry))) ⌝ }
+    ensures { λ r. ⌜ now r ≡ partOf (now (image .entry)) (h .phoff) (56 * h .phnum) ⌝ }
 {
+    if h.phnum > image.len() / elf::PHDR_SIZE {
+        return &image[..0];
+    }
     let from = h.phoff;
     let n = elf::PHDR_SIZE * h.phnum;
     part(image, from, n)
 }
 
-// The reader of an image that `elf::parse` accepted as `h`.
+// The reader of an image that `elf::parse` accepted as `h`. A table that leaves the image is empty.
 pub fn of<'a>(image: &'a [u8], h: elf::Elf) -> Elf<'a>
-    requires { ⌜ h .phoff + 56 * h .phnum ≤ length (now image) ⌝ }
-    ensures { λ r. ⌜ (r .image ≡ image .entry) × (now (r .table) ≡ take (56 * h .phnum) (drop (h .phoff) (now (image .entry)))) × (r .entry ≡ h .entry) ⌝ }
+    ensures { λ r. ⌜ (r .image ≡ image .entry) × (now (r .table) ≡ partOf (now (image .entry)) (h .phoff) (56 * h .phnum)) × (r .entry ≡ h .entry) ⌝ }
 {
     let table = table_of(image, h);
     Elf {
@@ -58,18 +65,16 @@ impl<'a> Elf<'a> {
         self.entry
     }
 
-    // The segment that program header `i` describes, unless it is skipped: what r9's `Elf::segments` yields.
+    // The segment that program header `i` describes, unless it is skipped: what r9's `Elf::segments` yields. Past the table there is none.
     pub fn segment(self, i: usize) -> Load
-        requires { ⌜ 56 * i + 56 ≤ length (now (self .table)) ⌝ }
-        ensures { λ r. ⌜ r ≡ loadOf (phdrAt (now (self .entry .table)) (56 * i)) ⌝ }
+        ensures { λ r. ⌜ r ≡ loadIn (now (self .entry .table)) i ⌝ }
     {
-        elf::segment_at(self.table, elf::PHDR_SIZE * i)
+        elf::segment_in(self.table, i)
     }
 
-    // The file bytes of a segment.
+    // The file bytes of a segment, or none where they leave the image.
     pub fn file(self, g: Segment) -> &'a [u8]
-        requires { ⌜ g .offset + g .filesz ≤ length (now (self .image)) ⌝ }
-        ensures { λ r. ⌜ now r ≡ take (g .filesz) (drop (g .offset) (now (self .entry .image))) ⌝ }
+        ensures { λ r. ⌜ now r ≡ partOf (now (self .entry .image)) (g .offset) (g .filesz) ⌝ }
     {
         part(self.image, g.offset, g.filesz)
     }

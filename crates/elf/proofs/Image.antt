@@ -19,7 +19,7 @@ use Rattle.elf.specs.declared.Elf.{Elf as Held}
 use Rattle.elf.specs.declared.Parsed.{Parsed}
 use Rattle.elf.specs.declared.Parsed.the-variants.{Elf, Refused}
 use Rattle.spec.proofs.Bools.{split}
-use Rattle.elf.proofs.Checks.{checks, passes, failed, first, next, neither}
+use Rattle.laws.proofs.Checks.{checks, passes, failed, or-else}
 use Rattle.elf.proofs.Errors.{numbered}
 
 -- ---- the ELF header
@@ -86,8 +86,8 @@ found false e = absurd (omega arith)
 pub accepted : (image : List ℕ) → elfError image ≡ 0 → Accepted image
 unfolding elfError ehdrError
 accepted image e =
-    let parts = neither (ehdrError image) (phdrError image 0 (phdrs image) orElse (entryInText image ⇒ 0 else 27)) e in
-    let rest = neither (phdrError image 0 (phdrs image)) (entryInText image ⇒ 0 else 27) (parts .1) in
+    let parts = or-else (ehdrError image) (phdrError image 0 (phdrs image) orElse (entryInText image ⇒ 0 else 27)) e in
+    let rest = or-else (phdrError image 0 (phdrs image)) (entryInText image ⇒ 0 else 27) (parts .1) in
     let no = failed (all-tests image) (passes (all-tests image) 0 refl (parts .0) .0) in
     record {
       head = ltb-false _ _ (no 0 (omega arith));

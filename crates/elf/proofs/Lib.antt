@@ -2,6 +2,4 @@ pub mod Image
 pub mod Walk
 pub mod Errors
 pub mod Checked
-pub mod Checks
-pub mod Flags
 pub mod Ahead

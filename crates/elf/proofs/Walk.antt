@@ -1,7 +1,7 @@
 -- The walk over all headers of the table, skipped ones too, against the specification's list without them.
 -- Assumes nothing.
 use mathlib.Core.Path.{_≡_, refl, sym, ap, _∙_}
-use mathlib.Core.Bool.{Bool, true, false, not, _&&_, _||_}
+use mathlib.Core.Bool.{Bool, true, false, not, _&&_, _||_, or-assoc, or-false}
 use mathlib.Core.List.{List, [], _∷_, map}
 use Prim.Native.Nat.{ℕ, zero, suc, _+_, _-_, _*_, _<_, _≤_}
 use native.Mathlib.Nat.{not-suc-le-zero}
@@ -19,8 +19,9 @@ use Rattle.elf.specs.declared.Load.{Load}
 use Rattle.elf.specs.declared.Load.the-variants.{Skip, Segment as Taken}
 use Rattle.elf.specs.declared.Seen.{Seen}
 use Rattle.elf.specs.declared.Step.{Step}
-use Rattle.elf.proofs.Checks.{checks, passed, passes, through, stops}
-use Rattle.elf.proofs.Checked.{tests, one-header, checked, AllChecked, file-length}
+use Rattle.laws.proofs.Checks.{checks, passed, passes, through, stops}
+use Rattle.laws.proofs.Headers.{tests, one-header, header-means, file-length}
+use Rattle.elf.proofs.Checked.{AllChecked}
 
 -- of the headers that are left a walk takes the first, or skips it, and goes on 56 bytes further
 pub left-none : (image : List ℕ) (at k : ℕ) → k ≤ 0 → left image at k ≡ []
@@ -75,10 +76,6 @@ checked-some image at k l h e f = rw e (step (phdrAt image at) (left image (at +
 
 -- ---- one header of the scan
 
-or-assoc : (a b c : Bool) → (a || (b || c)) ≡ ((a || b) || c)
-or-assoc true b c = refl
-or-assoc false b c = refl
-
 no-headers : (image : List ℕ) (end : ℕ) → phdrError image end [] ≡ 0
 unfolding phdrError
 no-headers image end = refl
@@ -101,7 +98,7 @@ module _ (image : List ℕ) (a end : ℕ) (found : Bool) (p : Phdr) (ps : List P
   unfolding scanError
   goes-on l e =
       let on : phdrError image end (p ∷ ps) ≡ phdrError image (pageUp (p .vaddr + p .memsz)) ps = one-header image end p ps ∙ through (tests image end p) _ (passes (tests image end p) _ refl (sym (one-header image end p []) ∙ e) .0) in
-      rw (l, on, file-length image p (checked image end p [] e .within), or-assoc found (flagPerm p is 1 && within (p .vaddr) (p .vaddr + p .filesz) a) (any (inText a) (map (segmentOf image) ps)))
+      rw (l, on, file-length image p (header-means image end p [] e .0 .inside), ← or-assoc found (flagPerm p is 1 && within (p .vaddr) (p .vaddr + p .filesz) a) (any (inText a) (map (segmentOf image) ps)))
 
 -- one turn of the scan: a step over the header at its place
 pub turn : (image : List ℕ) (a : ℕ) (seen : Seen) (at k : ℕ) (p : Phdr) (r : Step) → 0 < k → p ≡ phdrAt image at → Steps image a seen p r
@@ -109,10 +106,6 @@ pub turn : (image : List ℕ) (a : ℕ) (seen : Seen) (at k : ℕ) (p : Phdr) (r
 turn image a seen at k p r h e s =
     let ps = left image (at + 56) (k - 1) in
     ap (scanError image a (seen .end) (seen .found)) (left-some image at k h ∙ ap (λ (q : Phdr). keep q ps) (sym e)) ∙ s ps
-
-or-false : (b : Bool) → (b || false) ≡ b
-or-false true = refl
-or-false false = refl
 
 -- its end: 27 unless the entry was found
 pub ends : (image : List ℕ) (a end : ℕ) (found : Bool) (at k : ℕ) → k ≤ 0 → scanError image a end found (left image at k) ≡ (found ⇒ 0 else 27)

@@ -1,4 +1,6 @@
--- What the reader's types stand for in the specification: a segment, a step over one header, and the answer of `parse` with the scope's number.
+-- What the reader's types stand for in the specification: a segment, a step over one header, and the answer of `parse` with the
+-- scope's number. The code walks the headers once, so that checks 21 to 27 are stated here from any header on; `parsed` is the
+-- whole, and is `elfError`'s.
 -- Assumes nothing.
 use Prim.Native.Nat.{ℕ, _+_, _-_, _*_, _%_, _^_, _≤_}
 use mathlib.Core.Path.{_≡_}
@@ -6,7 +8,7 @@ use mathlib.Core.Bool.{Bool, true, false, not, _&&_, _||_}
 use mathlib.Core.List.{List, [], _∷_, map}
 use lib.ListN.{length, take, drop}
 use Rattle.spec.specs.Tests.{_is_, _isnt_, _above_, _⇒_else_, _orElse_, any, filter}
-use Rattle.spec.specs.Elf.{Phdr, Segment as Loadable, phdrsFrom, loads, flagPerm, phdrError, segmentOf, inFile, errorNumber, entry, phoff, phnum, elfError}
+use Rattle.spec.specs.Elf.{Phdr, Segment as Loadable, phdrsFrom, loads, flagPerm, phdrAt, phdrError, segmentOf, inFile, errorNumber, entry, phoff, phnum, elfError}
 use Rattle.spec.specs.declared.ElfError.{ElfError}
 use Rattle.header.specs.declared.Ehdr.{Ehdr}
 use Rattle.header.specs.Header.{fieldsError}
@@ -43,6 +45,10 @@ segmentFrom p = record { vaddr = p .vaddr; memsz = p .memsz; offset = p .offset;
 
 abbrev pub loadOf : Phdr → Load
 loadOf p = loads p ⇒ Segment (segmentFrom p) else Skip
+
+-- what a loader reads of header i of a table: nothing where the table ends before it
+abbrev pub loadIn : List ℕ → ℕ → Load
+loadIn table i = 56 * i + 56 above length table ⇒ Skip else loadOf (phdrAt table (56 * i))
 
 -- what holds of a segment that passed, in an image of n bytes
 pub record Checked (n : ℕ) (g : Held) : Type 0 where

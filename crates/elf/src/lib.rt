@@ -6,13 +6,14 @@ ghost use mathlib.Core.Bool.{false};
 ghost use Prim.Native.Nat.{_+_, _*_, _≤_};
 ghost use lib.ListN.{length};
 ghost use Rattle.spec.specs.Elf.{phdrAt};
-ghost use Rattle.header.specs.Header.{verdictNumber, phdrOf};
-ghost use Rattle.elf.specs.Reader.{left, scanError, imageError, Steps, said, parsed, loadOf};
+ghost use Rattle.header.specs.Header.{verdictNumber};
+ghost use Rattle.phdr.specs.Phdr.{phdrOf};
+ghost use Rattle.elf.specs.Reader.{left, scanError, imageError, Steps, said, parsed, loadOf, loadIn};
 pub use field::error_number;
 use header::Ehdr;
 pub use header::PHDR_SIZE;
-use header::Phdr;
 use header::Verdict;
+use phdr::Phdr;
 use spec::ElfError;
 
 // A validated executable image: where it is entered, and where in it its program headers stand. The image itself stays the caller's.
@@ -59,15 +60,15 @@ pub enum Step {
 fn advance(image: &[u8], entry: u64, seen: Seen, p: Phdr) -> Step
     ensures { λ r. ⌜ Steps (now (image .entry)) entry seen (phdrOf p) r ⌝ }
 {
-    if !header::is_load(p) {
+    if !phdr::is_load(p) {
         return Step::Next(seen);
     }
-    let v = header::judge_phdr(image, seen.end, p);
+    let v = phdr::judge_phdr(image, seen.end, p);
     match v {
         Verdict::Refused(e) => Step::Stop(e),
         Verdict::Fine => Step::Next(Seen {
             end: mem::page_up(p.vaddr + p.memsz),
-            found: seen.found | header::in_text(entry, p),
+            found: seen.found | phdr::in_text(entry, p),
         }),
     }
 }
@@ -84,7 +85,7 @@ fn scan(image: &[u8], entry: u64, phoff: usize, phnum: usize) -> Verdict
     let mut at = phoff;
     let mut k = phnum;
     while k > 0 {
-        let s = advance(image, entry, seen, header::read_phdr(image, at));
+        let s = advance(image, entry, seen, phdr::read_phdr(image, at));
         at += PHDR_SIZE;
         k -= 1;
         match s {
@@ -136,14 +137,13 @@ pub fn parse(image: &[u8]) -> Parsed
     }
 }
 
-// The segment that the program header at a place of an image describes, unless it is skipped: what r9's `Elf::segments` yields.
-// Its fields are checked only where `parse` accepted the image.
-pub fn segment_at(image: &[u8], at: usize) -> Load
+// The segment that the program header at a place of an image describes, unless it is skipped.
+fn segment_at(image: &[u8], at: usize) -> Load
     requires { ⌜ at + 56 ≤ length (now image) ⌝ }
     ensures { λ r. ⌜ r ≡ loadOf (phdrAt (now (image .entry)) at) ⌝ }
 {
-    let p = header::read_phdr(image, at);
-    if !header::is_load(p) {
+    let p = phdr::read_phdr(image, at);
+    if !phdr::is_load(p) {
         return Load::Skip;
     }
     let perm = field::perm(p.flags);
@@ -154,4 +154,15 @@ pub fn segment_at(image: &[u8], at: usize) -> Load
         filesz: p.filesz as usize,
         perm,
     })
+}
+
+// The segment that header `i` of a table of program headers describes, unless it is skipped: what r9's `Elf::segments` yields. A header
+// that isn't in the table describes none. The fields are checked only where `parse` accepted the image.
+pub fn segment_in(table: &[u8], i: usize) -> Load
+    ensures { λ r. ⌜ r ≡ loadIn (now (table .entry)) i ⌝ }
+{
+    if i >= table.len() / PHDR_SIZE {
+        return Load::Skip;
+    }
+    segment_at(table, PHDR_SIZE * i)
 }

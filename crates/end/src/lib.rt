@@ -1,4 +1,5 @@
-// End (added): a process gives up its memory and its record.
+// End (added): a process gives up its memory and its record. r9 has no such call of its own, but an address that can't be used ends
+// a process in the same way.
 
 ghost use mathlib.Core.Path.{_≡_};
 ghost use Rattle.spec.specs.Machine.{end, plainly};

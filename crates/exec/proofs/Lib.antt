@@ -1,4 +1,1 @@
-pub mod Fitted
-pub mod Kept
-pub mod Pages
 pub mod Planned

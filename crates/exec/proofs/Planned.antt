@@ -1,24 +1,26 @@
 -- The plan of an image, case by case; and what a caller learns of one that is accepted.
 -- Assumes nothing.
-use mathlib.Core.Path.{_≡_, refl, sym, ap, _∙_}
-use mathlib.Core.Bool.{Bool, true, false, not}
+use mathlib.Core.Path.{_≡_, sym, ap, _∙_}
+use mathlib.Core.Bool.{true, false, not}
 use mathlib.Core.List.{List, [], _∷_, _++_}
 use Prim.Native.Nat.{ℕ, suc, _+_, _-_, _/_, _<_, _≤_}
 use native.Mathlib.Omega.{arith}
 use lib.ListN.{length, take, set, replicate}
 use lib.Seq.{take-all, take-append-seam, set-append-seam}
 use borrow.Author.Tests.{eqb-true, ne-eqb, lt-ltb, le-ltb}
-use Rattle.spec.specs.Tests.{_is_, _isnt_, _above_, _⇒_else_}
-use Rattle.spec.specs.Numbers.{limit, pageUp, ustktop, ustksize}
+use Rattle.spec.specs.Tests.{_is_}
+use Rattle.spec.specs.Numbers.{limit, pageUp, ustksize}
 use Rattle.spec.specs.Book.{zeroSegment, stack, bssSegment, pageCount}
 use Rattle.spec.specs.Elf.{entry, elfError, Segment, segmentsOf}
 use Rattle.spec.specs.Exec.{layoutOk, bssOf, imageSegments, imageBss, imageError, startPieces}
 use Rattle.spec.specs.declared.VirtRange.{VirtRange}
 use Rattle.spec.specs.declared.UserSegment.{UserSegment}
-use Rattle.laws.proofs.Apart.{count-append}
-use Rattle.laws.proofs.Accepted.{accepted-means, AllLoad, elf-loads, recorded-all}
+use Rattle.laws.proofs.Accepted.{accepted-means, recorded-all}
+use Rattle.laws.proofs.Pieces.{count-append}
+use Rattle.laws.proofs.Headers.{AllLoad, elf-loads}
 use Rattle.spec.proofs.Bools.{split}
-use Rattle.exec.specs.Plan.{recorded, refusedPlan, planOf}
+use Rattle.recorded.specs.Pages.{recorded}
+use Rattle.exec.specs.Plan.{refusedPlan, planOf}
 use Rattle.exec.specs.declared.Plan.{Plan}
 
 module _ (image : List ℕ) where

@@ -1,7 +1,7 @@
 -- `same` of numbers by places: lists of one length are the same where each place agrees, and not where one differs.
 -- Assumes nothing.
 use mathlib.Core.Path.{_≡_, refl}
-use mathlib.Core.Bool.{Bool, true, false, _&&_}
+use mathlib.Core.Bool.{true, false, and-false}
 use mathlib.Core.List.{List, [], _∷_}
 use Prim.Native.Nat.{ℕ, zero, suc, _<_}
 use native.Mathlib.Nat.{le-of-suc-le-suc, not-suc-le-zero}
@@ -11,19 +11,15 @@ use lib.ListN.{length, getD}
 use borrow.Author.Tests.{eq-eqb, ne-eqb}
 use Rattle.spec.specs.Tests.{same, _is_}
 
-pub same-refl : (xs : List ℕ) → same _is_ xs xs ≡ true
+same-refl : (xs : List ℕ) → same _is_ xs xs ≡ true
 same-refl [] = refl
 same-refl (x ∷ xs) = rw (eq-eqb x x refl) (same-refl xs)
-
-no-more : (t : Bool) → (t && false) ≡ false
-no-more true = refl
-no-more false = refl
 
 pub differs : (xs ys : List ℕ) (i : ℕ) → i < length ys → (getD xs i 0 ≡ getD ys i 0 → ⊥) → same _is_ xs ys ≡ false
 differs xs [] i h n = absurd (not-suc-le-zero h)
 differs [] (y ∷ ys) i h n = refl
 differs (x ∷ xs) (y ∷ ys) zero h n = rw (ne-eqb x y n)
-differs (x ∷ xs) (y ∷ ys) (suc i) h n = rw (differs xs ys i (le-of-suc-le-suc h) n) (no-more (eqb x y))
+differs (x ∷ xs) (y ∷ ys) (suc i) h n = rw (differs xs ys i (le-of-suc-le-suc h) n) (and-false (eqb x y))
 
 pub agrees : (xs ys : List ℕ) → length xs ≡ length ys → ((i : ℕ) → i < length xs → getD xs i 0 ≡ getD ys i 0) → same _is_ xs ys ≡ true
 agrees xs ys l h = rw (ext-getD 0 xs ys l h) (same-refl ys)

@@ -1,5 +1,5 @@
-// The fields of an ELF-64 image, as r9's elf.rs reads them: numbers of one to eight bytes, the magic, the permission that flags stand
-// for, and the number of each refusal.
+// The fields of an ELF-64 image, as r9's elf.rs reads them: numbers of one to eight bytes, the magic, the permission that flags
+// stand for, and the number of each refusal. They are the only functions that read an image's bytes by place.
 
 ghost use mathlib.Core.Path.{_≡_};
 ghost use Prim.Native.Nat.{_+_, _%_, _≤_};

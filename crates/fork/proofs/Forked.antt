@@ -1,35 +1,33 @@
 -- A fork: the parent's pages, copied piece after piece, are the pages that the specification places.
-use Prim.Native.Nat.{ℕ, zero, suc, _+_, _*_, _-_, _%_, _^_, _≤_, _<_}
+use Prim.Native.Nat.{ℕ, zero, suc, _-_, _%_, _^_, _≤_, _<_}
 use native.Mathlib.Omega.{arith}
-use native.Mathlib.Nat.{not-suc-le-zero, le-of-suc-le-suc}
 use mathlib.Core.Path.{_≡_, refl, sym, ap, subst, _∙_}
-use mathlib.Core.Bool.{Bool, true, not}
-use mathlib.Core.Option.{Option, some}
+use mathlib.Core.Bool.{true}
+use mathlib.Core.Option.{some}
 use mathlib.Core.List.{List, [], _∷_, _++_}
-use lib.ListN.{length, getD, replicate}
+use lib.ListN.{length, replicate}
 use borrow.Author.Tests.{lt-ltb, le-ltb}
-use Rattle.spec.specs.Book.{permOf, valid, frameOf, permIn, bookPerm, zeroSegment, stack, bssSegment, inSegment, permAt, procAt, piecesOf}
+use Rattle.spec.specs.Book.{valid, frameOf, permIn, zeroSegment, stack, bssSegment, inSegment, permAt, procAt}
 use Rattle.spec.specs.Numbers.{utzero}
 use Rattle.spec.specs.Sound.{ImageSegment, Shape, Sound}
-use Rattle.spec.specs.Frames.{Store, Page, memOf, pagesOf, place, frameBytes}
+use Rattle.spec.specs.Frames.{Store, memOf, pagesOf, place, frameBytes}
 use Rattle.spec.specs.Machine.{fork, plainly, Machine, own, weigh}
 use Rattle.spec.specs.declared.UserSegment.{UserSegment}
 use Rattle.spec.specs.declared.Proc.{Proc}
 use Rattle.spec.specs.declared.Procs.{Procs}
 use Rattle.spec.specs.declared.Answer.the-variants.{Done, Refused}
-use Rattle.spec.proofs.Bools.{split, clash, not-true, within-means, within-test}
+use Rattle.spec.proofs.Bools.{split, within-means, within-test}
 use Rattle.laws.proofs.Lists.{Each, each-map, each-append}
 use Rattle.laws.proofs.Frame.{Fits, frame-perm, perm-same}
 use Rattle.laws.proofs.Place.{place-append}
-use Rattle.laws.proofs.Apart.{Pieces, perm-tail}
 use Rattle.laws.proofs.Pages.{pages-append, pages-same}
 use Rattle.laws.proofs.Placed.{Whole, fits-placed, mem-placed-other}
 use Rattle.laws.proofs.Contents.{length-frame, frame-same}
 use Rattle.laws.proofs.Record as record-laws
 use Rattle.laws.proofs.Facts.{sound-between}
 use Rattle.laws.proofs.Shape.{Image, shape-image}
-use Rattle.laws.proofs.Pieces.{shape-pieces}
-use Rattle.history.proofs.Stored.{own-pieces}
+use Rattle.laws.proofs.Pieces.{Pieces, perm-tail}
+use Rattle.laws.proofs.OwnPieces.{shape-pieces, own-pieces}
 use Rattle.pagealloc.specs.Lent.{Mapped}
 use Rattle.fork.specs.Lent.{Copyable}
 
@@ -96,11 +94,6 @@ each-both P Q (x ∷ xs) p q = ((p .0, q .0), each-both P Q xs (p .1) (q .1))
 each-parts : {A : Type 0} (P : A → Type 0) (xs ys : List A) → Each P (xs ++ ys) → Each P xs × Each P ys
 each-parts P [] ys e = (tt, e)
 each-parts P (x ∷ xs) ys e = let r = each-parts P xs ys (e .1) in ((e .0, r .0), r .1)
-
-pub each-at : {A : Type 0} (P : A → Type 0) (d : A) (xs : List A) → Each P xs → (i : ℕ) → i < length xs → P (getD xs i d)
-each-at P d [] e i h = absurd (not-suc-le-zero h)
-each-at P d (x ∷ xs) e zero h = e .0
-each-at P d (x ∷ xs) e (suc i) h = each-at P d xs (e .1) i (le-of-suc-le-suc h)
 
 -- an address of one of them has a permission
 abbrev Found : List UserSegment → UserSegment → Type 0

@@ -3,41 +3,23 @@ use Prim.Native.Nat.{ℕ, _%_, _<_}
 use mathlib.Core.Path.{_≡_, refl, sym, ap, _∙_}
 use mathlib.Core.Option.{some}
 use mathlib.Core.List.{List}
-use lib.Dec.{eqb}
-use lib.ListN.{length, getD, set, length-set}
-use lib.Seq.{getD-set-same, getD-set-other}
-use borrow.Author.Tests.{eqb-true, eqb-false}
-use Rattle.spec.specs.Book.{wordOf, ownerOf, highest, owns, frameOf}
+use lib.ListN.{length, getD}
+use Rattle.spec.specs.Book.{wordOf, frameOf}
 use Rattle.spec.specs.Frames.{Store, Page, hold}
 use Rattle.spec.specs.declared.Found.{Found}
 use Rattle.spec.specs.declared.Found.the-variants.{At}
-use Rattle.spec.proofs.Bools.{split}
-use Rattle.spec.proofs.Search.{highest-ext}
 use Rattle.spec.proofs.Words.{unpack}
-use Rattle.laws.proofs.Frame.{owns-not, frame-found}
+use Rattle.laws.proofs.Frame.{frame-found}
+use Rattle.laws.proofs.Place.{frame-else}
 use Rattle.sound.specs.Table.{Ready}
 use Rattle.book.specs.Lent.{foundOf}
-use Rattle.pagealloc.proofs.Placing.{found-at}
+use Rattle.book.proofs.Searches.{found-at}
 use Rattle.fork.specs.Lent.{Tells}
 
 pub tells-first : (book tags bases table : List ℕ) (n : ℕ) → Ready book tags bases table → Tells book tags bases table n
 tells-first book tags bases table n r = record { checked = book; ready = r; same = λ page. refl }
 
--- a word of another process in a free frame leaves a process's pages in their frames
-frame-stays : (book : List ℕ) (k w n page : ℕ) → k < length book → getD book k 0 ≡ 0 → (ownerOf w ≡ n → ⊥) → frameOf (set book k w) n page ≡ frameOf book n page
-frame-stays book k w n page low was other =
-    ap (highest (λ j. owns n page (getD (set book k w) j 0))) (length-set book k w)
-    ∙ highest-ext (λ j. owns n page (getD (set book k w) j 0)) (λ j. owns n page (getD book j 0)) (length book) (λ j l. same j)
-  where
-    same : (j : ℕ) → owns n page (getD (set book k w) j 0) ≡ owns n page (getD book j 0)
-    same j =
-        split (eqb j k)
-        (λ q.
-        let e : j ≡ k = eqb-true j k q in
-        rw e (ap (owns n page) (getD-set-same book k w 0 low) ∙ owns-not n page w (λ o. other (o .owner)) ∙ sym (ap (owns n page) was)))
-        (λ q. ap (owns n page) (getD-set-other book k j w 0 (eqb-false j k q)))
-
--- so does a page placed for the child
+-- a page placed for the child leaves the parent's pages in their frames
 pub tells-turn : (t u : Store) (tags bases table : List ℕ) (parent child k : ℕ) (p : Page) → k < length (t .book) → getD (t .book) k 0 ≡ 0 → (parent ≡ child → ⊥) → child < 256 → p .perm < 16 → p .page % 4096 ≡ 0
     → u ≡ hold t child p (some k) → Tells (t .book) tags bases table parent → Tells (u .book) tags bases table parent
 tells-turn t u tags bases table parent child k p low was other small perm al e h = record {
@@ -45,7 +27,7 @@ tells-turn t u tags bases table parent child k p low was other small perm al e h
   ready = h .ready;
   same = λ page.
       ap (λ (x : Store). frameOf (x .book) parent page) e
-      ∙ frame-stays (t .book) k (wordOf (p .page) child (p .perm)) parent page low was (λ o. other (sym o ∙ unpack (p .page) child (p .perm) al small perm .1))
+      ∙ frame-else (t .book) k (wordOf (p .page) child (p .perm)) low was parent page (λ o. other (sym (o .owner) ∙ unpack (p .page) child (p .perm) al small perm .1))
       ∙ h .same page;
 }
 

@@ -1,4 +1,5 @@
--- Segments whose pages can be copied, and the lists that the check of the book leaves, while pages are placed for the child.
+-- Segments whose pages can be copied, and the lists that the check of the book leaves, while pages are placed for the child. The
+-- book changes as the child's pages come in, but not where the parent's stand: that is what a fork's page copy asks of its caller.
 -- Assumes nothing.
 use Prim.Native.Nat.{ℕ, _%_, _^_, _<_}
 use mathlib.Core.Path.{_≡_}

@@ -1,4 +1,5 @@
-// Fork: a child takes a copy of every page of its parent's, and its record and name.
+// Fork: a child takes a copy of every page of its parent's, and its record and name. The parent's frames come from the table that
+// the check of the book leaves, the child's are the highest free ones.
 
 pub mod copy;
 

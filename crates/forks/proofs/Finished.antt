@@ -16,7 +16,7 @@ use Rattle.spec.specs.declared.UserSegment.{UserSegment}
 use Rattle.spec.specs.declared.Procs.{Procs}
 use Rattle.spec.specs.declared.Answer.the-variants.{Done}
 use Rattle.spec.proofs.Bools.{both, split, clash, within-means}
-use Rattle.laws.proofs.Lists.{Each}
+use Rattle.laws.proofs.Lists.{Each, each-at}
 use Rattle.laws.proofs.Frame.{Fits}
 use Rattle.laws.proofs.Record.{Whole, same-is}
 use Rattle.book.specs.Lent.{store}
@@ -28,7 +28,7 @@ use Rattle.front.proofs.First.{Forks, fork-none, fork-other, sizes-words}
 use Rattle.front.proofs.Living.{passed-sound, living-shape}
 use Rattle.front.proofs.Own.{take-more}
 use Rattle.front.proofs.States.{state-is}
-use Rattle.fork.proofs.Forked.{mapped-still, Copied, copied-none, copied-more, each-at, copyable-segments, copyable-bss}
+use Rattle.fork.proofs.Forked.{mapped-still, Copied, copied-none, copied-more, copyable-segments, copyable-bss}
 use Rattle.fork.specs.Lent.{Copyable}
 use Rattle.fork.proofs.Told.{tells-first}
 use Rattle.forks.specs.declared.parent.Parent.{Parent}

@@ -1,4 +1,5 @@
--- What a fork with a lent list is refused with.
+-- What a fork with a lent list is refused with. A list unlike the record is 2, at that number's place in the order; all else is as
+-- in a fork with the record's own.
 -- Assumes nothing.
 use Prim.Native.Nat.{ℕ}
 use mathlib.Core.Bool.{Bool, not, _&&_}

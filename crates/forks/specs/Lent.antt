@@ -1,4 +1,5 @@
--- A lent list beside a record's places.
+-- A lent list beside a record's places. The code compares the two place by place, without a copy of either; the specification
+-- compares lists.
 -- Assumes nothing.
 use Prim.Native.Nat.{ℕ}
 use mathlib.Core.Bool.{Bool, not, _&&_, _||_}

@@ -4,13 +4,13 @@ use mathlib.Core.Path.{_≡_, refl, sym, ap, _∙_}
 use mathlib.Core.Bool.{Bool, true, false, not, _&&_, _||_}
 use mathlib.Core.List.{List, [], _∷_}
 use lib.Dec.{eqb}
-use Rattle.spec.specs.Tests.{_is_, _isnt_, _⇒_else_, _orElse_, same}
+use Rattle.spec.specs.Tests.{_isnt_, _⇒_else_, _orElse_, same}
 use Rattle.spec.specs.Book.{valid, free, sameSegment, used, procAt}
 use Rattle.spec.specs.Frames.{sized}
-use Rattle.spec.specs.Machine.{Ask, start, fork, Call, Kind, plain, kind, Reply, outcome, refused, refuse, lengthsFit, listFits, numbered, living, unclaimed, judge, weigh}
+use Rattle.spec.specs.Machine.{Ask, start, fork, plain, kind, Reply, outcome, refuse, lengthsFit, judge, weigh}
 use Rattle.spec.specs.World.{State, sound, taken, view, answer, leave, after, Does}
 use Rattle.spec.specs.declared.UserSegment.{UserSegment}
-use Rattle.spec.proofs.Bools.{and-test}
+use Rattle.spec.proofs.Bools.{and-test, or-test}
 use Rattle.spec.proofs.Chain.{here, past, isnt-holds-through, isnt-fails-through}
 use Rattle.spec.proofs.Taken.{refused-keeps}
 use Rattle.laws.proofs.Record.{is-same}
@@ -78,10 +78,6 @@ same-self : (gs : List UserSegment) → same sameSegment gs gs ≡ true
 same-self [] = refl
 same-self (g ∷ gs) = and-test (sameSegment g g) (same sameSegment gs gs) (is-same g) (same-self gs)
 
-or-true : (a b : Bool) → b ≡ true → (a || b) ≡ true
-or-true true b e = refl
-or-true false b e = e
-
 pub answer-fork : (s : State) (n child : ℕ)
     → let q : Ask = fork child (used (procAt (s .procs) n .segments)) in
     answer s (call n q) ≡ orRefuse (forkError s n child) q (weigh (view s n) (free (s .store .book)) q)
@@ -95,7 +91,7 @@ answer-fork s n child =
     let x₃ : Reply = not (valid child) ⇒ refuse 3 q else x₄ in
     again (sized (s .store)) true _ q _ x₃
     (λ f. step (sound s) 2 _ q _ x₃ refl
-    (skip (not (valid n) || same sameSegment gs gs) _ (refuse 2 q) (or-true (not (valid n)) _ (same-self gs)) ∙ two (valid n) (valid child) q x₄ ∙ step (valid n) 3 0 q _ x₃ refl refl))
+    (skip (not (valid n) || same sameSegment gs gs) _ (refuse 2 q) (or-test (not (valid n)) _ (λ _. same-self gs)) ∙ two (valid n) (valid child) q x₄ ∙ step (valid n) 3 0 q _ x₃ refl refl))
     ∙ ap (orRefuse (numberError s n true) q) (step (valid child) 3 _ q _ w refl (step (taken s n) 4 _ q _ w refl (step (not (taken s child)) 5 0 q w w refl refl)))
     ∙ join (numberError s n true) _ q w
 

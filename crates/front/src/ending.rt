@@ -15,5 +15,5 @@ pub fn forget(book: &mut [u64], procs: Procs, number: u64) -> Procs
     ensures { λ r. ⌜ ((frames : List ℕ) → stateOf frames (now (book .exit)) r ≡ forget (stateOf frames (now (book .entry)) procs) number) ⌝ }
 {
     book::release_owner(book, number);
-    crate::record::with_proc(procs, number, crate::record::zero_proc())
+    procs::with_proc(procs, number, procs::zero_proc())
 }

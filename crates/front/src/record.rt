@@ -1,65 +1,7 @@
-// The records of processes, by value.
+// The records of processes, by value (crate procs).
 
-ghost use mathlib.Core.Path.{_≡_};
-ghost use mathlib.Core.Bool.{_&&_, true};
-ghost use Rattle.spec.specs.Book.{valid, lives as livesOf, zeroProc, procAt};
-ghost use Rattle.spec.specs.World.{setProc};
-use spec::Proc;
-use spec::Procs;
-use spec::UserSegment;
-use spec::VirtRange;
-
-// Processes are numbered 1 to 16.
-pub fn is_number(number: u64) -> bool
-    ensures { λ r. ⌜ r ≡ valid number ⌝ }
-{
-    !(number < 1) & (number < 17)
-}
-
-// The record of process `number`.
-pub fn proc_at(procs: Procs, number: u64) -> Proc
-    requires { ⌜ valid number ≡ true ⌝ }
-    ensures { λ r. ⌜ r ≡ procAt procs number ⌝ }
-{
-    let i = (number - 1) as usize;
-    procs.all[i]
-}
-
-// The records with that of process `number` set.
-pub fn with_proc(procs: Procs, number: u64, p: Proc) -> Procs
-    requires { ⌜ valid number ≡ true ⌝ }
-    ensures { λ r. ⌜ r ≡ setProc procs number p ⌝ }
-{
-    let mut ps = procs;
-    let i = (number - 1) as usize;
-    ps.all[i] = p;
-    ps
-}
-
-// The record of no process: all zero.
-pub fn zero_proc() -> Proc
-    ensures { λ r. ⌜ r ≡ zeroProc ⌝ }
-{
-    let s = UserSegment {
-        range: VirtRange { start: 0, end: 0 },
-        perm: 0,
-    };
-    let segments = [s; 16];
-    let text = [0u8; 28];
-    Proc {
-        segments: segments,
-        text: text,
-        bss: VirtRange { start: 0, end: 0 },
-    }
-}
-
-// Whether process `number` lives; a number outside 1 to 16 is none's.
-pub fn lives(procs: Procs, number: u64) -> bool
-    ensures { λ r. ⌜ r ≡ (valid number && livesOf (procAt procs number)) ⌝ }
-{
-    if !is_number(number) {
-        return false;
-    }
-    let p = proc_at(procs, number);
-    records::lives(p)
-}
+pub use procs::is_number;
+pub use procs::lives;
+pub use procs::proc_at;
+pub use procs::with_proc;
+pub use procs::zero_proc;

@@ -1,13 +1,13 @@
--- What the reader's header types stand for in the specification: their fields, and the number of a verdict.
+-- What the ELF header's fields are and what is checked of them; the number of a verdict. The code reads a header once and then
+-- checks what it read, so that checks 13 to 20 are stated over the fields.
 -- Assumes nothing.
 use Prim.Native.Nat.{ℕ, _+_, _*_, _%_}
 use mathlib.Core.Bool.{_||_}
 use mathlib.Core.List.{List}
 use Rattle.spec.specs.Tests.{_isnt_, _above_, _⇒_else_}
 use Rattle.spec.specs.Numbers.{le}
-use Rattle.spec.specs.Elf.{Phdr, errorNumber}
+use Rattle.spec.specs.Elf.{errorNumber}
 use Rattle.header.specs.declared.Ehdr.{Ehdr}
-use Rattle.header.specs.declared.Phdr.{Phdr as Read}
 use Rattle.header.specs.declared.Verdict.{Verdict}
 use Rattle.header.specs.declared.Verdict.the-variants.{Fine, Refused}
 
@@ -43,7 +43,3 @@ fieldsError n h =
     h .entry % 4 isnt 0 ⇒ 19 else
     h .phoff + 56 * h .phnum above n ⇒ 20 else
     0
-
--- a program header that was read, as the specification has it
-abbrev pub phdrOf : Read → Phdr
-phdrOf p = record { type = p .kind; flags = p .flags; offset = p .offset; vaddr = p .vaddr; filesz = p .filesz; memsz = p .memsz }

@@ -56,7 +56,7 @@ replaced s g n image name argv e =
 
 -- ---- accepted
 
-pub settles : (s : State) → Good s → (n : ℕ) (q : Ask) → outcome (answer s (record { number = n; ask = q })) ≡ accepted
+settles : (s : State) → Good s → (n : ℕ) (q : Ask) → outcome (answer s (record { number = n; ask = q })) ≡ accepted
     → Sees (settle s n q) (effect (view s) (record { number = n; ask = q }) (kind q) accepted)
 unfolding effect
 settles s g n (start image name bytes lengths) e =
@@ -83,7 +83,7 @@ ended-sees s g n q e =
     let h = not-refused s g (record { number = n; ask = q }) ended e ended≢ in
     changed s (forget s n) g n off (forget-change s g n (valid-number n (kind q) (h .number)))
 
-pub ending : (s : State) → Good s → (n : ℕ) (q : Ask) → outcome (answer s (record { number = n; ask = q })) ≡ ended → Sees (forget s n) (effect (view s) (record { number = n; ask = q }) (kind q) ended)
+ending : (s : State) → Good s → (n : ℕ) (q : Ask) → outcome (answer s (record { number = n; ask = q })) ≡ ended → Sees (forget s n) (effect (view s) (record { number = n; ask = q }) (kind q) ended)
 unfolding effect
 ending s g n (start image name bytes lengths) e = absurd (start-ends-nobody s g n image name bytes lengths e)
 ending s g n (replace image name argv) e = ended-sees s g n (replace image name argv) e

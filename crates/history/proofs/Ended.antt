@@ -13,11 +13,11 @@ use Rattle.spec.specs.Machine.{Machine, off, own}
 use Rattle.spec.specs.World.{State, taken, view, forget}
 use Rattle.spec.specs.declared.Proc.{Proc}
 use Rattle.laws.proofs.Record.{zero-whole, zero-dead}
-use Rattle.laws.proofs.Pieces.{zero-pieces}
 use Rattle.laws.proofs.Count.{free-release-own}
+use Rattle.laws.proofs.OwnPieces.{zero-pieces, own-pieces}
 use Rattle.history.proofs.Passed.{Good}
 use Rattle.history.proofs.OneState.{known, living-shape, numbers}
-use Rattle.history.proofs.Stored.{Stored, stored-release, own-pieces}
+use Rattle.history.proofs.Stored.{Stored, stored-release}
 use Rattle.history.proofs.Change.{Change, change-here, change-good, stored-self, change-set}
 
 pub forget-change : (s : State) → Good s → (n : ℕ) → valid n ≡ true → Change s (forget s n) n off

@@ -13,14 +13,14 @@ use Rattle.spec.specs.Machine.{Machine}
 use Rattle.spec.specs.World.{State, taken, view, copy}
 use Rattle.spec.specs.History.{permIn}
 use Rattle.spec.specs.declared.Proc.{Proc}
-use Rattle.laws.proofs.Pieces.{shape-between}
 use Rattle.laws.proofs.Pages.{cellOr}
 use Rattle.laws.proofs.Contents.{frame-byte, length-frame}
 use Rattle.laws.proofs.Facts.{sound-between}
+use Rattle.laws.proofs.OwnPieces.{shape-between, own-pieces}
 use Rattle.history.proofs.Passed.{Good}
 use Rattle.history.proofs.Accepted.{Forks}
 use Rattle.history.proofs.OneState.{known, living-shape, dead-view, pages}
-use Rattle.history.proofs.Stored.{Stored, Proper, own-pieces, stored-place}
+use Rattle.history.proofs.Stored.{Stored, Proper, stored-place}
 use Rattle.history.proofs.Change.{Change, stored-self, change-set}
 
 -- a cell is its permission and its byte

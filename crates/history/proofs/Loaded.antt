@@ -18,10 +18,10 @@ use Rattle.laws.proofs.Shape.{shape-used}
 use Rattle.laws.proofs.Pages.{cellOr}
 use Rattle.laws.proofs.Contents.{length-page, page-byte}
 use Rattle.laws.proofs.Accepted.{image-shape}
-use Rattle.laws.proofs.Started.{proc-whole, start-perm, start-between, start-aligned, start-apart, start-pieces}
+use Rattle.laws.proofs.Started.{proc-whole, start-perm, start-between, start-apart, start-pieces}
 use Rattle.history.proofs.Passed.{Good}
 use Rattle.history.proofs.OneState.{dead-view}
-use Rattle.history.proofs.Stored.{Stored, pieces-of, stored-place}
+use Rattle.history.proofs.Stored.{Stored, stored-place}
 use Rattle.history.proofs.Change.{holds, Change, stored-self, change-set}
 use Rattle.history.proofs.Written.{exact-pushed, stored-pushed}
 
@@ -40,7 +40,7 @@ load-change s g n image name args v t e room =
     (change-set s g n v (pushIn m n ustktop args) p (pushed ustktop args (loaded image))
     (stored-pushed (s .store) m n (loaded image)
     (subst (Stored (s .store) m n) (fun-ext seen)
-    (stored-place (s .store) (s .store) n (view s n .mem) (stored-self s g n) v f (startPieces image) (pieces-of (startPieces image) (start-aligned image e) (start-apart image e))
+    (stored-place (s .store) (s .store) n (view s n .mem) (stored-self s g n) v f (startPieces image) (start-apart image e)
     (λ a q h. let x = start-perm image e a q h in let y = start-between image e a q h in (x .0, x .1, y .0, y .1)) (λ a q z h. length-page (fileByte (segmentsOf image)) a) (λ a q z h. empty a) room))
     ustktop args)
     (proc-whole image name e) (λ l. (imageSegments image, image-shape image name e))

@@ -7,7 +7,7 @@ use mathlib.Core.Option.{Option, none, some}
 use mathlib.Core.List.{List, [], _∷_}
 use lib.ListN.{getD}
 use borrow.Author.Tests.{eq-eqb, ne-eqb, lt-ltb, le-ltb}
-use Rattle.spec.proofs.Bools.{split, clash, within-means, within-test}
+use Rattle.spec.proofs.Bools.{split, clash, within-means, within-test, within-not}
 use Rattle.spec.specs.Tests.{_is_, _below_, within, _⇒_else_}
 use Rattle.spec.specs.Numbers.{utzero, limit, pageDown, pageUp, zeroPage}
 use Rattle.spec.specs.Book.{ownerOf, pageOf, valid, free, range, segment, used, stack, bssSegment, permAt, pageCount, procAt}
@@ -20,13 +20,12 @@ use Rattle.spec.specs.History.{permIn}
 use Rattle.spec.specs.declared.UserSegment.{UserSegment}
 use Rattle.spec.specs.declared.Proc.{Proc}
 use Rattle.laws.proofs.Lists.{by-order}
-use Rattle.laws.proofs.Frame.{within-not}
 use Rattle.laws.proofs.Shape.{shape-made, shape-image, shape-bss, shape-used}
-use Rattle.laws.proofs.Pieces.{outside-low, perm-past, perm-there, perm-tail, image-high}
-use Rattle.laws.proofs.Apart.{within-page}
+use Rattle.laws.proofs.Pieces.{outside-low, perm-past, perm-there, tail-same, within-page}
 use Rattle.laws.proofs.Pages.{cellOr}
 use Rattle.laws.proofs.Contents.{length-zero, zero-byte}
 use Rattle.laws.proofs.Count.{free-release}
+use Rattle.laws.proofs.OwnPieces.{image-high}
 use Rattle.history.proofs.Passed.{Good}
 use Rattle.history.proofs.Accepted.{Moves}
 use Rattle.history.proofs.OneState.{known, living-shape, pages}
@@ -36,10 +35,10 @@ use Rattle.history.proofs.Change.{Exact, holds, Change, stored-self, ch
 -- ---- the record
 
 -- the record with its bss end moved
-abbrev pub movedProc : Proc → ℕ → Proc
+abbrev movedProc : Proc → ℕ → Proc
 movedProc p top = record { segments = p .segments; text = p .text; bss = range (p .bss .start) top }
 
-pub moved-shape : (p : Proc) (image : List UserSegment) → Shape p image → (top : ℕ) → p .bss .start ≤ top → top % 4096 ≡ 0 → top ≤ limit → Shape (movedProc p top) image
+moved-shape : (p : Proc) (image : List UserSegment) → Shape p image → (top : ℕ) → p .bss .start ≤ top → top % 4096 ≡ 0 → top ≤ limit → Shape (movedProc p top) image
 moved-shape p image h top l z u =
     let b = shape-bss p image h in
     shape-made (movedProc p top) image (h .segments) (h .at-most) (shape-image p image h) (record { start = b .start; order = l; aligned = z; low = u; past = b .past })
@@ -47,7 +46,7 @@ moved-shape p image h top l z u =
 -- ---- permissions
 
 -- no segment of a record lies between its bss and limit
-pub above-segments : (p : Proc) (image : List UserSegment) → Shape p image → (a : ℕ) → pageUp (p .bss .start) ≤ a → a < limit → permAt (used (p .segments)) a ≡ none
+above-segments : (p : Proc) (image : List UserSegment) → Shape p image → (a : ℕ) → pageUp (p .bss .start) ≤ a → a < limit → permAt (used (p .segments)) a ≡ none
 above-segments p image h a l u =
     let b = shape-bss p image h in
     ap (λ (gs : List UserSegment). permAt gs a) (shape-used p image h)
@@ -61,7 +60,7 @@ same-below x y a q t =
     (λ l. by-order a y (λ k. lt-ltb a x l ∙ sym (lt-ltb a y k)) (λ k. clash (within y x a) (within-test y x a k l) t))
     (λ l. by-order a y (λ k. clash (within x y a) (within-test x y a l k) q) (λ k. le-ltb a x l ∙ sym (le-ltb a y k)))
 
-pub moved-exact : (p : Proc) (image : List UserSegment) → Shape p image → (top : ℕ) → pageUp (p .bss .start) ≤ top → top ≤ limit → (mem : Mem) → Exact (holds p mem) → Exact (movedTo top (holds p mem))
+moved-exact : (p : Proc) (image : List UserSegment) → Shape p image → (top : ℕ) → pageUp (p .bss .start) ≤ top → top ≤ limit → (mem : Mem) → Exact (holds p mem) → Exact (movedTo top (holds p mem))
 moved-exact p image h top l u mem e a =
     split (within end top a)
     (λ q.
@@ -74,7 +73,7 @@ moved-exact p image h top l u mem e a =
     let r = within-means top end a t in
     rw (q, t) (sym (perm-past (used (p .segments)) (bssSegment (range start top) ∷ []) a (above-segments p image h a (omega (arith, r .0)) (omega (arith, r .1, h .bss-end .1)))
     ∙ rw (within-not (pageUp start) top a (λ x y. omega (arith, r .0))))))
-    (λ t. rw (q, t) (e a ∙ perm-tail (used (p .segments)) (bssSegment (p .bss) ∷ []) (bssSegment (range start top) ∷ []) a (ap (λ (b : Bool). not (a below pageUp start) && b ⇒ some 3 else none) (same-below end top a q t)))))
+    (λ t. rw (q, t) (e a ∙ tail-same (used (p .segments)) (bssSegment (p .bss) ∷ []) (bssSegment (range start top) ∷ []) a (ap (λ (b : Bool). not (a below pageUp start) && b ⇒ some 3 else none) (same-below end top a q t)))))
   where
     start : ℕ
     start = p .bss .start

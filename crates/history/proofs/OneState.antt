@@ -69,7 +69,7 @@ dead-view s g n v t =
     let cell : (a : ℕ) → view s n .mem a ≡ none = λ a. ap (cellIn (s .store) a) (dead-frame (s .store .book) (s .procs) (k .whole) (k .facts) n v d (pageDown a)) in
     λ i. record { segments = used (p i .segments); bss = p i .bss; mem = λ a. cell a i }
 
-pub begins-good : (s : State) → Begin s → Good s
+begins-good : (s : State) → Begin s → Good s
 begins-good s b = record { types = b .types; sizes = b .sizes; book = b .book }
 
 pub first : (s : State) → Begin s → (n : ℕ) → valid n ≡ true → view s n ≡ off

@@ -91,7 +91,7 @@ stray-number n begins v = v
 stray-number n (forks child segments) v = rw v
 stray-number n plain v = v
 
-abbrev pub strayAnswer : Call → Reply
+abbrev strayAnswer : Call → Reply
 strayAnswer c = not (lengthsFit (c .ask)) ⇒ refuse 1 (c .ask) else refuse 3 (c .ask)
 
 stray-chain : (a b d e g : Bool) (x y z u v w : Reply) → b ≡ true → d ≡ false

@@ -4,25 +4,23 @@ use native.Mathlib.Omega.{arith}
 use mathlib.Core.Path.{_≡_, ap, _∙_, fun-ext}
 use mathlib.Core.Bool.{Bool, true, false}
 use mathlib.Core.Option.{none, some}
-use mathlib.Core.List.{List, [], _∷_}
+use mathlib.Core.List.{List}
 use lib.ListN.{length, getD}
-use Rattle.spec.proofs.Bools.{both}
 use Rattle.spec.proofs.Words.{unpack}
-use Rattle.spec.specs.Tests.{_⇒_else_, all}
+use Rattle.spec.specs.Tests.{_⇒_else_}
 use Rattle.spec.specs.Numbers.{utzero, uaddrtop, pageDown}
-use Rattle.spec.specs.Book.{wordOf, pageOf, ownerOf, valid, free, permAt, pageCount, piecesOf}
-use Rattle.spec.specs.Sound.{Word, Shape}
+use Rattle.spec.specs.Book.{wordOf, pageOf, ownerOf, valid, free, permAt, pageCount}
+use Rattle.spec.specs.Sound.{Word}
 use Rattle.spec.specs.Frames.{Store, sized, Mem, memOf, pagesOf, place, release, pokes}
 use Rattle.spec.specs.Access.{write}
 use Rattle.spec.specs.History as history
 use Rattle.spec.specs.declared.UserSegment.{UserSegment}
-use Rattle.spec.specs.declared.Proc.{Proc}
+use Rattle.spec.proofs.Free.{pokes-book}
 use Rattle.laws.proofs.Frame.{sized-fits, Once, page-perm}
-use Rattle.laws.proofs.Pokes.{pokes-book, sized-pokes, mem-pokes, mem-pokes-other}
+use Rattle.laws.proofs.Pokes.{sized-pokes, mem-pokes, mem-pokes-other}
 use Rattle.laws.proofs.Release.{sized-release, each-release, once-release, mem-release}
 use Rattle.laws.proofs.Owned.{valid-means}
-use Rattle.laws.proofs.Pieces.{aligned, aligned-means, Apart, shape-aligned, shape-apart}
-use Rattle.laws.proofs.Apart.{Pieces}
+use Rattle.laws.proofs.Pieces.{Pieces}
 use Rattle.laws.proofs.Pages.{cellOr}
 use Rattle.laws.proofs.Placed.{Whole, Room, each-placed, sized-placed, mem-placed, mem-placed-other, once-placed}
 
@@ -64,17 +62,6 @@ stored-release b m n mem h u only =
     }
 
 -- ---- pages placed
-
--- aligned and disjoint pieces
-pub pieces-of : (gs : List UserSegment) → all aligned gs ≡ true → Apart gs → Pieces gs
-pieces-of [] e d = tt
-pieces-of (g ∷ gs) e d =
-    let p = both (aligned g) (all aligned gs) e in
-    let m = aligned-means g (p .0) in
-    (record { start = m .0; end = m .1; apart = d .0 }, pieces-of gs (p .1) (d .1))
-
-pub own-pieces : (p : Proc) (image : List UserSegment) → Shape p image → Pieces (piecesOf p)
-own-pieces p image h = pieces-of (piecesOf p) (shape-aligned p image h) (shape-apart p image h)
 
 -- pieces whose pages a book may have
 abbrev pub Proper : List UserSegment → Type 0

@@ -7,13 +7,14 @@ use mathlib.Core.Bool.{Bool, true, false, not}
 use mathlib.Core.Option.{none, some}
 use mathlib.Core.List.{List, [], _∷_}
 use lib.ListN.{length}
-use borrow.Author.Tests.{eq-eqb, ne-eqb, ltb-false}
-use Rattle.spec.proofs.Bools.{clash, neither, not-true, not-above, not-false, within-test}
-use Rattle.spec.specs.Tests.{_is_, _isnt_, _above_, within, _⇒_else_, any, has, same, sum}
+use borrow.Author.Tests.{eq-eqb, ne-eqb}
+use Rattle.spec.proofs.Args.{args-means}
+use Rattle.spec.proofs.Bools.{clash, neither, not-true, not-above, not-false, within-test, within-not}
+use Rattle.spec.specs.Tests.{_is_, _isnt_, _above_, within, _⇒_else_, any, same, sum}
 use Rattle.spec.specs.Numbers.{argLimit, ustktop, pageUp}
 use Rattle.spec.specs.Book.{valid, free, sameSegment, permAt, pageCount}
 use Rattle.spec.specs.Elf.{Segment, segmentsOf, entry, inFile}
-use Rattle.spec.specs.Exec.{imageError, startPieces, fileByte, loaded, argsOf, strings, stackSize, argsError, stringsAt, argvAt, registers, pointers, pushed}
+use Rattle.spec.specs.Exec.{imageError, startPieces, fileByte, loaded, argsOf, strings, argsError, stringsAt, argvAt, registers, pointers, pushed}
 use Rattle.spec.specs.Segment.{moved}
 use Rattle.spec.specs.Machine.{Ask, start, break, fork, end, Call, Kind, begins, forks, plain, kind, Outcome, accepted, refused, ended, outcome, plainly, Machine, off, begun, feed, own, unclaimed}
 use Rattle.spec.specs.World.{State, taken, view, answer, readable, after}
@@ -22,11 +23,10 @@ use Rattle.spec.specs.declared.UserSegment.{UserSegment}
 use Rattle.spec.specs.declared.Answer.{Answer}
 use Rattle.spec.specs.declared.Answer.the-variants.{Regs, Done, Refused}
 use Rattle.laws.proofs.Lists.{Each}
-use Rattle.laws.proofs.Frame.{within-not}
 use Rattle.history.proofs.Passed.{Good, answered, accepted≢, weighs}
 use Rattle.history.proofs.Whole.{effect}
 use Rattle.history.proofs.OneState.{reads, numbers}
-use Rattle.history.proofs.Accepted.{past, not-refused, starts, breaks, forks-child, ends}
+use Rattle.history.proofs.Accepted.{not-refused, starts, breaks, forks-child, ends}
 use Rattle.history.proofs.Ended.{forget-free}
 use Rattle.history.proofs.EachCall.{each-call}
 
@@ -68,7 +68,7 @@ lives-same : (s t : State) → Good s → Good t → (q p : ℕ) → valid q ≡
 lives-same s t g h q p v w e = numbers t h q v ∙ ap (λ (m : Machine). not (length (m .segments) is 0)) e ∙ sym (numbers s g p w)
 
 -- nor does any list of calls of others
-pub others-keep : (s : State) → Good s → (q : ℕ) → valid q ≡ true → taken s q ≡ true → (h : List Call) → Each (λ c. q ≡ c .number → ⊥) h
+others-keep : (s : State) → Good s → (q : ℕ) → valid q ≡ true → taken s q ≡ true → (h : List Call) → Each (λ c. q ≡ c .number → ⊥) h
     → Good (state s h) × (view (state s h) q ≡ view s q)
 others-keep s g q v t [] ne = (g, refl)
 others-keep s g q v t (c ∷ h) ne =
@@ -152,7 +152,7 @@ pub record Unpushed (args : List (List ℕ)) (a : ℕ) : Type 0 where
   pub no-pointer : within (argvAt ustktop args) (argvAt ustktop args + length (pointers (stringsAt ustktop args) args)) a ≡ false
 
 -- in a page of an image or its stack it holds its file byte, or 0
-pub start-byte : (s : State) → Good s → (n : ℕ) (image name bytes lengths : List ℕ) → outcome (answer s (call n (start image name bytes lengths))) ≡ accepted
+start-byte : (s : State) → Good s → (n : ℕ) (image name bytes lengths : List ℕ) → outcome (answer s (call n (start image name bytes lengths))) ≡ accepted
     → (a q : ℕ) → permAt (startPieces image) a ≡ some q → Unpushed (argsOf bytes lengths) a
     → readable (after s (call n (start image name bytes lengths))) n a ≡ some (fileByte (segmentsOf image) a)
 start-byte s g n image name bytes lengths e a q p out = start-reads s g n image name bytes lengths e a ∙ rw (out .no-pointer, out .no-string, p)
@@ -168,17 +168,11 @@ start-zero s g n image name bytes lengths e a q p out none-in = start-byte s g n
     go (x ∷ gs) h = let r = neither (inFile a x) (any (inFile a) gs) h in rw (r .0) (go gs (r .1))
 
 -- arguments lie in the top 4,096 bytes of the stack
-args-small : (args : List (List ℕ)) → argsError args ≡ 0 → stackSize (length (strings args)) (length args) ≤ argLimit
-args-small args e =
-    let large : Bool = stackSize (length (strings args)) (length args) above argLimit in
-    let p = past (λ (k : ℕ). k ≡ 0) (any (has 0) args) 32 (large ⇒ 33 else 0) e (λ z. omega arith) in
-    ltb-false _ _ (past (λ (k : ℕ). k ≡ 0) large 33 0 (p .1) (λ z. omega arith) .0)
-
 pub below-args : (s : State) → Good s → (n : ℕ) (image name bytes lengths : List ℕ) → outcome (answer s (call n (start image name bytes lengths))) ≡ accepted
     → (a : ℕ) → a < ustktop - argLimit → Unpushed (argsOf bytes lengths) a
 below-args s g n image name bytes lengths e a l =
     let args : List (List ℕ) = argsOf bytes lengths in
-    let small = args-small args (starts s g n image name bytes lengths e .args-fit) in
+    let small = args-means args (starts s g n image name bytes lengths e .args-fit) .1 in
     record { no-string = within-not _ _ a (λ x y. omega arith); no-pointer = within-not _ _ a (λ x y. omega arith) }
 
 -- ---- what fits is accepted

@@ -170,7 +170,7 @@ module _ (laws : Laws) (s : State) (b : Begin s) where
   good-after [] = record { types = b .types; sizes = b .sizes; book = b .book }
   good-after (c ∷ h) = laws .kept (state s h) (good-after h) c
 
-  abbrev pub Seen : List Call → Type 0
+  abbrev Seen : List Call → Type 0
   Seen h = (p : ℕ) → valid p ≡ true → view (state s h) p ≡ machine (lines s h p)
 
   pub heard : (h : List Call) → Seen h → (c : Call) → answer (state s h) c ≡ judge (machine (lines s h (c .number))) (free (state s h .store .book)) (taken (state s h)) c

@@ -19,7 +19,7 @@ use Rattle.history.proofs.Stored.{Stored, stored-pokes}
 use Rattle.history.proofs.Change.{Exact, Change, stored-self, change-store}
 
 -- a byte written over keeps its page's permission
-pub perm-write : (a : ℕ) (bs : List ℕ) (mem : Mem) (x : ℕ) → permIn (write a bs mem x) ≡ permIn (mem x)
+perm-write : (a : ℕ) (bs : List ℕ) (mem : Mem) (x : ℕ) → permIn (write a bs mem x) ≡ permIn (mem x)
 perm-write a bs mem x = go (within a (a + length bs) x)
   where
     over : (c : Option Cell) → permIn (rewrite (getD bs (x - a) 0) c) ≡ permIn c
@@ -30,7 +30,7 @@ perm-write a bs mem x = go (within a (a + length bs) x)
     go true = over (mem x)
     go false = refl
 
-pub exact-write : (m : Machine) → Exact m → (a : ℕ) (bs : List ℕ) → Exact (withMem m (write a bs (m .mem)))
+exact-write : (m : Machine) → Exact m → (a : ℕ) (bs : List ℕ) → Exact (withMem m (write a bs (m .mem)))
 exact-write m e a bs x = perm-write a bs (m .mem) x ∙ e x
 
 pub copy-change : (s : State) → Good s → (n : ℕ) → valid n ≡ true → (dst : ℕ) (bytes : List ℕ) → Change s (withStore s (pokes (s .store) n dst bytes)) n (withMem (view s n) (write dst bytes (view s n .mem)))

@@ -99,13 +99,13 @@ answer-is : (r : Left) (v : Val) → Is L.the-row r (v ∷ []) → Is N.the-row 
 answer-is r v is = LL.owed L.the-type L′.the-laws r _ is .1 .0
 
 -- the code from the call on: what it left is in local l, and the reference to the records in local j
-abbrev pub rest-of : Name → List Opd → ℕ → ℕ → Body
+abbrev rest-of : Name → List Opd → ℕ → ℕ → Body
 rest-of key ops j l =
     seq (call key ops (place l [])) (seq (assign (place j (deref P′.mir ∷ [])) (rvOpd (copy (place l (field 0 ∷ [])))))
     (seq (call #tell (copy (place l (field 1 ∷ [])) ∷ []) (place 0 [])) return))
 
 -- the locals that it writes are there
-abbrev pub Ready : List (Ty × ℕ) → List Cell → ℕ → ℕ → Ty → Val → Type 0
+abbrev Ready : List (Ty × ℕ) → List Cell → ℕ → ℕ → Ty → Val → Type 0
 Ready E cs j l τ p =
     At E cs l L′.mir empty × ((v : Val)
     → At E (with cs l (holds v)) l L′.mir (holds v) × At E (with cs l (holds v)) j τ (holds p) × At E (with cs l (holds v)) 0 O′.mir empty)

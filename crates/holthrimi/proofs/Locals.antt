@@ -31,7 +31,7 @@ pub data Cell : Type 0 where
   holds : Val → Cell
   out : Cell
 
-abbrev pub cell : List Cell → ℕ → Cell
+abbrev cell : List Cell → ℕ → Cell
 cell [] i = empty
 cell (c ∷ cs) zero = c
 cell (c ∷ cs) (suc i) = cell cs i
@@ -49,7 +49,7 @@ In (e ∷ E) zero = Unit {0}
 In (e ∷ E) (suc i) = In E i
 
 -- as `noLocal`, whose place is past the end
-abbrev pub nowhere : Ty × ℕ
+abbrev nowhere : Ty × ℕ
 nowhere = (tyEnum [] ttnil, zero)
 
 -- local i is of the type τ, and is as c says
@@ -68,7 +68,7 @@ abbrev pub Blocks : List Local → Type 0
 Blocks [] = Unit {0}
 Blocks (l ∷ ls) = ℕ × Blocks ls
 
-abbrev pub envOf : (ls : List Local) → Blocks ls → List (Ty × ℕ)
+abbrev envOf : (ls : List Local) → Blocks ls → List (Ty × ℕ)
 envOf [] bs = []
 envOf (l ∷ ls) bs = (typeOf l, bs .0) ∷ envOf ls (bs .1)
 
@@ -77,7 +77,7 @@ held [] vs = []
 held (l ∷ ls) [] = empty ∷ held ls []
 held (l ∷ ls) (v ∷ vs) = holds v ∷ held ls vs
 
-abbrev pub cellsOf : List Local → List Val → List Cell
+abbrev cellsOf : List Local → List Val → List Cell
 cellsOf [] vs = []
 cellsOf (l ∷ ls) vs = empty ∷ held ls vs
 
@@ -87,7 +87,7 @@ Fit ls [] = Unit {0}
 Fit [] (v ∷ vs) = ⊥
 Fit (l ∷ ls) (v ∷ vs) = (T (hasTy (typeOf l) v) × WT v) × Fit ls vs
 
-abbrev pub Starts : List Local → List Val → Type 0
+abbrev Starts : List Local → List Val → Type 0
 Starts [] vs = ⊥
 Starts (l ∷ ls) vs = Fit ls vs
 

@@ -108,7 +108,7 @@ module _ {n : ℕ} where
     all-tell [] = tt
     all-tell (p ∷ ps) = (p .tells κs, all-tell ps)
 
-    abbrev pub Fit : (ps : List (Par n)) → Denots (rows ps) → Type 0
+    abbrev Fit : (ps : List (Par n)) → Denots (rows ps) → Type 0
     Fit [] a = Unit {0}
     Fit (p ∷ ps) a = (T (hasTy (lone (p .slot .row κs .mir)) (p .val κs (a .0))) × WT (p .val κs (a .0))) × Fit ps (a .1)
 

@@ -95,7 +95,7 @@ pointer r = vptr (r .ptr .0) (r .ptr .1)
 abbrev pub slice : RefT (List ℕ) → Val
 slice r = sliceVal (r .ptr) (length (r .now))
 
-abbrev pub Lends : List (Ty × ℕ) → List Cell → ℕ → ℕ → ℕ → RefT (List ℕ) → Ty → Ty → Type 0
+abbrev Lends : List (Ty × ℕ) → List Cell → ℕ → ℕ → ℕ → RefT (List ℕ) → Ty → Ty → Type 0
 Lends E cs i t s r ρ σ =
     let one : List Cell = with cs t (holds (pointer r)) in
     At E cs i (sliceTy ρ) (holds (slice r)) × At E cs t σ empty × At E one i (sliceTy ρ) (holds (slice r))

@@ -1,4 +1,5 @@
--- What the exported functions that are no calls answer.
+-- What the exported functions that are no calls answer. C has no options, so that an optional bss is a mark and a range; beyond that
+-- they answer what the specification's `ibrk` and the plan say.
 -- Assumes nothing.
 use Prim.Native.Nat.{ℕ}
 use mathlib.Core.Bool.{Bool, not}

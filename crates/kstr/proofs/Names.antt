@@ -3,7 +3,7 @@ use Prim.Native.Nat.{ℕ, zero, suc, _+_, _-_, _≤_, _<_}
 use native.Mathlib.Omega.{arith}
 use native.Mathlib.Nat.{not-suc-le-zero}
 use mathlib.Core.Path.{_≡_, refl, sym, ap, _∙_}
-use mathlib.Core.Bool.{Bool, true, false, _||_}
+use mathlib.Core.Bool.{true, false, or-true}
 use mathlib.Core.List.{List, [], _∷_, _++_}
 use lib.Dec.{eqb}
 use lib.ListN.{length, take, drop, getD, replicate, length-append}
@@ -14,11 +14,6 @@ use Rattle.spec.specs.Name.{elem, cut, padded, kstrcpy}
 use Rattle.spec.specs.Frames.{put}
 use Rattle.spec.proofs.Bools.{split, clash}
 
-or-true : (b : Bool) → (b || true) ≡ true
-or-true true = refl
-or-true false = refl
-
--- a byte that stands in a list is found there
 has-at : (x : ℕ) (l : List ℕ) (i : ℕ) → i < length l → getD l i 0 ≡ x → has x l ≡ true
 has-at x [] i h e = absurd (not-suc-le-zero h)
 has-at x (y ∷ l) zero h e = rw (eq-eqb y x e)

@@ -1,4 +1,5 @@
-// Names that the kernel holds in fixed arrays, as r9's str.rs. A name is any bytes, where the Rust's are UTF-8.
+// Names that the kernel holds in fixed arrays, as r9's str.rs. A name is any bytes, where the Rust's are UTF-8; it is cut at the
+// same place.
 
 ghost use mathlib.Core.Path.{_≡_};
 ghost use Prim.Native.Nat.{_+_, _≤_, _<_};

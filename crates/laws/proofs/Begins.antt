@@ -2,7 +2,7 @@
 use Prim.Native.Nat.{ℕ, zero, suc, _+_, _*_, _-_, _≤_}
 use native.Mathlib.Omega.{arith}
 use mathlib.Core.Path.{_≡_, refl, sym, ap, _∙_}
-use mathlib.Core.Bool.{Bool, true, false, _&&_}
+use mathlib.Core.Bool.{_&&_, and-false}
 use mathlib.Core.List.{List}
 use lib.ListN.{length, getD, replicate, length-replicate}
 use borrow.Author.Tests.{eq-eqb}
@@ -16,21 +16,17 @@ use Rattle.spec.specs.World.{State}
 use Rattle.spec.specs.History.{Begin}
 use Rattle.spec.specs.declared.Proc.{Proc}
 use Rattle.spec.specs.declared.Procs.{Procs}
+use Rattle.laws.proofs.Lists.{getD-same}
 use Rattle.laws.proofs.Record.{typed-whole}
-use Rattle.laws.proofs.Pieces.{zero-pieces}
+use Rattle.laws.proofs.OwnPieces.{zero-pieces}
 use Rattle.laws.proofs.Facts.{facts-sound}
 
 -- n free frames with any bytes, and no process
-abbrev pub noProcs : Procs
+abbrev noProcs : Procs
 noProcs = record { all = replicate 16 zeroProc }
 
 abbrev pub blank : ℕ → List ℕ → State
 blank n frames = record { store = record { frames = frames; book = replicate n 0 }; procs = noProcs }
-
-getD-same : {A : Type 0} (n k : ℕ) (d : A) → getD (replicate n d) k d ≡ d
-getD-same zero k d = refl
-getD-same (suc n) zero d = refl
-getD-same (suc n) (suc k) d = getD-same n k d
 
 zero-book : (n : ℕ) → Sound (replicate n 0) noProcs
 zero-book n = record {
@@ -50,9 +46,5 @@ blank-begins n frames l h e = record {
       and-test (length frames is 4096 * length (replicate n 0)) (within 1 (maxFrames + 1) (length (replicate n 0)))
       (eq-eqb (length frames) (4096 * length (replicate n 0)) (omega arith)) (within-test 1 (maxFrames + 1) (length (replicate n 0)) (omega arith) (omega arith));
   book = facts-sound (replicate n 0) noProcs (typed-whole (blank n frames) refl) (zero-book n);
-  nobody = λ p. ap (λ (x : Proc). valid p && lives x) (getD-same 16 (p - 1) zeroProc) ∙ never (valid p);
+  nobody = λ p. ap (λ (x : Proc). valid p && lives x) (getD-same 16 (p - 1) zeroProc) ∙ and-false (valid p);
 }
-  where
-    never : (b : Bool) → (b && false) ≡ false
-    never true = refl
-    never false = refl

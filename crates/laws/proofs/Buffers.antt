@@ -17,7 +17,7 @@ use Rattle.spec.specs.declared.Answer.{Answer}
 use Rattle.spec.specs.declared.Answer.the-variants.{Value, Done, Refused, Ended}
 
 -- the string copy's 35
-abbrev pub strayString : Ask → Answer → Bool
+abbrev strayString : Ask → Answer → Bool
 strayString (start image name bytes lengths) a = false
 strayString (replace image name argv) a = false
 strayString (push pc top bytes lengths) a = false
@@ -115,7 +115,7 @@ string-copied mem (d ∷ dst) a =
     (λ q. rw q)
 
 -- and the rest of the buffer is unchanged
-pub string-rest : (mem : Mem) (dst : List ℕ) (a : ℕ) → drop (copyStr mem dst a .size) (copyStr mem dst a .buffer) ≡ drop (copyStr mem dst a .size) dst
+string-rest : (mem : Mem) (dst : List ℕ) (a : ℕ) → drop (copyStr mem dst a .size) (copyStr mem dst a .buffer) ≡ drop (copyStr mem dst a .size) dst
 string-rest mem [] a = refl
 string-rest mem (d ∷ dst) a =
     split (userRangeOk mem false a 1)

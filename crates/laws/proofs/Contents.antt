@@ -10,6 +10,7 @@ use Rattle.spec.specs.Numbers.{pageDown, bytesFrom, pageBytes, zeroPage}
 use Rattle.spec.specs.Book.{frameOf, bookPerm}
 use Rattle.spec.specs.Frames.{Store, Mem, cellIn, memOf, frameBytes}
 use Rattle.spec.specs.Access.{byteOf}
+use Rattle.laws.proofs.Lists.{getD-same}
 use Rattle.laws.proofs.Frame.{Fits, frame-found, frame-perm, frame-unmapped, perm-same}
 
 -- ---- by a rule, and zeros
@@ -38,12 +39,7 @@ length-zero a = length-replicate {A = ℕ} 4096 0
 
 pub zero-byte : (a i : ℕ) → getD (zeroPage a) i 0 ≡ 0
 unfolding zeroPage
-zero-byte a i = zeros 4096 i
-  where
-    zeros : (k i : ℕ) → _≡_ {A = ℕ} (getD (replicate k 0) i 0) 0
-    zeros zero i = refl
-    zeros (suc k) zero = refl
-    zeros (suc k) (suc i) = zeros k i
+zero-byte a i = getD-same 4096 i 0
 
 -- ---- in a frame
 
@@ -63,7 +59,7 @@ length-frame m n page q fits e =
     ∙ length-take-le 4096 (drop (4096 * r .0) (m .frames)) (omega (arith, frame-found (m .book) n page (r .0) (r .1) .0))
 
 -- a page's bytes are those that the process sees at its addresses
-pub frame-page : (m : Store) (n page q : ℕ) → Fits m → page % 4096 ≡ 0 → bookPerm (m .book) n page ≡ some q
+frame-page : (m : Store) (n page q : ℕ) → Fits m → page % 4096 ≡ 0 → bookPerm (m .book) n page ≡ some q
     → frameBytes (m .frames) (frameOf (m .book) n page) ≡ pageBytes (λ a. byteOf (memOf m n a)) page
 frame-page m n page q fits z e =
     let l : length (frameBytes (m .frames) (frameOf (m .book) n page)) ≡ 4096 = length-frame m n page q fits e in

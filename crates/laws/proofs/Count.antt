@@ -3,7 +3,7 @@ use Prim.Native.Nat.{ℕ, zero, suc, _+_, _*_, _-_, _/_, _%_, _≤_, _<_}
 use native.Mathlib.Omega.{arith}
 use native.Mathlib.Nat.{not-suc-le-zero, le-of-suc-le-suc, suc-inj}
 use mathlib.Core.Path.{_≡_, refl, sym, ap, ap₂, _∙_}
-use mathlib.Core.Bool.{Bool, true, false, not, _&&_, _||_, and-assoc}
+use mathlib.Core.Bool.{Bool, true, false, not, _&&_, _||_}
 use mathlib.Core.Option.{Option, none, some}
 use mathlib.Core.List.{List, [], _∷_, map}
 use lib.Dec.{eqb}
@@ -13,10 +13,10 @@ use Rattle.spec.specs.Tests.{_is_, _isnt_, within, _⇒_else_}
 use Rattle.spec.specs.Book.{pageOf, ownerOf, permOf, owns, frameOf, permIn, bookPerm, free, inSegment, permAt, pageCount}
 use Rattle.spec.specs.Frames.{Store, release}
 use Rattle.spec.specs.declared.UserSegment.{UserSegment}
-use Rattle.spec.proofs.Bools.{split, clash, both, not-true, within-means, within-test}
+use Rattle.spec.proofs.Bools.{split, clash, both, not-true, within-means, within-test, within-not}
 use Rattle.laws.proofs.Lists.{by-order}
-use Rattle.laws.proofs.Frame.{owns-means, owns-test, frame-found, frame-some, frame-perm, Once, within-not}
-use Rattle.laws.proofs.Apart.{Pieces, perm-tail}
+use Rattle.laws.proofs.Frame.{owns-means, owns-test, frame-found, frame-some, frame-perm, Once}
+use Rattle.laws.proofs.Pieces.{Pieces, perm-tail}
 
 -- ---- counts
 
@@ -25,18 +25,18 @@ count t [] = 0
 count t (w ∷ ws) = t w ⇒ count t ws + 1 else count t ws
 
 -- the same count by a test that agrees at each word
-pub count-same : (t u : ℕ → Bool) (book : List ℕ) → ((k : ℕ) → k < length book → t (getD book k 0) ≡ u (getD book k 0)) → count t book ≡ count u book
+count-same : (t u : ℕ → Bool) (book : List ℕ) → ((k : ℕ) → k < length book → t (getD book k 0) ≡ u (getD book k 0)) → count t book ≡ count u book
 count-same t u [] h = refl
 count-same t u (w ∷ ws) h =
     let e = count-same t u ws (λ k l. h (suc k) (omega arith)) in
     ap₂ (λ (b : Bool) (k : ℕ). b ⇒ k + 1 else k) (h 0 (omega arith)) e
 
-pub count-none : (t : ℕ → Bool) (book : List ℕ) → ((k : ℕ) → k < length book → t (getD book k 0) ≡ false) → count t book ≡ 0
+count-none : (t : ℕ → Bool) (book : List ℕ) → ((k : ℕ) → k < length book → t (getD book k 0) ≡ false) → count t book ≡ 0
 count-none t [] h = refl
 count-none t (w ∷ ws) h = rw (h 0 (omega arith)) (count-none t ws (λ k l. h (suc k) (omega arith)))
 
 -- one word alone passes
-pub count-one : (t : ℕ → Bool) (book : List ℕ) (k : ℕ) → k < length book → t (getD book k 0) ≡ true → ((j : ℕ) → j < length book → t (getD book j 0) ≡ true → j ≡ k) → count t book ≡ 1
+count-one : (t : ℕ → Bool) (book : List ℕ) (k : ℕ) → k < length book → t (getD book k 0) ≡ true → ((j : ℕ) → j < length book → t (getD book j 0) ≡ true → j ≡ k) → count t book ≡ 1
 count-one t [] k l e h = absurd (not-suc-le-zero l)
 count-one t (w ∷ ws) zero l e h =
     let z : count t ws ≡ 0 = count-none t ws (λ k x. split (t (getD ws k 0)) (λ q. let y : suc k ≡ 0 = h (suc k) (omega arith) q in absurd (omega arith)) (λ q. q)) in
@@ -46,7 +46,7 @@ count-one t (w ∷ ws) (suc k) l e h =
     (count-one t ws k (le-of-suc-le-suc l) e (λ j x y. suc-inj (h (suc j) (omega arith) y)))
 
 -- two tests that no word passes both
-pub count-or : (t u : ℕ → Bool) (book : List ℕ) → ((k : ℕ) → k < length book → t (getD book k 0) ≡ true → u (getD book k 0) ≡ false) → count (λ w. t w || u w) book ≡ count t book + count u book
+count-or : (t u : ℕ → Bool) (book : List ℕ) → ((k : ℕ) → k < length book → t (getD book k 0) ≡ true → u (getD book k 0) ≡ false) → count (λ w. t w || u w) book ≡ count t book + count u book
 count-or t u [] h = omega arith
 count-or t u (w ∷ ws) h =
     let e = count-or t u ws (λ k l. h (suc k) (omega arith)) in
@@ -77,11 +77,11 @@ free-release m t = go (m .book)
 -- ---- the frames of pieces
 
 -- a word of an owner whose page passes a test
-abbrev pub ownsIn : ℕ → (ℕ → Bool) → ℕ → Bool
+abbrev ownsIn : ℕ → (ℕ → Bool) → ℕ → Bool
 ownsIn n t w = w isnt 0 && ownerOf w is n && t (pageOf w)
 
 -- a page has one frame
-pub count-page : (book : List ℕ) (n page k : ℕ) → Once book → frameOf book n page ≡ some k → count (owns n page) book ≡ 1
+count-page : (book : List ℕ) (n page k : ℕ) → Once book → frameOf book n page ≡ some k → count (owns n page) book ≡ 1
 count-page book n page k once e =
     let r = frame-found book n page k e in
     count-one (owns n page) book k (r .0) (owns-test n page (getD book k 0) (r .1)) (λ j l q. once n page j k (owns-means n page (getD book j 0) q) (r .1))
@@ -113,7 +113,7 @@ count-split book n t u v e d =
     ∙ count-or (ownsIn n u) (ownsIn n v) book (λ k l q. ownsIn-not n v (getD book k 0) (d (pageOf (getD book k 0)) (omega arith) (ownsIn-means n u (getD book k 0) q)))
 
 -- k pages in a row, each in the book, have k frames
-pub count-run : (book : List ℕ) (n a k : ℕ) → Once book → a % 4096 ≡ 0 → ((x : ℕ) → x % 4096 ≡ 0 → a ≤ x → x < a + 4096 * k → (j : ℕ) × (frameOf book n x ≡ some j))
+count-run : (book : List ℕ) (n a k : ℕ) → Once book → a % 4096 ≡ 0 → ((x : ℕ) → x % 4096 ≡ 0 → a ≤ x → x < a + 4096 * k → (j : ℕ) × (frameOf book n x ≡ some j))
     → count (ownsIn n (within a (a + 4096 * k))) book ≡ k
 count-run book n a zero once z h =
     count-none (ownsIn n (within a (a + 4096 * 0))) book (λ k l. ownsIn-not n (within a (a + 4096 * 0)) (getD book k 0) (within-not a (a + 4096 * 0) (pageOf (getD book k 0)) (λ x y. omega arith)))
@@ -138,7 +138,7 @@ count-run book n a (suc k) once z h =
     off page e q = let s : page ≡ a = eqb-true page a q in within-not (a + 4096) (a + 4096 + 4096 * k) page (λ l u. omega arith)
 
 -- a range of whole pages, each in the book
-pub count-range : (book : List ℕ) (n low high : ℕ) → Once book → low % 4096 ≡ 0 → high % 4096 ≡ 0 → ((x : ℕ) → x % 4096 ≡ 0 → within low high x ≡ true → (j : ℕ) × (frameOf book n x ≡ some j))
+count-range : (book : List ℕ) (n low high : ℕ) → Once book → low % 4096 ≡ 0 → high % 4096 ≡ 0 → ((x : ℕ) → x % 4096 ≡ 0 → within low high x ≡ true → (j : ℕ) × (frameOf book n x ≡ some j))
     → count (ownsIn n (within low high)) book ≡ (high - low) / 4096
 count-range book n low high once l h each =
     by-order low high
@@ -150,12 +150,12 @@ count-range book n low high once l h each =
     let e : (high - low) / 4096 ≡ 0 = omega arith in
     count-none (ownsIn n (within low high)) book (λ k x. ownsIn-not n (within low high) (getD book k 0) (within-not low high (pageOf (getD book k 0)) (λ y z. omega arith))) ∙ sym e)
 
-abbrev pub isSome : Option ℕ → Bool
+abbrev isSome : Option ℕ → Bool
 isSome none = false
 isSome (some q) = true
 
 -- pieces whose pages are each in the book
-pub count-pieces : (book : List ℕ) (n : ℕ) (gs : List UserSegment) → Once book → Pieces gs → ((a q : ℕ) → a % 4096 ≡ 0 → permAt gs a ≡ some q → (j : ℕ) × (frameOf book n a ≡ some j))
+count-pieces : (book : List ℕ) (n : ℕ) (gs : List UserSegment) → Once book → Pieces gs → ((a q : ℕ) → a % 4096 ≡ 0 → permAt gs a ≡ some q → (j : ℕ) × (frameOf book n a ≡ some j))
     → count (ownsIn n (λ page. isSome (permAt gs page))) book ≡ pageCount gs
 count-pieces book n [] once p h = count-none (ownsIn n (λ page. false)) book (λ k l. ownsIn-not n (λ page. false) (getD book k 0) refl)
 count-pieces book n (g ∷ gs) once p h =
@@ -168,7 +168,7 @@ count-pieces book n (g ∷ gs) once p h =
     cut false o = refl
 
 -- an owner whose pages are exactly those of pieces has as many frames as they have pages
-pub count-exact : (book : List ℕ) (n : ℕ) (gs : List UserSegment) → Once book → Pieces gs → ((page : ℕ) → page % 4096 ≡ 0 → bookPerm book n page ≡ permAt gs page)
+count-exact : (book : List ℕ) (n : ℕ) (gs : List UserSegment) → Once book → Pieces gs → ((page : ℕ) → page % 4096 ≡ 0 → bookPerm book n page ≡ permAt gs page)
     → count (λ w. w isnt 0 && ownerOf w is n) book ≡ pageCount gs
 count-exact book n gs once p exact =
     count-same (λ w. w isnt 0 && ownerOf w is n) (ownsIn n (λ page. isSome (permAt gs page))) book (λ k l. same k)
@@ -190,12 +190,3 @@ count-exact book n gs once p exact =
 pub free-release-own : (m : Store) (n : ℕ) (gs : List UserSegment) → Once (m .book) → Pieces gs → ((page : ℕ) → page % 4096 ≡ 0 → bookPerm (m .book) n page ≡ permAt gs page)
     → free (release m (λ w. ownerOf w is n) .book) ≡ free (m .book) + pageCount gs
 free-release-own m n gs once p exact = free-release m (λ w. ownerOf w is n) ∙ ap (λ (k : ℕ). free (m .book) + k) (count-exact (m .book) n gs once p exact)
-
-pub free-release-range : (m : Store) (n low high : ℕ) → Once (m .book) → low % 4096 ≡ 0 → high % 4096 ≡ 0 → ((x : ℕ) → x % 4096 ≡ 0 → within low high x ≡ true → (j : ℕ) × (frameOf (m .book) n x ≡ some j))
-    → free (release m (λ w. ownerOf w is n && within low high (pageOf w)) .book) ≡ free (m .book) + (high - low) / 4096
-free-release-range m n low high once l h each =
-    free-release m (λ w. ownerOf w is n && within low high (pageOf w))
-    ∙ ap (λ (k : ℕ). free (m .book) + k)
-    (count-same (λ w. w isnt 0 && (ownerOf w is n && within low high (pageOf w))) (ownsIn n (within low high)) (m .book)
-    (λ k x. let w : ℕ = getD (m .book) k 0 in sym (and-assoc (w isnt 0) (ownerOf w is n) (within low high (pageOf w))))
-    ∙ count-range (m .book) n low high once l h each)

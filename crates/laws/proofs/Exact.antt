@@ -12,13 +12,13 @@ use Rattle.spec.specs.Tests.{_is_, _isnt_, all}
 use Rattle.spec.specs.Book.{pageOf, ownerOf, permOf, frameOf, permIn, bookPerm, inSegment, permAt}
 use Rattle.spec.specs.Sound.{once, gives, booked, recorded}
 use Rattle.spec.specs.declared.UserSegment.{UserSegment}
-use Rattle.laws.proofs.Pieces.{perm-here, perm-there, aligned, aligned-means, Apart}
+use Rattle.laws.proofs.Pieces.{Pieces, perm-here, perm-there}
 use Rattle.laws.proofs.Frame.{Once, frame-is, frame-found}
 use Rattle.laws.proofs.Owned.{in-range}
 
 -- ---- the book has the pages of pieces, and no others
 
-pub gives-means : (o : Option ℕ) (q : ℕ) → gives o q ≡ true → o ≡ some q
+gives-means : (o : Option ℕ) (q : ℕ) → gives o q ≡ true → o ≡ some q
 gives-means none q e = clash false e refl
 gives-means (some x) q e = ap some (eqb-true x q e)
 
@@ -28,44 +28,38 @@ gives-test o q e = rw e (eq-eqb q q refl)
 pub some-none : {P : Type 0} (o : Option ℕ) (q : ℕ) → o ≡ some q → o ≡ none → P
 some-none o q e f = absurd (let w : some q ≡ none = sym e ∙ f in let z : _≡_ {A = ℕ} 0 1 = cc in omega arith)
 
-pub booked-at : (book : List ℕ) (n : ℕ) (g : UserSegment) (a : ℕ) → aligned g ≡ true → booked book n g ≡ true → inSegment a g ≡ true → a % 4096 ≡ 0 → bookPerm book n a ≡ some (g .perm)
-booked-at book n g a al bk i z =
-    let p = aligned-means g al in
+booked-at : (book : List ℕ) (n : ℕ) (g : UserSegment) (a : ℕ) → g .range .start % 4096 ≡ 0 → g .range .end % 4096 ≡ 0 → booked book n g ≡ true → inSegment a g ≡ true → a % 4096 ≡ 0 → bookPerm book n a ≡ some (g .perm)
+booked-at book n g a start end bk i z =
     let w = within-means (g .range .start) (g .range .end) a i in
-    let e : g .range .start + 4096 * ((a - g .range .start) / 4096) ≡ a = omega (arith, p .0, w .0) in
-    let t = below-at ((g .range .end - g .range .start) / 4096) (λ j. gives (bookPerm book n (g .range .start + 4096 * j)) (g .perm)) bk ((a - g .range .start) / 4096) (omega (arith, p .0, p .1, w .0, w .1)) in
+    let e : g .range .start + 4096 * ((a - g .range .start) / 4096) ≡ a = omega (arith, w .0) in
+    let t = below-at ((g .range .end - g .range .start) / 4096) (λ j. gives (bookPerm book n (g .range .start + 4096 * j)) (g .perm)) bk ((a - g .range .start) / 4096) (omega (arith, w .0, w .1)) in
     ap (bookPerm book n) (sym e) ∙ gives-means _ (g .perm) t
 
 -- the pages of pieces stand in the book, with their permissions
-pub in-book : (book : List ℕ) (n : ℕ) (gs : List UserSegment) → all aligned gs ≡ true → all (booked book n) gs ≡ true → (a q : ℕ) → a % 4096 ≡ 0 → permAt gs a ≡ some q → bookPerm book n a ≡ some q
-in-book book n [] al bk a q z e = some-none none q e refl
-in-book book n (g ∷ gs) al bk a q z e =
-    let p = both (aligned g) (all aligned gs) al in
+in-book : (book : List ℕ) (n : ℕ) (gs : List UserSegment) → Pieces gs → all (booked book n) gs ≡ true → (a q : ℕ) → a % 4096 ≡ 0 → permAt gs a ≡ some q → bookPerm book n a ≡ some q
+in-book book n [] p bk a q z e = some-none none q e refl
+in-book book n (g ∷ gs) p bk a q z e =
     let r = both (booked book n g) (all (booked book n) gs) bk in
     split (inSegment a g)
-    (λ i. booked-at book n g a (p .0) (r .0) i z ∙ sym (perm-here g gs a i) ∙ e)
+    (λ i. booked-at book n g a (p .0 .start) (p .0 .end) (r .0) i z ∙ sym (perm-here g gs a i) ∙ e)
     (λ i. in-book book n gs (p .1) (r .1) a q z (sym (perm-there g gs a i) ∙ e))
 
-pub booked-test : (book : List ℕ) (n : ℕ) (gs : List UserSegment) → all aligned gs ≡ true → Apart gs → ((a q : ℕ) → a % 4096 ≡ 0 → permAt gs a ≡ some q → bookPerm book n a ≡ some q) → all (booked book n) gs ≡ true
-booked-test book n [] al apart f = refl
-booked-test book n (g ∷ gs) al apart f =
+booked-test : (book : List ℕ) (n : ℕ) (gs : List UserSegment) → Pieces gs → ((a q : ℕ) → a % 4096 ≡ 0 → permAt gs a ≡ some q → bookPerm book n a ≡ some q) → all (booked book n) gs ≡ true
+booked-test book n [] p f = refl
+booked-test book n (g ∷ gs) p f =
     and-test (booked book n g) (all (booked book n) gs)
     (below-test ((g .range .end - g .range .start) / 4096) (λ j. gives (bookPerm book n (g .range .start + 4096 * j)) (g .perm)) (λ j l.
-    let m = aligned-means g (ends .0) in
     let a : ℕ = g .range .start + 4096 * j in
-    gives-test (bookPerm book n a) (g .perm) (f a (g .perm) (omega (arith, m .0)) (perm-here g gs a (within-test (g .range .start) (g .range .end) a (omega arith) (omega (arith, m .0, m .1)))))))
-    (booked-test book n gs (ends .1) (apart .1) (λ a q z e. f a q z (perm-there g gs a (elsewhere a q e) ∙ e)))
+    gives-test (bookPerm book n a) (g .perm) (f a (g .perm) (omega (arith, p .0 .start)) (perm-here g gs a (within-test (g .range .start) (g .range .end) a (omega arith) (omega (arith, p .0 .start, p .0 .end)))))))
+    (booked-test book n gs (p .1) (λ a q z e. f a q z (perm-there g gs a (elsewhere a q e) ∙ e)))
   where
-    ends : (aligned g ≡ true) × (all aligned gs ≡ true)
-    ends = both (aligned g) (all aligned gs) al
-
     elsewhere : (a q : ℕ) → permAt gs a ≡ some q → inSegment a g ≡ false
-    elsewhere a q e = split (inSegment a g) (λ i. some-none (permAt gs a) q e (apart .0 a i)) (λ i. i)
+    elsewhere a q e = split (inSegment a g) (λ i. some-none (permAt gs a) q e (p .0 .apart a i)) (λ i. i)
 
 unrecorded : (a b c : Bool) → (a || not b || c) ≡ true → a ≡ false → b ≡ true → c ≡ true
 unrecorded a b c e f g = rw (f, g) at e
 
-pub recorded-at : (book : List ℕ) (n : ℕ) (gs : List UserSegment) → all (recorded n gs) book ≡ true → (k : ℕ) → ¬ (getD book k 0 ≡ 0) → ownerOf (getD book k 0) ≡ n → permAt gs (pageOf (getD book k 0)) ≡ some (permOf (getD book k 0))
+recorded-at : (book : List ℕ) (n : ℕ) (gs : List UserSegment) → all (recorded n gs) book ≡ true → (k : ℕ) → ¬ (getD book k 0 ≡ 0) → ownerOf (getD book k 0) ≡ n → permAt gs (pageOf (getD book k 0)) ≡ some (permOf (getD book k 0))
 recorded-at book n gs e k nz o =
     let w : ℕ = getD book k 0 in
     gives-means _ (permOf w) (unrecorded (w is 0) (ownerOf w is n) (gives (permAt gs (pageOf w)) (permOf w)) (all-at (recorded n gs) 0 book e k (in-range book k nz)) (ne-eqb w 0 nz) (eq-eqb (ownerOf w) n o))
@@ -79,13 +73,13 @@ recorded-test book n gs f = all-test (recorded n gs) 0 book (λ k l. one (getD b
         gives-test (permAt gs (pageOf w)) (permOf w) (f (eqb-false w 0 (p .0)) (eqb-true (ownerOf w) n (un-not (ownerOf w is n) (p .1)))))
 
 -- both: a process's pages are exactly those of its pieces, with those permissions
-pub exact-means : (book : List ℕ) (n : ℕ) (gs : List UserSegment) → all aligned gs ≡ true → all (booked book n) gs ≡ true → all (recorded n gs) book ≡ true
+pub exact-means : (book : List ℕ) (n : ℕ) (gs : List UserSegment) → Pieces gs → all (booked book n) gs ≡ true → all (recorded n gs) book ≡ true
     → (page : ℕ) → page % 4096 ≡ 0 → bookPerm book n page ≡ permAt gs page
-exact-means book n gs al bk rc page z = go (frameOf book n page) refl (permAt gs page) refl
+exact-means book n gs p bk rc page z = go (frameOf book n page) refl (permAt gs page) refl
   where
     go : (f : Option ℕ) → frameOf book n page ≡ f → (o : Option ℕ) → permAt gs page ≡ o → bookPerm book n page ≡ permAt gs page
     go none e none h = ap (permIn book) e ∙ sym h
-    go none e (some q) h = in-book book n gs al bk page q z h ∙ sym h
+    go none e (some q) h = in-book book n gs p bk page q z h ∙ sym h
     go (some k) e r h =
         let o = frame-found book n page k e .1 in
         ap (permIn book) e ∙ sym (recorded-at book n gs rc k (o .used) (o .owner)) ∙ ap (permAt gs) (o .page)
@@ -95,5 +89,5 @@ exact-recorded book n gs once x =
     recorded-test book n gs (λ k nz o.
     sym (x (pageOf (getD book k 0)) (omega arith)) ∙ ap (permIn book) (frame-is book n (pageOf (getD book k 0)) k once (record { used = nz; owner = o; page = refl })))
 
-pub exact-booked : (book : List ℕ) (n : ℕ) (gs : List UserSegment) → all aligned gs ≡ true → Apart gs → ((page : ℕ) → page % 4096 ≡ 0 → bookPerm book n page ≡ permAt gs page) → all (booked book n) gs ≡ true
-exact-booked book n gs al apart x = booked-test book n gs al apart (λ a q z e. x a z ∙ e)
+pub exact-booked : (book : List ℕ) (n : ℕ) (gs : List UserSegment) → Pieces gs → ((page : ℕ) → page % 4096 ≡ 0 → bookPerm book n page ≡ permAt gs page) → all (booked book n) gs ≡ true
+exact-booked book n gs p x = booked-test book n gs p (λ a q z e. x a z ∙ e)

@@ -16,21 +16,22 @@ use Rattle.spec.specs.declared.Proc.{Proc}
 use Rattle.spec.specs.declared.Procs.{Procs}
 use Rattle.laws.proofs.Record.{WholeProc, Whole, dead-zero}
 use Rattle.laws.proofs.Shape.{segments-shape, shape-segments}
-use Rattle.laws.proofs.Pieces.{perm-page, aligned, shape-aligned, shape-apart, zero-pieces}
+use Rattle.laws.proofs.Pieces.{Pieces, perm-page}
+use Rattle.laws.proofs.OwnPieces.{own-pieces, zero-apart, zero-pieces}
 use Rattle.laws.proofs.Frame.{Once, once-means, once-words, frame-found}
 use Rattle.laws.proofs.Owned.{valid-means, valid-test, word-means, word-test, in-range, once-tells, once-test}
 use Rattle.laws.proofs.Exact.{some-none, exact-means, exact-recorded, exact-booked}
 
 -- ---- one process
 
-abbrev pub Exact : List ℕ → ℕ → Proc → Type 0
+abbrev Exact : List ℕ → ℕ → Proc → Type 0
 Exact book n p = (page : ℕ) → page % 4096 ≡ 0 → bookPerm book n page ≡ permAt (piecesOf p) page
 
 abbrev pub Shaped : Proc → Type 0
 Shaped p = (image : List UserSegment) × Shape p image
 
 -- the tests of a living process, and of a dead one
-pub living-parts : (book : List ℕ) (n : ℕ) (p : Proc) → procOk book n p ≡ true → lives p ≡ true
+living-parts : (book : List ℕ) (n : ℕ) (p : Proc) → procOk book n p ≡ true → lives p ≡ true
     → (segmentsOk utzero (p .bss) (p .segments) ≡ true) × (all (booked book n) (piecesOf p) ≡ true) × (all (recorded n (piecesOf p)) book ≡ true)
 living-parts book n p e l =
     let ok = living-ok (lives p) (segmentsOk utzero (p .bss) (p .segments) && all (booked book n) (piecesOf p) && all (recorded n (piecesOf p)) book) (all (recorded n []) book) e l in
@@ -38,33 +39,33 @@ living-parts book n p e l =
     let y = both (segmentsOk utzero (p .bss) (p .segments)) (all (booked book n) (piecesOf p)) (x .0) in
     (y .0, y .1, x .1)
 
-pub dead-parts : (book : List ℕ) (n : ℕ) (p : Proc) → procOk book n p ≡ true → lives p ≡ false → all (recorded n []) book ≡ true
+dead-parts : (book : List ℕ) (n : ℕ) (p : Proc) → procOk book n p ≡ true → lives p ≡ false → all (recorded n []) book ≡ true
 dead-parts book n p e l = dead-ok (lives p) (segmentsOk utzero (p .bss) (p .segments) && all (booked book n) (piecesOf p) && all (recorded n (piecesOf p)) book) (all (recorded n []) book) e l
 
-pub proc-shape : (book : List ℕ) (n : ℕ) (p : Proc) → WholeProc p → procOk book n p ≡ true → lives p ≡ true → Shaped p
+proc-shape : (book : List ℕ) (n : ℕ) (p : Proc) → WholeProc p → procOk book n p ≡ true → lives p ≡ true → Shaped p
 proc-shape book n p w e l = segments-shape p (w .segments) (living-parts book n p e l .0)
 
-pub proc-exact : (book : List ℕ) (n : ℕ) (p : Proc) → WholeProc p → procOk book n p ≡ true → Exact book n p
+proc-exact : (book : List ℕ) (n : ℕ) (p : Proc) → WholeProc p → procOk book n p ≡ true → Exact book n p
 proc-exact book n p w e page z =
     split (lives p)
     (λ l.
     let t = living-parts book n p e l in
     let s = proc-shape book n p w e l in
-    exact-means book n (piecesOf p) (shape-aligned p (s .0) (s .1)) (t .1) (t .2) page z)
-    (λ l. exact-means book n [] refl refl (dead-parts book n p e l) page z ∙ sym (zero-pieces page) ∙ ap (λ (x : Proc). permAt (piecesOf x) page) (sym (dead-zero p w l)))
+    exact-means book n (piecesOf p) (own-pieces p (s .0) (s .1)) (t .1) (t .2) page z)
+    (λ l. exact-means book n [] tt refl (dead-parts book n p e l) page z ∙ sym (zero-pieces page) ∙ ap (λ (x : Proc). permAt (piecesOf x) page) (sym (dead-zero p w l)))
 
-pub proc-test : (book : List ℕ) (n : ℕ) (p : Proc) → WholeProc p → Once book → (lives p ≡ true → Shaped p) → Exact book n p → procOk book n p ≡ true
+proc-test : (book : List ℕ) (n : ℕ) (p : Proc) → WholeProc p → Once book → (lives p ≡ true → Shaped p) → Exact book n p → procOk book n p ≡ true
 proc-test book n p w once shape x =
     split (lives p)
     (λ l.
     let s = shape l in
-    rw (l, shape-segments p (s .0) (s .1), exact-booked book n (piecesOf p) (shape-aligned p (s .0) (s .1)) (shape-apart p (s .0) (s .1)) x) (exact-recorded book n (piecesOf p) once x))
+    rw (l, shape-segments p (s .0) (s .1), exact-booked book n (piecesOf p) (own-pieces p (s .0) (s .1)) x) (exact-recorded book n (piecesOf p) once x))
     (λ l. rw l (exact-recorded book n [] once (λ page z. x page z ∙ ap (λ (y : Proc). permAt (piecesOf y) page) (dead-zero p w l) ∙ zero-pieces page)))
 
 -- ---- the whole book
 
 -- the three parts of the test
-pub sound-parts : (book : List ℕ) (ps : Procs) → soundBook book ps ≡ true
+sound-parts : (book : List ℕ) (ps : Procs) → soundBook book ps ≡ true
     → (all wordOk book ≡ true) × (once book ≡ true) × ((n : ℕ) → valid n ≡ true → procOk book n (procAt ps n) ≡ true)
 unfolding soundBook
 sound-parts book ps e =
@@ -107,16 +108,16 @@ facts-sound book ps w s =
 
 -- ---- what a sound book says of one process
 
--- a living process's pieces are aligned, and so are a dead one's, which has none but an empty bss
-pub sound-aligned : (book : List ℕ) (ps : Procs) → Whole ps → Sound book ps → (n : ℕ) → valid n ≡ true → all aligned (piecesOf (procAt ps n)) ≡ true
-sound-aligned book ps w s n v =
+-- a living process's pieces are aligned and disjoint, and so are a dead one's, which has none but an empty bss
+sound-pieces : (book : List ℕ) (ps : Procs) → Whole ps → Sound book ps → (n : ℕ) → valid n ≡ true → Pieces (piecesOf (procAt ps n))
+sound-pieces book ps w s n v =
     split (lives (procAt ps n))
-    (λ l. let h = s .shape n v l in shape-aligned (procAt ps n) (h .0) (h .1))
-    (λ l. ap (λ (p : Proc). all aligned (piecesOf p)) (dead-zero (procAt ps n) (w .each (n - 1)) l))
+    (λ l. let h = s .shape n v l in own-pieces (procAt ps n) (h .0) (h .1))
+    (λ l. rw (dead-zero (procAt ps n) (w .each (n - 1)) l) zero-apart)
 
 -- the book gives each address's page what the record gives the address
 pub sound-perm : (book : List ℕ) (ps : Procs) → Whole ps → Sound book ps → (n a : ℕ) → valid n ≡ true → bookPerm book n (pageDown a) ≡ permAt (piecesOf (procAt ps n)) a
-sound-perm book ps w s n a v = s .exact n (pageDown a) v (omega arith) ∙ sym (perm-page (piecesOf (procAt ps n)) a (sound-aligned book ps w s n v))
+sound-perm book ps w s n a v = s .exact n (pageDown a) v (omega arith) ∙ perm-page (piecesOf (procAt ps n)) a (sound-pieces book ps w s n v)
 
 -- a dead process owns nothing
 pub dead-frame : (book : List ℕ) (ps : Procs) → Whole ps → Sound book ps → (n : ℕ) → valid n ≡ true → lives (procAt ps n) ≡ false → (page : ℕ) → frameOf book n page ≡ none

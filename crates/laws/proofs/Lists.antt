@@ -1,12 +1,12 @@
 -- Lists: what holds of each element, and bytes put over a list.
-use Prim.Native.Nat.{ℕ, _+_, _-_, _≤_, _<_}
+use Prim.Native.Nat.{ℕ, zero, suc, _+_, _-_, _≤_, _<_}
 use native.Mathlib.Omega.{arith}
-use native.Mathlib.Nat.{add-zero, add-assoc}
+use native.Mathlib.Nat.{add-zero, add-assoc, not-suc-le-zero, le-of-suc-le-suc}
 use native.Mathlib.Numerals.{add-one}
 use mathlib.Core.Path.{_≡_, refl, sym, ap, _∙_}
 use mathlib.Core.List.{List, [], _∷_, _++_, append-assoc, append-nil}
 use lib.Dec.{ltb}
-use lib.ListN.{length, getD, set, take, drop, length-append, length-take, length-drop, take-append-drop, List·getD-append}
+use lib.ListN.{length, getD, set, take, drop, length-append, length-take, length-drop, take-append-drop, List·getD-append, replicate}
 use lib.Seq.{sets, sets-eq, length-take-le, take-at, drop-at, drop-drop, getD-append-add, getD-take, getD-drop, set-split}
 use borrow.Author.Tests.{ltb-true, ltb-false}
 use borrow.Rule.Slice.PartMut.{putMid}
@@ -29,6 +29,17 @@ each-map P Q f (x ∷ xs) h = (f x (h .0), each-map P Q f xs (h .1))
 pub each-append : {A : Type 0} (P : A → Type 0) (xs ys : List A) → Each P xs → Each P ys → Each P (xs ++ ys)
 each-append P [] ys h k = k
 each-append P (x ∷ xs) ys h k = (h .0, each-append P xs ys (h .1) k)
+
+pub each-at : {A : Type 0} (P : A → Type 0) (d : A) (xs : List A) → Each P xs → (i : ℕ) → i < length xs → P (getD xs i d)
+each-at P d [] e i h = absurd (not-suc-le-zero h)
+each-at P d (x ∷ xs) e zero h = e .0
+each-at P d (x ∷ xs) e (suc i) h = each-at P d xs (e .1) i (le-of-suc-le-suc h)
+
+-- a list of one element has it at each place, and is read as it past its end
+pub getD-same : {A : Type 0} (n k : ℕ) (d : A) → getD (replicate n d) k d ≡ d
+getD-same zero k d = refl
+getD-same (suc n) zero d = refl
+getD-same (suc n) (suc k) d = getD-same n k d
 
 -- ---- what put is
 
@@ -72,7 +83,7 @@ length-put d s at h = simp (length-append, length-take, length-drop) (omega arit
 getD-beyond : (xs ys : List ℕ) (k : ℕ) → length xs ≤ k → getD (xs ++ ys) k 0 ≡ getD ys (k - length xs) 0
 getD-beyond xs ys k h = let e : k ≡ length xs + (k - length xs) = omega arith in ap (λ (n : ℕ). getD (xs ++ ys) n 0) e ∙ getD-append-add xs ys (k - length xs) 0
 
-pub put-before : (d s : List ℕ) (at k : ℕ) → at ≤ length d → k < at → getD (put d at s) k 0 ≡ getD d k 0
+put-before : (d s : List ℕ) (at k : ℕ) → at ≤ length d → k < at → getD (put d at s) k 0 ≡ getD d k 0
 put-before d s at k h l =
     let e : length (take at d) ≡ at = length-take-le at d h in
     let f : length (take at d ++ s) ≡ at + length s = head-length d s at h in
@@ -86,7 +97,7 @@ put-in d s at k h l u =
     List·getD-append (take at d ++ s) (drop (at + length s) d) 0 k (omega arith)
     ∙ getD-beyond (take at d) s k (omega arith) ∙ ap (λ (i : ℕ). getD s (k - i) 0) e
 
-pub put-after : (d s : List ℕ) (at k : ℕ) → at ≤ length d → at + length s ≤ k → getD (put d at s) k 0 ≡ getD d k 0
+put-after : (d s : List ℕ) (at k : ℕ) → at ≤ length d → at + length s ≤ k → getD (put d at s) k 0 ≡ getD d k 0
 put-after d s at k h l =
     let f : length (take at d ++ s) ≡ at + length s = head-length d s at h in
     let e : at + length s + (k - length (take at d ++ s)) ≡ k = omega arith in

@@ -1,4 +1,4 @@
--- The pages of pieces: how many, no page twice, and the cell that they give an address.
+-- The pages of pieces: no page twice, and the cell that they give an address.
 use Prim.Native.Nat.{ℕ, zero, suc, _+_, _*_, _-_, _/_, _%_, _≤_, _<_}
 use native.Mathlib.Omega.{arith}
 use mathlib.Core.Path.{_≡_, refl, sym, ap, ap₂, _∙_}
@@ -6,18 +6,17 @@ use mathlib.Core.Bool.{Bool, true}
 use mathlib.Core.Option.{Option, none, some}
 use mathlib.Core.List.{List, [], _∷_, _++_, append-assoc}
 use lib.Dec.{eqb}
-use lib.ListN.{length, getD, length-append}
+use lib.ListN.{getD}
 use borrow.Author.Tests.{eqb-true, eqb-false}
 use Rattle.spec.specs.Tests.{_is_, within, _⇒_else_}
 use Rattle.spec.specs.Numbers.{pageDown}
-use Rattle.spec.specs.Book.{inSegment, permAt, pageCount}
+use Rattle.spec.specs.Book.{inSegment, permAt}
 use Rattle.spec.specs.Frames.{Cell, Page, pagesFrom, pagesOf}
 use Rattle.spec.specs.declared.UserSegment.{UserSegment}
-use Rattle.spec.proofs.Bools.{split, clash, within-means, within-test}
+use Rattle.spec.proofs.Bools.{split, clash, within-means, within-test, within-not}
 use Rattle.laws.proofs.Lists.{Each, each-append}
-use Rattle.laws.proofs.Frame.{within-not}
 use Rattle.laws.proofs.Place.{Distinct, over}
-use Rattle.laws.proofs.Apart.{Piece, Pieces, perm-tail}
+use Rattle.laws.proofs.Pieces.{Piece, Pieces, perm-tail}
 
 -- how many pages a piece has
 abbrev pages : UserSegment → ℕ
@@ -25,17 +24,7 @@ pages g = (g .range .end - g .range .start) / 4096
 
 -- ---- lists of pages
 
-pub length-from : (f : ℕ → List ℕ) (perm a k : ℕ) → length (pagesFrom f perm a k) ≡ k
-length-from f perm a zero = refl
-length-from f perm a (suc k) = ap suc (length-from f perm (a + 4096) k)
-
-pub length-pages : (f : ℕ → List ℕ) (gs : List UserSegment) → length (pagesOf f gs) ≡ pageCount gs
-length-pages f [] = refl
-length-pages f (g ∷ gs) =
-    length-append (pagesFrom f (g .perm) (g .range .start) (pages g)) (pagesOf f gs)
-    ∙ ap₂ _+_ (length-from f (g .perm) (g .range .start) (pages g)) (length-pages f gs)
-
-pub from-append : (f : ℕ → List ℕ) (perm a j k : ℕ) → pagesFrom f perm a (j + k) ≡ pagesFrom f perm a j ++ pagesFrom f perm (a + 4096 * j) k
+from-append : (f : ℕ → List ℕ) (perm a j k : ℕ) → pagesFrom f perm a (j + k) ≡ pagesFrom f perm a j ++ pagesFrom f perm (a + 4096 * j) k
 from-append f perm a zero k =
     let e : 0 + k ≡ k = omega arith in
     let z : a + 4096 * 0 ≡ a = omega arith in

@@ -1,7 +1,6 @@
--- Pages placed: what every process sees, which words stand in the book, how many frames are free.
-use Prim.Native.Nat.{ℕ, zero, suc, _+_, _*_, _%_, _≤_, _<_}
+-- Pages placed: what every process sees, which words stand in the book.
+use Prim.Native.Nat.{ℕ, _+_, _*_, _%_, _≤_, _<_}
 use native.Mathlib.Omega.{arith}
-use native.Mathlib.Nat.{not-suc-le-zero, le-of-suc-le-suc}
 use mathlib.Core.Path.{_≡_, refl, sym, ap, _∙_}
 use mathlib.Core.Bool.{Bool, true, false}
 use mathlib.Core.Option.{Option, none, some}
@@ -9,14 +8,15 @@ use mathlib.Core.List.{List, [], _∷_, _++_}
 use lib.Dec.{eqb}
 use lib.ListN.{length, getD, set, length-set}
 use lib.Seq.{getD-set-same, getD-set-other}
-use borrow.Author.Tests.{eqb-true, eqb-false, eq-eqb, ne-eqb}
+use borrow.Author.Tests.{eqb-true, eqb-false, ne-eqb}
 use Rattle.spec.specs.Tests.{_is_, _⇒_else_}
 use Rattle.spec.specs.Numbers.{pageDown}
 use Rattle.spec.specs.Book.{wordOf, pageOf, permOf, highest, freeFrame, owns, frameOf, free}
 use Rattle.spec.specs.Frames.{Store, sized, Cell, cellIn, memOf, put, Page, hold, place}
 use Rattle.spec.proofs.Bools.{split}
-use Rattle.spec.proofs.Search.{hit, miss, highest-ext}
+use Rattle.spec.proofs.Search.{highest-ext}
 use Rattle.spec.proofs.Words.{unpack, used-word}
+use Rattle.spec.proofs.Free.{free-frame, none-free, free-set}
 use Rattle.laws.proofs.Lists.{Each, length-put, put-in, put-outside}
 use Rattle.laws.proofs.Frame.{Fits, sized-same, Owns, owns-not, frame-found, frame-none, frame-some, Once, cell-eq}
 
@@ -25,7 +25,7 @@ use Rattle.laws.proofs.Frame.{Fits, sized-same, Owns, owns-not, frame-f
 -- the word of frame k, which was free, is w
 module _ (book : List ℕ) (k w : ℕ) (low : k < length book) (was : getD book k 0 ≡ 0) where
   -- a page that w doesn't name has its frame as before
-  frame-else : (p page : ℕ) → (Owns p page w → ⊥) → frameOf (set book k w) p page ≡ frameOf book p page
+  pub frame-else : (p page : ℕ) → (Owns p page w → ⊥) → frameOf (set book k w) p page ≡ frameOf book p page
   frame-else p page out =
       ap (highest (λ j. owns p page (getD (set book k w) j 0))) (length-set book k w)
       ∙ highest-ext (λ j. owns p page (getD (set book k w) j 0)) (λ j. owns p page (getD book j 0)) (length book) (λ j l. same j)
@@ -72,17 +72,7 @@ module _ (book : List ℕ) (k w : ℕ) (low : k < length book) (was : getD book 
       go false x true y = absurd (apart i (at-k j (eqb-true j k y) b) (off-k i (eqb-false i k x) a))
       go false x false y = once p q i j (off-k i (eqb-false i k x) a) (off-k j (eqb-false j k y) b)
 
-  free-set : ¬ (w ≡ 0) → free (set book k w) + 1 ≡ free book
-  free-set nz = go book k low was
-    where
-      go : (l : List ℕ) (j : ℕ) → j < length l → getD l j 0 ≡ 0 → free (set l j w) + 1 ≡ free l
-      go [] j h z = absurd (not-suc-le-zero h)
-      go (x ∷ l) zero h z = rw (ne-eqb w 0 nz, eq-eqb x 0 z)
-      go (x ∷ l) (suc j) h z =
-          let ih = go l j (le-of-suc-le-suc h) z in
-          split (eqb x 0) (λ q. rw q (omega arith)) (λ q. rw q ih)
-
--- ---- one page in a free frame (for loops, which place a page a turn)
+-- ---- one page in a free frame
 
 -- a page that a word can name and that fills a frame
 pub record Ready (p : Page) : Type 0 where
@@ -91,7 +81,7 @@ pub record Ready (p : Page) : Type 0 where
   pub whole : length (p .bytes) ≡ 4096
 
 -- the cell that a page has at an address
-abbrev pub cellOn : Page → ℕ → Option Cell
+abbrev cellOn : Page → ℕ → Option Cell
 cellOn p x = some (record { perm = p .perm; byte = getD (p .bytes) (x % 4096) 0 })
 
 -- the word of a page names that page alone
@@ -112,13 +102,13 @@ module _ (m : Store) (n : ℕ) (p : Page) (k : ℕ) (fits : Fits m) (low : k < l
       cell-eq _ _ _ _ (ap permOf (getD-set-other (m .book) k j word 0 away))
       (put-outside (m .frames) (p .bytes) (4096 * k) (4096 * j + x % 4096) (omega arith) (λ l u. away (omega (arith, r .whole))))
 
-  pub mem-hold-else : (q x : ℕ) → (q ≡ n → pageDown x ≡ p .page → ⊥) → memOf (hold m n p (some k)) q x ≡ memOf m q x
+  mem-hold-else : (q x : ℕ) → (q ≡ n → pageDown x ≡ p .page → ⊥) → memOf (hold m n p (some k)) q x ≡ memOf m q x
   mem-hold-else q x out =
       let u = unpack (p .page) n (p .perm) (r .aligned) hi (r .perm) in
       ap (cellIn (hold m n p (some k)) x) (frame-else (m .book) k word low was q (pageDown x) (λ o. out (sym (o .owner) ∙ u .1) (sym (o .page) ∙ u .0)))
       ∙ cell-else x (frameOf (m .book) q (pageDown x)) (λ e. frame-found (m .book) q (pageDown x) k e .1 .used was)
 
-  pub mem-hold : 1 ≤ n → frameOf (m .book) n (p .page) ≡ none → (x : ℕ) → pageDown x ≡ p .page → memOf (hold m n p (some k)) n x ≡ cellOn p x
+  mem-hold : 1 ≤ n → frameOf (m .book) n (p .page) ≡ none → (x : ℕ) → pageDown x ≡ p .page → memOf (hold m n p (some k)) n x ≡ cellOn p x
   mem-hold lo new x e =
       let o = word-owns n p lo hi r in
       let u = unpack (p .page) n (p .perm) (r .aligned) hi (r .perm) in
@@ -127,21 +117,7 @@ module _ (m : Store) (n : ℕ) (p : Page) (k : ℕ) (fits : Fits m) (low : k < l
       (put-in (m .frames) (p .bytes) (4096 * k) (4096 * k + x % 4096) (omega arith) (omega arith) (omega (arith, r .whole))
       ∙ ap (λ (i : ℕ). getD (p .bytes) i 0) (omega arith)))
 
-  pub fits-hold : Fits (hold m n p (some k))
-  fits-hold = length-put (m .frames) (p .bytes) (4096 * k) (omega (arith, r .whole)) ∙ fits ∙ ap (λ (i : ℕ). 4096 * i) (sym (length-set (m .book) k word))
-
 -- ---- a list of pages
-
--- the frame that a search finds is free, and one is found while one is free
-free-frame : (book : List ℕ) (k : ℕ) → freeFrame book ≡ some k → (k < length book) × (getD book k 0 ≡ 0)
-free-frame book k e = let r = hit (λ j. getD book j 0 is 0) (length book) k e in (r .0, eqb-true (getD book k 0) 0 (r .1))
-
-none-free : (book : List ℕ) → freeFrame book ≡ none → free book ≡ 0
-none-free book e = go book (miss (λ j. getD book j 0 is 0) (length book) e)
-  where
-    go : (l : List ℕ) → ((k : ℕ) → k < length l → (getD l k 0 is 0) ≡ false) → free l ≡ 0
-    go [] h = refl
-    go (w ∷ ws) h = rw (h 0 (omega arith)) (go ws (λ k l. h (suc k) (omega arith)))
 
 -- pages one after the other
 pub place-append : (m : Store) (n : ℕ) (ps qs : List Page) → place m n (ps ++ qs) ≡ place (place m n ps) n qs
@@ -149,7 +125,13 @@ unfolding place
 place-append m n [] qs = refl
 place-append m n (p ∷ ps) qs = place-append (hold m n p (freeFrame (m .book))) n ps qs
 
-pub place-length : (m : Store) (n : ℕ) (ps : List Page) → length (place m n ps .book) ≡ length (m .book)
+-- without a free frame nothing is placed
+pub place-none : (m : Store) (n : ℕ) (ps : List Page) → freeFrame (m .book) ≡ none → place m n ps ≡ m
+unfolding place
+place-none m n [] e = refl
+place-none m n (p ∷ ps) e = rw e (place-none m n ps e)
+
+place-length : (m : Store) (n : ℕ) (ps : List Page) → length (place m n ps .book) ≡ length (m .book)
 unfolding place
 place-length m n [] = refl
 place-length m n (p ∷ ps) = place-length (hold m n p (freeFrame (m .book))) n ps ∙ go (freeFrame (m .book))
@@ -168,7 +150,7 @@ hold-fits m n p fits w (some k) e =
 abbrev pub WholePages : List Page → Type 0
 WholePages ps = Each (λ p. length (p .bytes) ≡ 4096) ps
 
-pub place-frames : (m : Store) (n : ℕ) (ps : List Page) → Fits m → WholePages ps → length (place m n ps .frames) ≡ length (m .frames)
+place-frames : (m : Store) (n : ℕ) (ps : List Page) → Fits m → WholePages ps → length (place m n ps .frames) ≡ length (m .frames)
 unfolding place
 place-frames m n [] fits w = refl
 place-frames m n (p ∷ ps) fits w =
@@ -180,21 +162,6 @@ fits-place m n ps fits w = place-frames m n ps fits w ∙ fits ∙ ap (λ (i : �
 
 pub sized-place : (m : Store) (n : ℕ) (ps : List Page) → Fits m → WholePages ps → sized (place m n ps) ≡ sized m
 sized-place m n ps fits w = sized-same (place m n ps) m (place-frames m n ps fits w) (place-length m n ps)
-
--- each page takes a free frame
-pub free-place : (m : Store) (n : ℕ) (ps : List Page) → 1 ≤ n → length ps ≤ free (m .book) → free (place m n ps .book) + length ps ≡ free (m .book)
-unfolding place
-free-place m n [] lo room = omega arith
-free-place m n (p ∷ ps) lo room = go (freeFrame (m .book)) refl (λ t. free-place t n ps lo)
-  where
-    go : (o : Option ℕ) → freeFrame (m .book) ≡ o → ((t : Store) → length ps ≤ free (t .book) → free (place t n ps .book) + length ps ≡ free (t .book))
-        → free (place (hold m n p o) n ps .book) + length (p ∷ ps) ≡ free (m .book)
-    go none e more = absurd (omega (arith, none-free (m .book) e))
-    go (some k) e more =
-        let r = free-frame (m .book) k e in
-        let f = free-set (m .book) k (wordOf (p .page) n (p .perm)) (r .0) (r .1) (used-word (p .page) n (p .perm) lo) in
-        let ih = more (hold m n p (some k)) (omega arith) in
-        omega arith
 
 -- what held of each word and holds of each page's word holds of each word
 pub each-place : (m : Store) (n : ℕ) (ps : List Page) (P : ℕ → Type 0) → ((k : ℕ) → ¬ (getD (m .book) k 0 ≡ 0) → P (getD (m .book) k 0))
@@ -210,7 +177,7 @@ each-place m n (p ∷ ps) P h new = each-place (hold m n p (freeFrame (m .book))
 -- ---- what a process sees
 
 -- at an address that no placed page has, what it saw: another process, or another page
-pub mem-place-else : (m : Store) (n : ℕ) (ps : List Page) → Fits m → n < 256 → Each Ready ps → (q x : ℕ) → (q ≡ n → Each (λ p. ¬ (pageDown x ≡ p .page)) ps) → memOf (place m n ps) q x ≡ memOf m q x
+mem-place-else : (m : Store) (n : ℕ) (ps : List Page) → Fits m → n < 256 → Each Ready ps → (q x : ℕ) → (q ≡ n → Each (λ p. ¬ (pageDown x ≡ p .page)) ps) → memOf (place m n ps) q x ≡ memOf m q x
 unfolding place
 mem-place-else m n [] fits hi r q x out = refl
 mem-place-else m n (p ∷ ps) fits hi r q x out =

@@ -1,6 +1,5 @@
 -- The pages of pieces placed for a process: one record of what a caller shows, and what follows.
-use Prim.Native.Nat.{ℕ, _+_, _%_, _≤_, _<_}
-use native.Mathlib.Omega.{arith}
+use Prim.Native.Nat.{ℕ, _%_, _≤_, _<_}
 use mathlib.Core.Path.{_≡_, refl, sym, ap, _∙_}
 use mathlib.Core.Option.{Option, none, some}
 use mathlib.Core.List.{List}
@@ -10,11 +9,12 @@ use Rattle.spec.specs.Book.{wordOf, bookPerm, free, permAt, pageCount}
 use Rattle.spec.specs.Frames.{Store, sized, memOf, pagesOf, place}
 use Rattle.spec.specs.History as history
 use Rattle.spec.specs.declared.UserSegment.{UserSegment}
+use Rattle.spec.proofs.Free.{length-pages}
 use Rattle.laws.proofs.Lists.{Each}
-use Rattle.laws.proofs.Frame.{Fits, Once, frame-unmapped, page-perm, perm-same}
-use Rattle.laws.proofs.Place.{Ready, Fresh, WholePages, fits-place, sized-place, free-place, each-place, mem-place-other, mem-place, once-place}
-use Rattle.laws.proofs.Apart.{Pieces, orPerm}
-use Rattle.laws.proofs.Pages.{length-pages, each-pages, distinct-pages, cellOr, over-pages}
+use Rattle.laws.proofs.Frame.{Fits, Once, frame-unmapped, page-perm}
+use Rattle.laws.proofs.Place.{Ready, Fresh, WholePages, fits-place, sized-place, each-place, mem-place-other, mem-place, once-place}
+use Rattle.laws.proofs.Pages.{each-pages, distinct-pages, cellOr, over-pages}
+use Rattle.laws.proofs.Pieces.{Pieces, orPerm}
 
 -- pages of pieces that may be placed for process n: each is whole and has a permission that a word can hold
 pub record Whole (n : ℕ) (f : ℕ → List ℕ) (gs : List UserSegment) : Type 0 where
@@ -28,13 +28,6 @@ pub record Room (m : Store) (n : ℕ) (gs : List UserSegment) : Type 0 where
   pub owner : 1 ≤ n
   pub fresh : (a q : ℕ) → a % 4096 ≡ 0 → permAt gs a ≡ some q → bookPerm (m .book) n a ≡ none
   pub enough : pageCount gs ≤ free (m .book)
-
--- each page takes a free frame
-pub free-placed : (m : Store) (n : ℕ) (f : ℕ → List ℕ) (gs : List UserSegment) → 1 ≤ n → pageCount gs ≤ free (m .book) → free (place m n (pagesOf f gs) .book) + pageCount gs ≡ free (m .book)
-free-placed m n f gs lo room =
-    let e = length-pages f gs in
-    let h = free-place m n (pagesOf f gs) lo (rw e room) in
-    omega arith
 
 -- each word is an old one or a page's
 pub each-placed : (m : Store) (n : ℕ) (f : ℕ → List ℕ) (gs : List UserSegment) → Pieces gs → (P : ℕ → Type 0) → ((k : ℕ) → ¬ (getD (m .book) k 0 ≡ 0) → P (getD (m .book) k 0))
@@ -58,9 +51,6 @@ module _ (m : Store) (n : ℕ) (f : ℕ → List ℕ) (gs : List UserSegment) (f
   -- other processes see what they saw
   pub mem-placed-other : (p : ℕ) → (p ≡ n → ⊥) → memOf (place m n (pagesOf f gs)) p ≡ memOf m p
   mem-placed-other p ne = mem-place-other m n (pagesOf f gs) fits (whole .owner) ready p ne
-
-  pub perm-placed-other : (p : ℕ) → (p ≡ n → ⊥) → (page : ℕ) → page % 4096 ≡ 0 → bookPerm (place m n (pagesOf f gs) .book) p page ≡ bookPerm (m .book) p page
-  perm-placed-other p ne = perm-same (place m n (pagesOf f gs)) m p (mem-placed-other p ne)
 
   module _ (room : Room m n gs) where
     new : Fresh (m .book) n (pagesOf f gs)

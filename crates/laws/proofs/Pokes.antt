@@ -14,15 +14,12 @@ use Rattle.spec.specs.Numbers.{pageDown}
 use Rattle.spec.specs.Book.{frameOf}
 use Rattle.spec.specs.Frames.{Store, sized, cellIn, memOf, put, poke, pokes}
 use Rattle.spec.specs.Access.{rewrite, write}
-use Rattle.spec.proofs.Bools.{split, clash, within-means, within-test}
+use Rattle.spec.proofs.Bools.{split, clash, within-means, within-test, within-not}
+use Rattle.spec.proofs.Free.{poke-book, pokes-book}
 use Rattle.laws.proofs.Lists.{put-sets}
-use Rattle.laws.proofs.Frame.{Fits, sized-same, frame-found, cell-eq, within-not}
+use Rattle.laws.proofs.Frame.{Fits, sized-same, frame-found, cell-eq}
 
 -- ---- one byte
-
-poke-book : (m : Store) (a b : ℕ) (o : Option ℕ) → poke m a b o .book ≡ m .book
-poke-book m a b none = refl
-poke-book m a b (some k) = refl
 
 poke-frames : (m : Store) (a b : ℕ) (o : Option ℕ) → length (poke m a b o .frames) ≡ length (m .frames)
 poke-frames m a b none = refl
@@ -56,12 +53,7 @@ module _ (m : Store) (n a b p x : ℕ) (fits : Fits m) where
 
 -- ---- bytes
 
-pub pokes-book : (m : Store) (n a : ℕ) (bs : List ℕ) → pokes m n a bs .book ≡ m .book
-unfolding pokes
-pokes-book m n a [] = refl
-pokes-book m n a (b ∷ bs) = pokes-book (poke m a b (frameOf (m .book) n (pageDown a))) n (a + 1) bs ∙ poke-book m a b (frameOf (m .book) n (pageDown a))
-
-pub pokes-length : (m : Store) (n a : ℕ) (bs : List ℕ) → length (pokes m n a bs .frames) ≡ length (m .frames)
+pokes-length : (m : Store) (n a : ℕ) (bs : List ℕ) → length (pokes m n a bs .frames) ≡ length (m .frames)
 unfolding pokes
 pokes-length m n a [] = refl
 pokes-length m n a (b ∷ bs) = pokes-length (poke m a b (frameOf (m .book) n (pageDown a))) n (a + 1) bs ∙ poke-frames m a b (frameOf (m .book) n (pageDown a))
@@ -76,9 +68,6 @@ pokes-append m n a (b ∷ bs) cs =
 
 poke-fits : (m : Store) (a b : ℕ) (o : Option ℕ) → Fits m → Fits (poke m a b o)
 poke-fits m a b o fits = poke-frames m a b o ∙ fits ∙ ap (λ (l : List ℕ). 4096 * length l) (sym (poke-book m a b o))
-
-pub fits-pokes : (m : Store) (n a : ℕ) (bs : List ℕ) → Fits m → Fits (pokes m n a bs)
-fits-pokes m n a bs fits = pokes-length m n a bs ∙ fits ∙ ap (λ (l : List ℕ). 4096 * length l) (sym (pokes-book m n a bs))
 
 pub sized-pokes : (m : Store) (n a : ℕ) (bs : List ℕ) → sized (pokes m n a bs) ≡ sized m
 sized-pokes m n a bs = sized-same (pokes m n a bs) m (pokes-length m n a bs) (ap length (pokes-book m n a bs))

@@ -1,25 +1,24 @@
 -- Pages released: the words that pass a test become 0, and all else stays.
 use Prim.Native.Nat.{ℕ, _+_, _*_, _%_}
-use native.Mathlib.Omega.{arith}
 use mathlib.Core.Path.{_≡_, refl, sym, ap, _∙_, fun-ext}
-use mathlib.Core.Bool.{Bool, true, false, _&&_}
+use mathlib.Core.Bool.{Bool, true, false}
 use mathlib.Core.Option.{Option, none, some}
 use mathlib.Core.List.{List, map}
 use lib.ListN.{length, getD, length-map, List·getD-map}
-use borrow.Author.Tests.{eq-eqb, ne-eqb}
-use Rattle.spec.specs.Tests.{_is_, within, _⇒_else_}
+use borrow.Author.Tests.{eq-eqb}
+use Rattle.spec.specs.Tests.{_is_, _⇒_else_}
 use Rattle.spec.specs.Numbers.{pageDown}
-use Rattle.spec.specs.Book.{pageOf, ownerOf, permOf, highest, owns, frameOf, bookPerm, permIn}
+use Rattle.spec.specs.Book.{pageOf, ownerOf, permOf, highest, owns, frameOf}
 use Rattle.spec.specs.History as history
 use Rattle.spec.specs.Frames.{Store, sized, cellIn, memOf, release}
 use Rattle.spec.proofs.Bools.{split, clash}
 use Rattle.spec.proofs.Search.{highest-none, highest-ext}
-use Rattle.laws.proofs.Frame.{Fits, sized-same, Owns, owns-means, owns-test, owns-not, frame-found, cell-eq, page-perm, Once}
+use Rattle.laws.proofs.Frame.{sized-same, Owns, owns-means, owns-test, owns-not, frame-found, cell-eq, Once}
 
 -- ---- words and lengths
 
 -- a word that passes is 0
-pub release-word : (m : Store) (t : ℕ → Bool) (k : ℕ) → getD (release m t .book) k 0 ≡ (t (getD (m .book) k 0) ⇒ 0 else getD (m .book) k 0)
+release-word : (m : Store) (t : ℕ → Bool) (k : ℕ) → getD (release m t .book) k 0 ≡ (t (getD (m .book) k 0) ⇒ 0 else getD (m .book) k 0)
 unfolding release
 release-word m t k = ap (getD (map (λ w. t w ⇒ 0 else w) (m .book)) k) (sym (zero-stays (t 0))) ∙ List·getD-map (λ w. t w ⇒ 0 else w) (m .book) k 0
   where
@@ -35,14 +34,11 @@ pub release-length : (m : Store) (t : ℕ → Bool) → length (release m t .boo
 unfolding release
 release-length m t = length-map (m .book) (λ w. t w ⇒ 0 else w)
 
-pub fits-release : (m : Store) (t : ℕ → Bool) → Fits m → Fits (release m t)
-fits-release m t fits = rw (release-frames, release-length) fits
-
 pub sized-release : (m : Store) (t : ℕ → Bool) → sized (release m t) ≡ sized m
 sized-release m t = sized-same (release m t) m (ap length (release-frames m t)) (release-length m t)
 
 -- a word that is there afterwards was there before, and did not pass
-pub release-kept : (m : Store) (t : ℕ → Bool) (k : ℕ) → ¬ (getD (release m t .book) k 0 ≡ 0) → (getD (release m t .book) k 0 ≡ getD (m .book) k 0) × (t (getD (m .book) k 0) ≡ false)
+release-kept : (m : Store) (t : ℕ → Bool) (k : ℕ) → ¬ (getD (release m t .book) k 0 ≡ 0) → (getD (release m t .book) k 0 ≡ getD (m .book) k 0) × (t (getD (m .book) k 0) ≡ false)
 release-kept m t k nz =
     split (t (getD (m .book) k 0))
     (λ q. absurd (nz (release-word m t k ∙ ap (λ (b : Bool). b ⇒ 0 else getD (m .book) k 0) q)))
@@ -82,11 +78,11 @@ frame-kept m t p page h =
         (λ q. owns-not p page (getD (release m t .book) k 0) (λ o. clash (owns p page w) (owns-test p page w (rw (release-kept m t k (o .used) .0) at o)) q) ∙ sym q)
 
 -- nothing, if each word of its page passes
-pub mem-gone : (m : Store) (t : ℕ → Bool) (p a : ℕ) → ((k : ℕ) → Owns p (pageDown a) (getD (m .book) k 0) → t (getD (m .book) k 0) ≡ true) → memOf (release m t) p a ≡ none
+mem-gone : (m : Store) (t : ℕ → Bool) (p a : ℕ) → ((k : ℕ) → Owns p (pageDown a) (getD (m .book) k 0) → t (getD (m .book) k 0) ≡ true) → memOf (release m t) p a ≡ none
 mem-gone m t p a h = ap (cellIn (release m t) a) (frame-gone m t p (pageDown a) h)
 
 -- what it saw, if none does
-pub mem-kept : (m : Store) (t : ℕ → Bool) (p a : ℕ) → ((k : ℕ) → Owns p (pageDown a) (getD (m .book) k 0) → t (getD (m .book) k 0) ≡ false) → memOf (release m t) p a ≡ memOf m p a
+mem-kept : (m : Store) (t : ℕ → Bool) (p a : ℕ) → ((k : ℕ) → Owns p (pageDown a) (getD (m .book) k 0) → t (getD (m .book) k 0) ≡ false) → memOf (release m t) p a ≡ memOf m p a
 mem-kept m t p a h = ap (cellIn (release m t) a) (frame-kept m t p (pageDown a) h) ∙ go (frameOf (m .book) p (pageDown a)) refl
   where
     go : (o : Option ℕ) → frameOf (m .book) p (pageDown a) ≡ o → cellIn (release m t) a o ≡ cellIn m a o
@@ -104,30 +100,6 @@ mem-release m u p a = go (u p (pageDown a)) refl
     go true e = mem-gone m (λ w. u (ownerOf w) (pageOf w)) p a (λ k o. rw (o .owner, o .page) e)
     go false e = mem-kept m (λ w. u (ownerOf w) (pageOf w)) p a (λ k o. rw (o .owner, o .page) e)
 
--- and what the book says of a page
-pub perm-release : (m : Store) (u : ℕ → ℕ → Bool) (p page : ℕ) → page % 4096 ≡ 0
-    → bookPerm (release m (λ w. u (ownerOf w) (pageOf w)) .book) p page ≡ (u p page ⇒ none else bookPerm (m .book) p page)
-perm-release m u p page h =
-    let e : pageDown page ≡ page = omega arith in
-    page-perm (release m (λ w. u (ownerOf w) (pageOf w))) p page h
-    ∙ ap history.permIn (mem-release m u p page ∙ ap (λ (x : ℕ). u p x ⇒ none else memOf m p page) e) ∙ go (u p page)
-  where
-    go : (b : Bool) → history.permIn (b ⇒ none else memOf m p page) ≡ (b ⇒ none else bookPerm (m .book) p page)
-    go true = refl
-    go false = sym (page-perm m p page h)
-
--- ---- the two tests in use
-
--- a process's pages: it sees nothing, and others what they saw
+-- a process's pages: it sees nothing
 pub mem-release-own : (m : Store) (n : ℕ) → memOf (release m (λ w. ownerOf w is n)) n ≡ (λ a. none)
 mem-release-own m n = fun-ext (λ a. mem-release m (λ o page. o is n) n a ∙ rw (eq-eqb n n refl))
-
-pub mem-release-other : (m : Store) (n p : ℕ) → (p ≡ n → ⊥) → memOf (release m (λ w. ownerOf w is n)) p ≡ memOf m p
-mem-release-other m n p ne = fun-ext (λ a. mem-release m (λ o page. o is n) p a ∙ rw (ne-eqb p n ne))
-
--- its pages in a range: it sees nothing there, and elsewhere and others what they saw
-pub mem-release-range : (m : Store) (n lo hi a : ℕ) → memOf (release m (λ w. ownerOf w is n && within lo hi (pageOf w))) n a ≡ (within lo hi (pageDown a) ⇒ none else memOf m n a)
-mem-release-range m n lo hi a = mem-release m (λ o page. o is n && within lo hi page) n a ∙ rw (eq-eqb n n refl)
-
-pub mem-range-other : (m : Store) (n lo hi p : ℕ) → (p ≡ n → ⊥) → memOf (release m (λ w. ownerOf w is n && within lo hi (pageOf w))) p ≡ memOf m p
-mem-range-other m n lo hi p ne = fun-ext (λ a. mem-release m (λ o page. o is n && within lo hi page) p a ∙ rw (ne-eqb p n ne))

@@ -6,11 +6,11 @@ use mathlib.Core.Path.{_≡_, refl, ap, ap₂, _∙_}
 use mathlib.Core.Bool.{Bool, true, false, not, _&&_}
 use mathlib.Core.List.{List, [], _∷_, _++_}
 use lib.ListN.{length, getD, replicate, length-append, length-replicate}
-use borrow.Author.Tests.{eqb-true, ltb-true, ne-eqb, eq-eqb, lt-ltb, le-ltb}
+use borrow.Author.Tests.{eqb-true, ltb-true, eq-eqb, lt-ltb, le-ltb}
 use Rattle.spec.proofs.Bools.{split, clash, both, not-below, living-ok, dead-ok}
 use Rattle.spec.specs.Tests.{_is_, _below_, _above_, all}
 use Rattle.spec.specs.Numbers.{utzero, limit, pageUp}
-use Rattle.spec.specs.Book.{range, sameSegment, zeroSegment, unused, lives, used, stack}
+use Rattle.spec.specs.Book.{range, sameSegment, zeroSegment, unused, used, stack}
 use Rattle.spec.specs.Sound.{bssOk, segmentsOk, ImageSegment, Shape}
 use Rattle.spec.specs.declared.VirtRange.{VirtRange}
 use Rattle.spec.specs.declared.UserSegment.{UserSegment}
@@ -49,7 +49,7 @@ bss-means end b e =
     let t = and₅ (not (b .start below utzero)) (not (b .start above b .end)) (b .end % 4096 is 0) (not (b .end above limit)) (not (pageUp (b .start) below end)) e in
     record { start = not-below (b .start) utzero (t .0); order = not-below (b .end) (b .start) (t .1); aligned = eqb-true _ _ (t .2); low = not-below limit (b .end) (t .3); past = not-below _ end (t .4) }
 
-pub bss-test : (end : ℕ) (b : VirtRange) → Bss end b → bssOk end b ≡ true
+bss-test : (end : ℕ) (b : VirtRange) → Bss end b → bssOk end b ≡ true
 bss-test end b h = rw (le-ltb (b .start) utzero (h .start), le-ltb (b .end) (b .start) (h .order), eq-eqb (b .end % 4096) 0 (h .aligned), le-ltb limit (b .end) (h .low), le-ltb (pageUp (b .start)) end (h .past))
 
 and₆ : (a b c d e f : Bool) → (a && b && c && d && e && f) ≡ true → (a ≡ true) × (b ≡ true) × (c ≡ true) × (d ≡ true) × (e ≡ true) × (f ≡ true)
@@ -70,7 +70,7 @@ image-first end bss g gs u q e =
     )
 
 -- an image's segment is not the stack
-pub image-not-stack : (g : UserSegment) → ImageSegment g → sameSegment g stack ≡ false
+image-not-stack : (g : UserSegment) → ImageSegment g → sameSegment g stack ≡ false
 image-not-stack g h =
     split (sameSegment g stack)
     (λ q. absurd (let e = ap (λ (x : UserSegment). x .range .end) (same-is g stack q) in omega (arith, h .between .1)))
@@ -83,7 +83,7 @@ pub record Layout (end : ℕ) (bss : VirtRange) (segs image : List UserSegment) 
   pub ascends : Image end image
   pub bss-ok : Bss (imageEnd end image) bss
 
-pub layout-means : (end : ℕ) (bss : VirtRange) (segs : List UserSegment) → utzero ≤ end → segmentsOk end bss segs ≡ true → (image : List UserSegment) × Layout end bss segs image
+layout-means : (end : ℕ) (bss : VirtRange) (segs : List UserSegment) → utzero ≤ end → segmentsOk end bss segs ≡ true → (image : List UserSegment) × Layout end bss segs image
 layout-means end bss [] u e = clash false e refl
 layout-means end bss (g ∷ gs) u e =
     split (sameSegment g stack)
@@ -95,7 +95,7 @@ layout-means end bss (g ∷ gs) u e =
     let r = layout-means (g .range .end) bss gs (omega (arith, t .0 .some-page, t .1)) (t .2) in
     (g ∷ r .0, record { zeros = r .1 .zeros; segments = ap (λ (x : List UserSegment). g ∷ x) (r .1 .segments); ascends = (t .0, t .1, r .1 .ascends); bss-ok = r .1 .bss-ok }))
 
-pub layout-test : (end : ℕ) (bss : VirtRange) (image : List UserSegment) (zeros : ℕ) → Image end image → Bss (imageEnd end image) bss
+layout-test : (end : ℕ) (bss : VirtRange) (image : List UserSegment) (zeros : ℕ) → Image end image → Bss (imageEnd end image) bss
     → segmentsOk end bss (image ++ stack ∷ replicate zeros zeroSegment) ≡ true
 layout-test end bss [] zeros i b = rw (all-same unused zeroSegment refl zeros) (bss-test end bss b)
 layout-test end bss (g ∷ image) zeros i b =
@@ -154,7 +154,7 @@ shape-made p image e l i b = record {
   bss-above = λ k h. let t = image-below utzero image i k h in omega (arith, b .past);
 }
 
-pub shape-of : (p : Proc) (image : List UserSegment) → length (p .segments) ≡ 16 → Layout utzero (p .bss) (p .segments) image → Shape p image
+shape-of : (p : Proc) (image : List UserSegment) → length (p .segments) ≡ 16 → Layout utzero (p .bss) (p .segments) image → Shape p image
 shape-of p image w h =
     shape-made p image (h .segments ∙ ap (λ (k : ℕ). image ++ stack ∷ replicate k zeroSegment) zeros) (omega (arith, count)) (h .ascends) (h .bss-ok)
   where
@@ -185,29 +185,17 @@ shape-segments p image h = rw (h .segments) (layout-test utzero (p .bss) image (
 
 -- ---- recorded segments
 
-pub stack-used : unused stack ≡ false
-stack-used = refl
-
-pub image-used : (g : UserSegment) → ImageSegment g → unused g ≡ false
+image-used : (g : UserSegment) → ImageSegment g → unused g ≡ false
 image-used g h = split (unused g) (λ q. absurd (let e = ap (λ (x : UserSegment). x .range .end) (same-is g zeroSegment q) in omega (arith, h .some-page))) (λ q. q)
 
-pub none-used : (gs : List UserSegment) → all unused gs ≡ true → used gs ≡ []
+none-used : (gs : List UserSegment) → all unused gs ≡ true → used gs ≡ []
 none-used [] e = refl
 none-used (g ∷ gs) e = rw (both (unused g) (all unused gs) e .0)
 
 -- those before the unused places are the image's and the stack
-pub used-image : (end : ℕ) (image : List UserSegment) (zeros : ℕ) → Image end image → used (image ++ stack ∷ replicate zeros zeroSegment) ≡ image ++ stack ∷ []
+used-image : (end : ℕ) (image : List UserSegment) (zeros : ℕ) → Image end image → used (image ++ stack ∷ replicate zeros zeroSegment) ≡ image ++ stack ∷ []
 used-image end [] zeros i = ap (λ (x : List UserSegment). stack ∷ x) (none-used (replicate zeros zeroSegment) (all-same unused zeroSegment refl zeros))
 used-image end (g ∷ image) zeros i = rw (image-used g (i .0)) (ap (λ (x : List UserSegment). g ∷ x) (used-image (g .range .end) image zeros (i .2)))
 
 pub shape-used : (p : Proc) (image : List UserSegment) → Shape p image → used (p .segments) ≡ image ++ stack ∷ []
 shape-used p image h = ap used (h .segments) ∙ used-image utzero image (15 - length image) (shape-image p image h)
-
--- a record with this shape is a living process's
-pub shape-lives : (p : Proc) (image : List UserSegment) → Shape p image → lives p ≡ true
-shape-lives p image h = one-is-not (all unused (p .segments)) (all (λ b. b is 0) (p .text)) (p .bss .start is 0) (p .bss .end is 0) (ne-eqb (p .bss .start) 0 (λ z. omega (arith, h .bss-start)))
-  where
-    one-is-not : (a b c d : Bool) → c ≡ false → not (a && b && c && d) ≡ true
-    one-is-not true true c d e = rw e
-    one-is-not true false c d e = refl
-    one-is-not false b c d e = refl

@@ -2,33 +2,33 @@
 use Prim.Native.Nat.{ℕ, zero, suc, _+_, _-_, _≤_, _<_}
 use native.Mathlib.Omega.{arith}
 use mathlib.Core.Path.{_≡_, sym, ap, _∙_}
-use mathlib.Core.Bool.{true}
 use mathlib.Core.Option.{some}
 use mathlib.Core.List.{List, [], _∷_, _++_}
 use lib.ListN.{length, getD, take, replicate, length-append, length-replicate, length-take}
 use borrow.Author.Tests.{ltb-true}
-use Rattle.spec.proofs.Bools.{split, all-app}
-use Rattle.spec.specs.Tests.{_below_, within, all, ascii}
+use Rattle.spec.proofs.Bools.{split}
+use Rattle.spec.specs.Tests.{_below_, within, ascii}
 use Rattle.spec.specs.Numbers.{utzero, uaddrtop, pageUp}
 use Rattle.spec.specs.Name.{elem, cut, padded, kstrcpy}
-use Rattle.spec.specs.Book.{zeroSegment, stack, bssSegment, permAt, piecesOf, pageCount}
+use Rattle.spec.specs.Book.{zeroSegment, stack, bssSegment, permAt, piecesOf}
 use Rattle.spec.specs.Elf.{Segment, segmentsOf}
-use Rattle.spec.specs.Exec.{userSegment, imageSegments, imageBss, imageError, startPieces}
+use Rattle.spec.specs.Exec.{userSegment, imageSegments, imageBss, imageError, startPieces, kept}
 use Rattle.spec.specs.World.{procOf}
 use Rattle.spec.specs.declared.UserSegment.{UserSegment}
 use Rattle.laws.proofs.Lists.{Each, each-append}
 use Rattle.laws.proofs.Record.{WholeProc}
 use Rattle.laws.proofs.Shape.{imageEnd}
-use Rattle.laws.proofs.Apart.{count-append}
-use Rattle.laws.proofs.Pieces.{perm-each, shape-between, aligned, Apart, image-aligned, bss-aligned, image-apart, bss-stack-apart, bss-stack-low, swap-stack, perm-tail, shape-pieces}
-use Rattle.laws.proofs.Accepted.{AllLoad, nonEmpty, kept, accepted-means, elf-loads, image-recorded, image-shape}
+use Rattle.laws.proofs.Pieces.{Pieces, tail-same, perm-each}
+use Rattle.laws.proofs.OwnPieces.{image-apart, bss-stack-apart, bss-stack-low, swap-stack, shape-pieces, shape-between}
+use Rattle.laws.proofs.Accepted.{nonEmpty, accepted-means, image-recorded, image-shape}
+use Rattle.laws.proofs.Headers.{AllLoad, elf-loads}
 
 -- ---- its record
 
-pub padded-long : (s : List ℕ) → length s ≤ 28 → length (padded s) ≡ 28
+padded-long : (s : List ℕ) → length s ≤ 28 → length (padded s) ≡ 28
 padded-long s l = omega (arith, length-append s (replicate (28 - length s) 0), length-replicate {A = ℕ} (28 - length s) 0)
 
-pub cut-low : (s : List ℕ) (n : ℕ) → cut s n ≤ n
+cut-low : (s : List ℕ) (n : ℕ) → cut s n ≤ n
 cut-low s zero = omega arith
 cut-low s (suc n) = let h = cut-low s n in split (within 128 192 (getD s (suc n) 0)) (λ q. rw q (omega arith)) (λ q. rw q (omega arith))
 
@@ -62,12 +62,7 @@ start-perm image e =
         split (nonEmpty (userSegment (imageBss image) g)) (λ q. rw q (l .0 .perm, more)) (λ q. rw q more)
 
 -- they are aligned and disjoint
-pub start-aligned : (image : List ℕ) → imageError image ≡ 0 → all aligned (startPieces image) ≡ true
-start-aligned image e =
-    let r = image-recorded image e in
-    all-app aligned (imageSegments image) (bssSegment (imageBss image) ∷ stack ∷ []) (image-aligned utzero (imageSegments image) (r .ascends)) (rw (bss-aligned _ (imageBss image) (r .bss-ok)))
-
-pub start-apart : (image : List ℕ) → imageError image ≡ 0 → Apart (startPieces image)
+pub start-apart : (image : List ℕ) → imageError image ≡ 0 → Pieces (startPieces image)
 start-apart image e =
     let r = image-recorded image e in
     let end : ℕ = imageEnd utzero (imageSegments image) in
@@ -77,18 +72,10 @@ start-apart image e =
 pub start-pieces : (image name : List ℕ) → imageError image ≡ 0 → (a : ℕ) → permAt (startPieces image) a ≡ permAt (piecesOf (procOf image name)) a
 start-pieces image name e a =
     let r = image-recorded image e in
-    perm-tail (imageSegments image) (bssSegment (imageBss image) ∷ stack ∷ []) (stack ∷ bssSegment (imageBss image) ∷ []) a (swap-stack (imageEnd utzero (imageSegments image)) (imageBss image) (r .bss-ok) a)
+    tail-same (imageSegments image) (bssSegment (imageBss image) ∷ stack ∷ []) (stack ∷ bssSegment (imageBss image) ∷ []) a (swap-stack (imageEnd utzero (imageSegments image)) (imageBss image) (r .bss-ok) a)
     ∙ ap (λ (x : List UserSegment). permAt x a) (sym (shape-pieces (procOf image name) (imageSegments image) (image-shape image name e)))
 
 -- they lie in user memory
 pub start-between : (image : List ℕ) → imageError image ≡ 0 → (a q : ℕ) → permAt (startPieces image) a ≡ some q → (utzero ≤ a) × (a < uaddrtop)
 start-between image e a q f =
     shape-between (procOf image []) (imageSegments image) (image-shape image [] e) a q (sym (start-pieces image [] e a) ∙ f)
-
--- and are equally many
-pub start-count : (image name : List ℕ) → imageError image ≡ 0 → pageCount (startPieces image) ≡ pageCount (piecesOf (procOf image name))
-start-count image name e =
-    let x = count-append (imageSegments image) (bssSegment (imageBss image) ∷ stack ∷ []) in
-    let y = count-append (imageSegments image) (stack ∷ bssSegment (imageBss image) ∷ []) in
-    let z = ap pageCount (shape-pieces (procOf image name) (imageSegments image) (image-shape image name e)) in
-    omega arith

@@ -19,7 +19,7 @@ turn-same t z w f true u v x y q r s h = refl
 turn-same t z w f false u v x y q r s h = ap (λ (k : Argv). not t ⇒ u else z ⇒ v else not w ⇒ x else f ⇒ y else k) (h refl)
 
 -- each argument takes 8 bytes of the limit or more, besides 16
-pub turns-past : (mem : Mem) (argv extra turns : ℕ) (before : List (List ℕ)) → 1 ≤ turns → argLimit < 8 * (length before + turns + 2)
+turns-past : (mem : Mem) (argv extra turns : ℕ) (before : List (List ℕ)) → 1 ≤ turns → argLimit < 8 * (length before + turns + 2)
     → argvFrom mem argv before (turns + extra) ≡ argvFrom mem argv before turns
 turns-past mem argv extra zero before l h = absurd (omega arith)
 turns-past mem argv extra (suc turns) before l h =
@@ -37,7 +37,7 @@ turns-past mem argv extra (suc turns) before l h =
     let count = length-append before (take (str .size) (str .buffer) ∷ []) in
     turns-past mem argv extra turns args (omega arith) (omega arith))
 
-pub turns-enough : (mem : Mem) (argv extra : ℕ) → argvFrom mem argv [] (argLimit + extra) ≡ argvFrom mem argv [] argLimit
+turns-enough : (mem : Mem) (argv extra : ℕ) → argvFrom mem argv [] (argLimit + extra) ≡ argvFrom mem argv [] argLimit
 turns-enough mem argv extra = turns-past mem argv extra argLimit [] (omega arith) (omega arith)
 
 -- so the arguments read don't depend on how many turns there are

@@ -1,4 +1,5 @@
-// Lists the image on standard input: its entry point, segments, bss and pages, or the number that it is refused with.
+// Lists the image on standard input: its entry point, segments, bss and pages, or the number that it is refused with. The text is
+// proved in crate text; here bytes are read and written.
 use libc::STDOUT_FILENO;
 
 fn main() {
@@ -6,6 +7,6 @@ fn main() {
     let mut image = [0u8; 32769];
     let n = io::read_full(0, &mut image);
     let mut out = [0u8; 1024];
-    let k = text::list_into(&image[..n], &mut out);
+    let k = list::list_into(&image[..n], &mut out);
     io::write_all(STDOUT_FILENO, &out[..k]);
 }

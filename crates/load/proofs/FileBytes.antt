@@ -9,13 +9,12 @@ use Rattle.spec.specs.Tests.{_is_, within, _⇒_else_}
 use Rattle.spec.specs.Numbers.{pageUp, pageDown}
 use Rattle.spec.specs.Elf.{Segment, inFile}
 use Rattle.spec.specs.Exec.{fileByte, bssOf}
-use Rattle.spec.proofs.Bools.{split, within-means}
-use Rattle.laws.proofs.Frame.{within-not}
-use Rattle.laws.proofs.Accepted.{Loads, AllLoad}
+use Rattle.spec.proofs.Bools.{split, within-means, within-not}
 use Rattle.pagealloc.specs.Contents.{fileAt}
+use Rattle.laws.proofs.Headers.{Loads, AllLoad}
 
 -- below all segments there is no file byte
-pub file-low : (e : ℕ) (gs : List Segment) → AllLoad e gs → (x : ℕ) → x < e → fileByte gs x ≡ 0
+file-low : (e : ℕ) (gs : List Segment) → AllLoad e gs → (x : ℕ) → x < e → fileByte gs x ≡ 0
 file-low e [] l x h = refl
 file-low e (g ∷ gs) l x h =
     let o = l .0 .ordered in

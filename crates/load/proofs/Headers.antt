@@ -19,7 +19,7 @@ use Rattle.elf.specs.declared.Segment.{Segment as Held}
 use Rattle.elf.specs.Reader.{loadOf, Checked, CheckedLoad}
 use Rattle.elf.proofs.Walk.{segmentIn, front}
 use Rattle.laws.proofs.Accepted.{Placed, layout-first}
-use Rattle.exec.specs.Plan.{pagesIn}
+use Rattle.recorded.specs.Pages.{pagesIn}
 use Rattle.pagealloc.specs.Contents.{fileAt}
 use Rattle.load.specs.Pages.{segmentPages, loadPages, LaidLoad}
 

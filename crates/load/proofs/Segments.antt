@@ -1,24 +1,24 @@
 -- The pages that a start places are those of the image's segments, each with its own file bytes, then zero pages for bss and stack.
 use Prim.Native.Nat.{ℕ, zero, suc, _+_, _*_, _-_, _/_, _≤_, _<_}
 use native.Mathlib.Omega.{arith}
-use native.Mathlib.Nat.{add-zero, not-suc-le-zero}
 use mathlib.Core.Path.{_≡_, refl, sym, ap, ap₂, _∙_}
-use mathlib.Core.Bool.{Bool, true, false, not, _&&_, _||_}
-use mathlib.Core.List.{List, [], _∷_, _++_, map, append-nil}
-use lib.ListN.{length, replicate}
-use borrow.Author.Tests.{ltb-true, ltb-false, ne-eqb}
-use Rattle.spec.specs.Tests.{_is_, _isnt_, _below_, _above_, _⇒_else_, filter}
-use Rattle.spec.specs.Numbers.{utzero, limit, pageUp, pageDown, bytesFrom, pageBytes, zeroPage}
-use Rattle.spec.specs.Book.{segment, stack, bssSegment}
+use mathlib.Core.Bool.{true, false}
+use mathlib.Core.List.{List, [], _∷_, _++_}
+use lib.ListN.{replicate}
+use borrow.Author.Tests.{ltb-false}
+use Rattle.spec.specs.Tests.{_is_, _⇒_else_}
+use Rattle.spec.specs.Numbers.{pageUp, pageDown, bytesFrom, pageBytes, zeroPage}
+use Rattle.spec.specs.Book.{stack, bssSegment}
 use Rattle.spec.specs.Frames.{Page, pagesFrom, pagesOf}
 use Rattle.spec.specs.Elf.{Segment, segmentsOf}
-use Rattle.spec.specs.Exec.{layoutOk, bssOf, userSegment, imageSegments, imageBss, imageError, startPieces, fileByte}
+use Rattle.spec.specs.Exec.{layoutOk, userSegment, imageSegments, imageBss, imageError, startPieces, fileByte, kept}
 use Rattle.spec.specs.declared.VirtRange.{VirtRange}
 use Rattle.spec.specs.declared.UserSegment.{UserSegment}
-use Rattle.spec.proofs.Bools.{split, both, clash}
+use Rattle.spec.proofs.Bools.{split}
 use Rattle.laws.proofs.Lists.{Each}
 use Rattle.laws.proofs.Pages.{pages-append}
-use Rattle.laws.proofs.Accepted.{Loads, AllLoad, Accepted, accepted-means, elf-loads, nonEmpty, kept, Recorded, image-recorded}
+use Rattle.laws.proofs.Accepted.{accepted-means, nonEmpty, image-recorded, layout-first, no-data}
+use Rattle.laws.proofs.Headers.{AllLoad, elf-loads}
 use Rattle.pagealloc.specs.Contents.{fileAt}
 use Rattle.load.specs.Pages.{onePages, segmentPages}
 use Rattle.load.proofs.FileBytes.{file-head, file-tail, file-high}
@@ -84,31 +84,19 @@ kept-above bss e (g ∷ gs) l =
     weaken [] b = tt
     weaken (u ∷ us) b = let o = l .0 .ordered in let x = b .0 in (omega arith, weaken us (b .1))
 
--- a segment that others follow is no data
-before-none : (g k : Segment) (gs : List Segment) → layoutOk (g ∷ k ∷ gs) ≡ true → ((g .perm is 3) ≡ false) × (layoutOk (k ∷ gs) ≡ true)
-before-none g k gs e =
-    let p = both (not (g .vaddr below utzero) && not (g .vaddr + g .memsz above limit) && (g .perm isnt 3 || length (k ∷ gs) is 0)) (layoutOk (k ∷ gs)) e in
-    let q = both (not (g .vaddr below utzero) && not (g .vaddr + g .memsz above limit)) (g .perm isnt 3 || length (k ∷ gs) is 0) (p .0) in
-    (neither (g .perm is 3) (length (k ∷ gs) is 0) (q .1) (ne-eqb (suc (length gs)) 0 (λ z. omega arith)), p .1)
-  where
-    neither : (a b : Bool) → (not a || b) ≡ true → b ≡ false → a ≡ false
-    neither true b x y = clash b x y
-    neither false b x y = refl
-
-pub image-pages : (bss : VirtRange) (e : ℕ) (gs : List Segment) → AllLoad e gs → layoutOk gs ≡ true → pagesOf (pageBytes (fileByte gs)) (kept bss gs) ≡ segmentPages bss gs
+image-pages : (bss : VirtRange) (e : ℕ) (gs : List Segment) → AllLoad e gs → layoutOk gs ≡ true → pagesOf (pageBytes (fileByte gs)) (kept bss gs) ≡ segmentPages bss gs
 unfolding segmentPages
 image-pages bss e [] l y = refl
 image-pages bss e (g ∷ []) l y =
     pages-kept (pageBytes (fileByte (g ∷ []))) (userSegment bss g) []
 image-pages bss e (g ∷ k ∷ gs) l y =
-    let n = before-none g k gs y in
     let f : ℕ → List ℕ = pageBytes (fileByte (g ∷ k ∷ gs)) in
     let top : ℕ = pageUp (g .vaddr + g .memsz) in
     pages-kept f (userSegment bss g) (kept bss (k ∷ gs))
-    ∙ ap₂ _++_ (own (n .0))
+    ∙ ap₂ _++_ (own (no-data g k gs y))
     (pages-above f (pageBytes (fileByte (k ∷ gs))) top (kept bss (k ∷ gs)) (kept-above bss top (k ∷ gs) (l .1))
     (λ a h. page-same (fileByte (g ∷ k ∷ gs)) (fileByte (k ∷ gs)) a (λ x u v. file-tail e g (k ∷ gs) (l .0) x (omega arith)))
-    ∙ image-pages bss top (k ∷ gs) (l .1) (n .1))
+    ∙ image-pages bss top (k ∷ gs) (l .1) (layout-first g (k ∷ gs) y .2))
   where
     own : (g .perm is 3) ≡ false → pagesOf (pageBytes (fileByte (g ∷ k ∷ gs))) (userSegment bss g ∷ []) ≡ onePages bss g
     own q =

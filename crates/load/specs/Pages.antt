@@ -1,4 +1,5 @@
--- The pages of loadable segments, each with its own file bytes.
+-- The pages of loadable segments, each with its own file bytes. The specification gives a page's bytes over all segments at once
+-- (`fileByte`); the loader goes segment by segment, and its laws prove that both come to the same pages.
 -- Assumes nothing.
 use Prim.Native.Nat.{ℕ, _+_, _≤_}
 use mathlib.Core.List.{List, [], _∷_, _++_}
@@ -10,7 +11,7 @@ use Rattle.spec.specs.Exec.{userSegment}
 use Rattle.spec.specs.declared.VirtRange.{VirtRange}
 use Rattle.elf.specs.declared.Load.{Load}
 use Rattle.elf.specs.declared.Load.the-variants.{Skip, Segment as Taken}
-use Rattle.exec.specs.Plan.{pagesIn}
+use Rattle.recorded.specs.Pages.{pagesIn}
 use Rattle.pagealloc.specs.Contents.{fileAt}
 
 -- a segment's recorded pages, by a bss

@@ -40,7 +40,7 @@ fn load_header(
     match l {
         Load::Skip => top,
         Load::Segment(g) => {
-            let recorded = exec::user_segment(bss, g);
+            let recorded = recorded::user_segment(bss, g);
             let vaddr = g.vaddr;
             let file = checked::file_of(image, h, g);
             pagealloc::place::load_segment(frames, book, top, owner, recorded, vaddr, file)

@@ -1,4 +1,4 @@
--- An address rounded up to a page, where 64 bits hold it.
+-- An address rounded up to a page, where 64 bits hold it. The specification's `pageUp` knows no largest number; the machine does.
 -- Assumes nothing.
 use Prim.Native.Nat.{ℕ, _^_}
 use Rattle.spec.specs.Tests.{_below_, _⇒_else_}

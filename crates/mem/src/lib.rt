@@ -2,10 +2,10 @@
 // `PhysAddr`, so that neither can be passed for the other.
 
 ghost use mathlib.Core.Path.{_≡_};
-ghost use Prim.Native.Nat.{_+_, _-_, _^_, _≤_, _<_};
-ghost use Rattle.spec.specs.Tests.{within};
+ghost use Prim.Native.Nat.{_+_, _-_, _*_, _/_, _^_, _≤_, _<_};
+ghost use lib.ListN.{take};
 ghost use Rattle.spec.specs.Numbers.{pageDown, pageUp};
-ghost use Rattle.spec.specs.Book.{range};
+ghost use Rattle.spec.specs.Book.{range, pageCount};
 ghost use Rattle.mem.specs.Rounding.{roundedUp};
 
 // The highest multiple of a page in 64 bits: what lies above it rounds past them.
@@ -82,9 +82,28 @@ pub fn size(r: spec::VirtRange) -> u64
     r.end - r.start
 }
 
-// `VirtRange::contains`.
-pub fn contains(r: spec::VirtRange, addr: u64) -> bool
-    ensures { λ b. ⌜ b ≡ within (r .start) (r .end) addr ⌝ }
+// How many whole pages a range has; one that ends before it starts has none.
+pub fn pages(r: spec::VirtRange) -> u64
+    ensures { λ n. ⌜ (n ≡ (r .end - r .start) / 4096) × (n < 2 ^ 52) ⌝ }
 {
-    !(addr < r.start) & (addr < r.end)
+    if r.end < r.start {
+        return 0;
+    }
+    size(r) / spec::PAGE_SIZE_4K
+}
+
+// How many pages the first `n` of a record's segments have.
+pub fn page_count(segments: [spec::UserSegment; 16], n: usize) -> u64
+    requires { ⌜ n ≤ 16 ⌝ }
+    ensures { λ r. ⌜ (r ≡ pageCount (take n segments)) × (r ≤ 2 ^ 52 * n) ⌝ }
+{
+    let mut sum = 0;
+    let mut i = 0;
+    while i < n {
+        let u = segments[i];
+        let r = u.range;
+        sum += pages(r);
+        i += 1;
+    }
+    sum
 }

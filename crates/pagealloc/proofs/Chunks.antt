@@ -5,20 +5,16 @@ use mathlib.Core.Path.{_≡_, refl, sym, ap, _∙_}
 use mathlib.Core.Option.{some}
 use mathlib.Core.List.{List}
 use lib.ListN.{length, take, drop, length-drop}
-use lib.Seq.{ext-getD, getD-take, getD-drop, length-take-le, take-add, take-length}
-use borrow.Rule.Slice.PartMut.{putMid, midOf, mid-len}
+use lib.Seq.{length-take-le, take-add, take-length}
 use Rattle.spec.specs.Numbers.{pageDown}
 use Rattle.spec.specs.Book.{frameOf}
-use Rattle.spec.specs.Frames.{Store, memOf, put, pokes}
-use Rattle.spec.specs.Access.{byteOf, bytesAt}
+use Rattle.spec.specs.Frames.{Store, put, pokes}
 use Rattle.laws.proofs.Frame.{Fits, frame-found}
 use Rattle.laws.proofs.Pokes.{pokes-append, pokes-page}
-use Rattle.laws.proofs.Contents.{length-bytes, get-bytes}
 use Rattle.spec.specs.declared.Found.the-variants.{At, Nothing}
 use Rattle.book.specs.Lent.{store, foundOf}
 use Rattle.pagealloc.specs.Lent.{Mapped}
-use Rattle.book.proofs.Overwrite.{mix, mix-part}
-use Rattle.pagealloc.proofs.Placing.{found-at}
+use Rattle.book.proofs.Searches.{found-at}
 use Rattle.pagealloc.proofs.Copying.{not-missing}
 
 -- the frame of an address's page

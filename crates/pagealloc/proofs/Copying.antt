@@ -17,7 +17,7 @@ use Rattle.laws.proofs.Frame.{Fits, frame-found, frame-perm, perm-same}
 use Rattle.laws.proofs.Place.{mem-place-other}
 use Rattle.laws.proofs.Contents.{length-frame, frame-same}
 use Rattle.book.specs.Lent.{foundOf}
-use Rattle.pagealloc.proofs.Placing.{found-none}
+use Rattle.book.proofs.Searches.{found-none}
 
 -- a used frame and a free frame lie apart
 pub apart : (book : List ℕ) (j k : ℕ) → (getD book j 0 ≡ 0 → ⊥) → getD book k 0 ≡ 0 → (4096 * j + 4096 ≤ 4096 * k) ⊎ (4096 * k + 4096 ≤ 4096 * j)

@@ -16,11 +16,12 @@ use Rattle.spec.specs.Book.{wordOf, highest, freeFrame, segment}
 use Rattle.spec.specs.Frames.{Store, put, Page, pagesFrom, pagesOf, hold, place}
 use Rattle.spec.specs.declared.Found.the-variants.{At, Nothing}
 use Rattle.spec.proofs.Bools.{split}
-use Rattle.spec.proofs.Search.{hit, miss}
+use Rattle.spec.proofs.Search.{hit, miss, highest-none}
 use Rattle.spec.proofs.Words.{used-word}
 use Rattle.laws.proofs.Lists.{by-order}
-use Rattle.laws.proofs.Cursor.{place-below, cursor-end}
+use Rattle.laws.proofs.Place.{place-none}
 use Rattle.book.specs.Lent.{store, foundOf}
+use Rattle.book.proofs.Searches.{found-at, found-none}
 use Rattle.pagealloc.specs.Lent.{Passed}
 
 -- ---- one page
@@ -35,19 +36,6 @@ unfolding zeroPage
 zero-same page = refl
 
 -- ---- the search from a frame on
-
--- what the search answers
-pub found-at : (o : Option ℕ) (k : ℕ) → At k ≡ foundOf o → o ≡ some k
-found-at none k e = absurd (let z : _≡_ {A = ℕ} 0 1 = cc in omega arith)
-found-at (some j) k e = cc
-
-pub found-none : (o : Option ℕ) → Nothing ≡ foundOf o → o ≡ none
-found-none none e = refl
-found-none (some j) e = absurd (let z : _≡_ {A = ℕ} 0 1 = cc in omega arith)
-
--- all frames are still to be looked at
-pub passed-all : (book : List ℕ) → Passed (length book) book
-passed-all book = (omega arith, λ k l u. absurd (omega arith))
 
 -- where nothing from c on passes, the highest is below c
 highest-from : (t : ℕ → Bool) (b c : ℕ) → c ≤ b → ((k : ℕ) → c ≤ k → k < b → t k ≡ false) → highest t b ≡ highest t c
@@ -152,7 +140,7 @@ module _ (f : ℕ → List ℕ) (perm owner end first : ℕ) (m t : Store) (page
   pub ran-full : Nothing ≡ foundOf (highest (isFree (t .book)) c) → (t ≡ place m owner (pagesOf f (segment first end perm ∷ []))) × Passed 0 (t .book)
   ran-full e =
       let none-left = passed-none (t .book) c (ran .passed) e in
-      (sym (ap (place m owner) one ∙ ran .rest ∙ place-below 0 t owner (run f perm end page) lo (omega arith) (none-left .1) ∙ cursor-end t owner (run f perm end page)), none-left)
+      (sym (ap (place m owner) one ∙ ran .rest ∙ place-none t owner (run f perm end page) (highest-none (isFree (t .book)) (length (t .book)) (λ k h. none-left .1 k (omega arith) h))), none-left)
 
   -- no page is left
   pub ran-end : end ≤ page → (t ≡ place m owner (pagesOf f (segment first end perm ∷ []))) × Passed c (t .book)

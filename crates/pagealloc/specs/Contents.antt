@@ -1,14 +1,3 @@
--- What pages hold.
+-- What pages hold (crate frame_pages).
 -- Assumes nothing.
-use Prim.Native.Nat.{ℕ, _+_, _-_}
-use mathlib.Core.List.{List, _++_}
-use lib.ListN.{length, getD, replicate}
-use Rattle.spec.specs.Tests.{within, _⇒_else_}
-
--- a page of `from` zeros, then s, then zeros
-unfoldable pub padded : ℕ → List ℕ → List ℕ
-padded from s = replicate from 0 ++ s ++ replicate (4096 - from - length s) 0
-
--- the byte at an address of a segment whose file bytes stand at `vaddr`: those, and zero elsewhere
-abbrev pub fileAt : ℕ → List ℕ → ℕ → ℕ
-fileAt vaddr file a = within vaddr (vaddr + length file) a ⇒ getD file (a - vaddr) 0 else 0
+pub use Rattle.frame_pages.specs.Contents.{fileAt}

@@ -1,4 +1,5 @@
--- Which frames are free, and which pages a process has.
+-- Which frames are free, and which pages a process has. Functions that place and write pages ask these of their callers, who have
+-- counted frames and checked ranges.
 -- Assumes nothing.
 use Prim.Native.Nat.{ℕ, _%_, _≤_, _<_}
 use mathlib.Core.Path.{_≡_}

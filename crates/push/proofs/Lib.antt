@@ -1,6 +1,2 @@
--- The places and the two ranges of a push.
-pub mod Ranges
--- What it writes.
-pub mod Written
--- What it answers.
+-- What a push answers.
 pub mod Answered

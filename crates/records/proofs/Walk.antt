@@ -1,9 +1,9 @@
 -- A walk over a list from place to place, for tests that go by recursion on the list.
-use Prim.Native.Nat.{ℕ, suc, _+_, _<_, _≤_}
+use Prim.Native.Nat.{ℕ, _+_, _<_, _≤_}
 use native.Mathlib.Numerals.{add-one}
-use mathlib.Core.Path.{_≡_, refl, ap, sym, _∙_}
+use mathlib.Core.Path.{_≡_, refl, sym, _∙_}
 use mathlib.Core.Bool.{Bool, true, false, not, _&&_}
-use mathlib.Core.List.{List, [], _∷_, map}
+use mathlib.Core.List.{List, map}
 use lib.Dec.{leb, ltb}
 use lib.ListN.{length, getD, drop, drop-of-length-le, length-map}
 use lib.Seq.{drop-cons}
@@ -21,15 +21,6 @@ pub at-most : (a b : ℕ) → leb a b ≡ not (ltb b a)
 at-most a b = split (leb a b)
     (λ q. rw (q, le-ltb b a (leb-true a b q)) refl)
     (λ q. rw (q, lt-ltb b a (leb-false a b q)) refl)
-
--- a test that fails, beside any
-pub and-false : (a : Bool) → (a && false) ≡ false
-and-false true = refl
-and-false false = refl
-
-pub and-true : (a : Bool) → (a && true) ≡ a
-and-true true = refl
-and-true false = refl
 
 -- one element further
 module _ {A : Type 0} (t : A → Bool) (l : List A) (i : ℕ) where

@@ -1,4 +1,6 @@
--- The check's test of one record: the specification's, and each segment's permission, which the words of a sound book decide.
+-- The check's test of one record: the specification's, and each segment's permission, which the words of a sound book decide. A
+-- record is tested before the book is looked at, so that a permission that no word could have is refused here; the check as a whole
+-- comes to `soundBook`.
 -- Assumes nothing.
 use Prim.Native.Nat.{ℕ, _%_, _<_}
 use mathlib.Core.Path.{_≡_}

@@ -1,4 +1,5 @@
-// One process's record, and all of them: their own rules, without the book.
+// One process's record, and all of them: their own rules, without the book. Refusal 2 begins with them, so that the pass over the
+// book rests on records that are in order.
 
 ghost use mathlib.Core.Path.{_≡_};
 ghost use Prim.Native.Nat.{_≤_};
@@ -20,21 +21,21 @@ use spec::UserSegment;
 use spec::VirtRange;
 
 // An unused place of a record is zero.
-pub fn is_unused(s: UserSegment) -> bool
+fn is_unused(s: UserSegment) -> bool
     ensures { λ r. ⌜ r ≡ unused s ⌝ }
 {
     (s.range.start == 0) & (s.range.end == 0) & (s.perm == 0)
 }
 
 // The whole stack as data.
-pub fn is_stack(s: UserSegment) -> bool
+fn is_stack(s: UserSegment) -> bool
     ensures { λ r. ⌜ r ≡ sameSegment s stack ⌝ }
 {
     (s.range.start == USTKTOP - USTKSIZE) & (s.range.end == USTKTOP) & (s.perm == DATA)
 }
 
 // Whether all places of a record from `from` on are unused.
-pub fn rest_unused(segments: [UserSegment; 16], from: usize) -> bool
+fn rest_unused(segments: [UserSegment; 16], from: usize) -> bool
     requires { ⌜ from ≤ 16 ⌝ }
     ensures { λ r. ⌜ r ≡ all unused (drop from segments) ⌝ }
 {
@@ -50,7 +51,7 @@ pub fn rest_unused(segments: [UserSegment; 16], from: usize) -> bool
 }
 
 // Whether all bytes of a name are zero.
-pub fn no_name(text: [u8; 28]) -> bool
+fn no_name(text: [u8; 28]) -> bool
     ensures { λ r. ⌜ r ≡ all (λ b. b is 0) text ⌝ }
 {
     let mut i = 0;
@@ -73,7 +74,7 @@ pub fn lives(p: Proc) -> bool
 }
 
 // A segment of the image: page-aligned, non-empty, from `low` on and at most at limit, and with a permission.
-pub fn image_ok(low: u64, s: UserSegment) -> bool
+fn image_ok(low: u64, s: UserSegment) -> bool
     ensures { λ r. ⌜ r ≡ imageTest low s ⌝ }
 {
     let start = s.range.start;
@@ -88,7 +89,7 @@ pub fn image_ok(low: u64, s: UserSegment) -> bool
 }
 
 // The bss, where the image ends at `low`. Its start is rounded up only once it is known to be at most limit.
-pub fn bss_ok(low: u64, bss: VirtRange) -> bool
+fn bss_ok(low: u64, bss: VirtRange) -> bool
     ensures { λ r. ⌜ r ≡ bssOk low bss ⌝ }
 {
     let start = bss.start;
@@ -104,7 +105,7 @@ pub fn bss_ok(low: u64, bss: VirtRange) -> bool
 }
 
 // Whether a record is a living process's: image segments, ascending and disjoint, then the stack, then unused places; and the bss.
-pub fn is_shaped(p: Proc) -> bool
+fn is_shaped(p: Proc) -> bool
     ensures { λ r. ⌜ r ≡ shaped utzero (p .bss) (p .segments) ⌝ }
 {
     let segments = p.segments;
@@ -126,7 +127,7 @@ pub fn is_shaped(p: Proc) -> bool
 }
 
 // A record is a living process's, or a dead one's.
-pub fn record_ok(p: Proc) -> bool
+fn record_ok(p: Proc) -> bool
     ensures { λ r. ⌜ r ≡ passes p ⌝ }
 {
     if is_shaped(p) {

@@ -1,3 +1,2 @@
--- What is free once the old pages are; and a replace's answer, case by case.
-pub mod Freed
+-- A replace's answer, case by case.
 pub mod Weighed

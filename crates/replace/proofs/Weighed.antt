@@ -14,7 +14,7 @@ use Rattle.spec.specs.World.{State, view, forget, load, leave}
 use Rattle.spec.specs.declared.Answer.{Answer}
 use Rattle.spec.specs.declared.Answer.the-variants.{Regs, Refused, Ended}
 use Rattle.front.specs.Numbers.{call}
-use Rattle.replace.specs.Entering.{short, entered, entering}
+use Rattle.enter.specs.Entering.{short, entered, entering}
 
 module _ (m : Machine) (free : ℕ) (image name : List ℕ) (argv : ℕ) where
   -- its image is refused
@@ -29,7 +29,7 @@ module _ (m : Machine) (free : ℕ) (image name : List ℕ) (argv : ℕ) where
   argv-over z e = rw (z, e)
 
   -- they are read
-  pub argv-read : imageError image ≡ 0 → copyArgv (m .mem) argv .error ≡ 0
+  argv-read : imageError image ≡ 0 → copyArgv (m .mem) argv .error ≡ 0
       → weigh m free (replace image name argv) ≡ plainly (pageCount (startPieces image) above own m + free ⇒ Ended 33 else Regs (registers (entry image) ustktop (copyArgv (m .mem) argv .args)))
   argv-read z e = rw (z, e)
 

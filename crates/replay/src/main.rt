@@ -2,17 +2,16 @@
 ghost use mathlib.Core.Path.{_≡_};
 ghost use Prim.Native.Nat.{_≤_};
 ghost use lib.ListN.{length};
-ghost use Rattle.replay.specs.Rooms.{Lends, Within};
+ghost use Rattle.lines.specs.Lent.{Lends};
+ghost use Rattle.replay.specs.Rooms.{Within};
 
-mod called;
 mod input;
-mod lent;
-mod program;
 mod say;
 mod shown;
 
 use input::Input;
-use lent::World;
+use libc::STDOUT_FILENO;
+use lines::World;
 use script::Line;
 
 // What the program holds: what the script has made, and how far its input is read.
@@ -22,24 +21,30 @@ struct Session {
     ended: bool,
 }
 
-// Runs a line, and answers it.
-fn answer(frames: &mut [u8], book: &mut [u64], space: &mut [u8], w: World, line: &[u8]) -> World
+// Runs a line, and writes its answer.
+fn answer(
+    frames: &mut [u8],
+    book: &mut [u64],
+    space: &mut [u8],
+    out: &mut [u8],
+    w: World,
+    line: &[u8],
+) -> World
     requires { ⌜ length (now frames) ≡ 4198400 ⌝ }
     requires { ⌜ length (now book) ≡ 1025 ⌝ }
-    requires { ⌜ 65536 ≤ length (now space) ⌝ }
+    requires { ⌜ (65537 ≤ length (now space)) × ((length (now line) ≤ 65537) × (131136 ≤ length (now out))) ⌝ }
     requires { ⌜ Lends w ⌝ }
     ensures { λ r. ⌜ Lends r ⌝ }
 {
     let kind = script::kind(line);
-    match kind {
-        Line::Blank => w,
-        Line::Frames => lent::frames(frames, book, w, line),
-        Line::Lend => lent::lend(w, line),
-        Line::Word => lent::word(book, w, line),
-        Line::Sum => lent::sum(frames, book, w),
-        Line::Map => lent::map(book, w, line),
-        _ => lent::call(frames, book, space, w, kind, line),
+    if let Line::Map = kind {
+        shown::map(book, w, line);
+        return w;
     }
+    let step = lines::answer(frames, book, space, out, w, kind, line);
+    let size = step.size;
+    io::write_all(STDOUT_FILENO, &out[..size]);
+    step.world
 }
 
 // Takes a turn: reads if there's nothing left to take, takes up to the end of a line, and answers the line if it is whole.
@@ -47,13 +52,14 @@ fn turn(
     frames: &mut [u8],
     book: &mut [u64],
     space: &mut [u8],
+    out: &mut [u8],
     buffer: &mut [u8],
     line: &mut [u8],
     s: Session,
 ) -> Session
     requires { ⌜ length (now frames) ≡ 4198400 ⌝ }
     requires { ⌜ length (now book) ≡ 1025 ⌝ }
-    requires { ⌜ 65536 ≤ length (now space) ⌝ }
+    requires { ⌜ (65537 ≤ length (now space)) × ((length (now line) ≡ 65537) × (131136 ≤ length (now out))) ⌝ }
     requires { ⌜ Lends (s .world) × Within (s .input) (length (now buffer)) (length (now line)) ⌝ }
     ensures { λ r. ⌜ Lends (r .world) × Within (r .input) (length (now (buffer .entry))) (length (now (line .entry))) ⌝ }
 {
@@ -72,7 +78,7 @@ fn turn(
             ended: ended,
         };
     }
-    let after = answer(frames, book, space, world, &line[..size]);
+    let after = answer(frames, book, space, out, world, &line[..size]);
     Session {
         world: after,
         input: input::before_line(at, end, ended),
@@ -81,13 +87,20 @@ fn turn(
 }
 
 // Takes turns until the input ends.
-fn run(frames: &mut [u8], book: &mut [u64], space: &mut [u8], buffer: &mut [u8], line: &mut [u8])
+fn run(
+    frames: &mut [u8],
+    book: &mut [u64],
+    space: &mut [u8],
+    out: &mut [u8],
+    buffer: &mut [u8],
+    line: &mut [u8],
+)
     requires { ⌜ length (now frames) ≡ 4198400 ⌝ }
     requires { ⌜ length (now book) ≡ 1025 ⌝ }
-    requires { ⌜ 65536 ≤ length (now space) ⌝ }
+    requires { ⌜ (65537 ≤ length (now space)) × ((length (now line) ≡ 65537) × (131136 ≤ length (now out))) ⌝ }
 {
     let mut s = Session {
-        world: lent::nothing(),
+        world: lines::nothing(),
         input: input::before_line(0, 0, false),
         ended: false,
     };
@@ -97,7 +110,7 @@ fn run(frames: &mut [u8], book: &mut [u64], space: &mut [u8], buffer: &mut [u8],
         if s.ended {
             return;
         }
-        s = turn(frames, book, space, buffer, line, s);
+        s = turn(frames, book, space, out, buffer, line, s);
         turns -= 1;
     }
 }
@@ -107,10 +120,11 @@ fn replay(
     frames: &mut [u8; 4198400],
     book: &mut [u64; 1025],
     space: &mut [u8; 2097153],
+    out: &mut [u8; 131136],
     buffer: &mut [u8; 65536],
     line: &mut [u8; 65537],
 ) {
-    run(frames, book, space, buffer, line);
+    run(frames, book, space, out, buffer, line);
 }
 
 fn main() {
@@ -119,8 +133,17 @@ fn main() {
     let mut book = [0u64; 1025];
     // A file's bytes, and one byte more, so that a longer file is seen to be one.
     let mut space = [0u8; 2097153];
+    // The longest answer: a buffer of 65,536 bytes in hex digits, and the rest of its line.
+    let mut out = [0u8; 131136];
     let mut buffer = [0u8; 65536];
     // A line's bytes, and one byte more, so that a longer line is seen to be one.
     let mut line = [0u8; 65537];
-    replay(&mut frames, &mut book, &mut space, &mut buffer, &mut line);
+    replay(
+        &mut frames,
+        &mut book,
+        &mut space,
+        &mut out,
+        &mut buffer,
+        &mut line,
+    );
 }

@@ -1,74 +1,13 @@
-// The lines of rules by themselves, and of what is shown.
+// The table of a process, whose lines have no small bound: they are written one at a time.
+ghost use mathlib.Core.Path.{_≡_};
 ghost use Prim.Native.Nat.{_≤_, _^_};
-use asked::Taken;
+ghost use lib.ListN.{length};
+ghost use Rattle.lines.specs.Lent.{Lends};
+use lines::World;
 use script::Number;
-use segment::Bss;
 use spec::Proc;
 use spec::UserSegment;
 use spec::VirtRange;
-
-// The bss that two words of a line give.
-enum Words {
-    Give(Bss),
-    Bad,
-}
-
-fn bss_of(line: &[u8]) -> Words {
-    let first = script::word(line, 1);
-    let second = script::word(line, 2);
-    if script::same(first, b"none") {
-        if script::same(second, b"none") {
-            return Words::Give(Bss::Unset);
-        }
-        return Words::Bad;
-    }
-    let Number::Is(start) = script::decimal(first) else {
-        return Words::Bad;
-    };
-    let Number::Is(end) = script::decimal(second) else {
-        return Words::Bad;
-    };
-    Words::Give(Bss::Set(mem::range(start, end)))
-}
-
-// rule START END FREE ADDRESS
-pub fn rule(line: &[u8]) {
-    let Words::Give(bss) = bss_of(line) else {
-        crate::say::bad_line();
-        return;
-    };
-    let Number::Is(free) = asked::number(line, 3) else {
-        crate::say::bad_line();
-        return;
-    };
-    let Number::Is(addr) = asked::number(line, 4) else {
-        crate::say::bad_line();
-        return;
-    };
-    let b = segment::ibrk(bss, addr, free);
-    let error = b.error;
-    let value = b.value;
-    let after = b.bss;
-    if error != 0 {
-        crate::say::refused(error);
-        return;
-    }
-    match after {
-        Bss::Set(r) => crate::say::moved(value, r),
-        Bss::Unset => crate::say::refused(spec::EBADARG),
-    }
-}
-
-// name BYTES
-pub fn name(space: &mut [u8], line: &[u8]) {
-    let Taken::Size(n) = asked::bytes(space, script::word(line, 1)) else {
-        crate::say::bad_line();
-        return;
-    };
-    let mut text = [0u8; 28];
-    kstr::kstrcpy(&mut text, &space[..n]);
-    crate::say::ok_bytes(&text);
-}
 
 fn least(a: u64, b: u64) -> u64
     ensures { λ r. ⌜ (r ≤ a) × (r ≤ b) ⌝ }
@@ -127,7 +66,7 @@ fn segments(book: &[u64], number: u64, all: [UserSegment; 16]) -> u64
 }
 
 // The table of a living process.
-pub fn table(book: &[u64], number: u64, p: Proc) {
+fn table(book: &[u64], number: u64, p: Proc) {
     let text = p.text;
     let all = p.segments;
     let bss = p.bss;
@@ -136,4 +75,30 @@ pub fn table(book: &[u64], number: u64, p: Proc) {
     crate::say::part(b"bss", bss);
     let m = pages(book, number, bss);
     crate::say::pages(n + m);
+}
+
+// map NUMBER
+pub fn map(book: &[u64], w: World, line: &[u8])
+    requires { ⌜ length (now book) ≡ 1025 ⌝ }
+    requires { ⌜ Lends w ⌝ }
+{
+    let Number::Is(number) = asked::number(line, 1) else {
+        crate::say::bad_line();
+        return;
+    };
+    let count = w.count;
+    if !front::record::is_number(number) {
+        crate::say::refused(spec::NUMBER);
+        return;
+    }
+    let procs = lines::procs_of(w);
+    if !front::record::lives(procs, number) {
+        crate::say::refused(spec::DEAD);
+        return;
+    }
+    table(
+        &book[..count],
+        number,
+        front::record::proc_at(procs, number),
+    );
 }

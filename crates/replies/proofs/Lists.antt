@@ -2,7 +2,7 @@
 -- Assumes nothing.
 use mathlib.Core.Path.{_≡_, refl, sym, ap, _∙_}
 use mathlib.Core.List.{List, [], _∷_, _++_}
-use Prim.Native.Nat.{ℕ, suc, _+_, _-_, _*_, _/_, _%_, _≤_, _<_}
+use Prim.Native.Nat.{ℕ, suc, _+_, _-_, _≤_, _<_}
 use native.Mathlib.Omega.{arith}
 use native.Mathlib.Numerals.{add-one}
 use mathlib.Core.Bool.{true, false, _&&_}
@@ -12,38 +12,11 @@ use borrow.Author.Tests.{ne-eqb}
 use Rattle.spec.specs.Tests.{_is_, ascii}
 use Rattle.spec.specs.Book.{pageOf, ownerOf}
 use Rattle.spec.specs.declared.Found.the-variants.{At, Nothing}
-use Rattle.script.specs.Bytes.{glyphOf}
-use Rattle.replies.specs.Lines.{hexText, restText}
 use Rattle.replies.specs.Table.{keep, stripped, signOf, signsText, shownText, firstFrame}
-
--- the two hex digits of a byte
-abbrev pub pairOf : ℕ → List ℕ
-pairOf b = glyphOf (b / 16) ∷ glyphOf (b % 16) ∷ []
-
-hex-append : (xs ys : List ℕ) → hexText (xs ++ ys) ≡ hexText xs ++ hexText ys
-hex-append [] ys = refl
-hex-append (x ∷ xs) ys = ap (λ (s : List ℕ). glyphOf (x / 16) ∷ glyphOf (x % 16) ∷ s) (hex-append xs ys)
 
 -- the last of the first n
 last : (xs : List ℕ) (n : ℕ) → 0 < n → n ≤ length xs → take n xs ≡ take (n - 1) xs ++ getD xs (n - 1) 0 ∷ []
 last xs n p h = let e : n ≡ suc (n - 1) = omega arith in ap (λ (k : ℕ). take k xs) e ∙ take-suc xs (n - 1) 0 (omega arith)
-
--- one more byte
-pub hex-next : (bs : List ℕ) (i : ℕ) → i < length bs → hexText (take i bs) ++ pairOf (getD bs i 0) ≡ hexText (take (i + 1) bs)
-hex-next bs i h = rw (add-one i) (sym (ap hexText (take-suc bs i 0 h) ∙ hex-append (take i bs) (getD bs i 0 ∷ [])))
-
-pub length-hex : (bs : List ℕ) → length (hexText bs) ≡ 2 * length bs
-length-hex [] = refl
-length-hex (b ∷ bs) = omega (arith, length-hex bs)
-
--- some bytes to the end of the line
-pub rest-some : (bs : List ℕ) → (length bs ≡ 0 → ⊥) → hexText bs ++ ascii "\n" ≡ restText bs
-rest-some [] h = absurd (h refl)
-rest-some (b ∷ bs) h = refl
-
-pub rest-none : (bs : List ℕ) → length bs ≡ 0 → ascii "-\n" ≡ restText bs
-rest-none [] h = refl
-rest-none (b ∷ bs) h = absurd (omega arith)
 
 signs-append : (xs ys : List ℕ) → signsText (xs ++ ys) ≡ signsText xs ++ signsText ys
 signs-append [] ys = refl

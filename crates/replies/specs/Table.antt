@@ -1,4 +1,5 @@
--- The lines of a process's table.
+-- The lines of a process's table: its name, segments, bss and the frame of each page. It shows record and book as they are, sound or
+-- not.
 -- Assumes nothing.
 use Prim.Native.Nat.{ℕ, _+_, _-_}
 use mathlib.Core.Bool.{_&&_}
@@ -9,7 +10,7 @@ use Rattle.spec.specs.declared.VirtRange.{VirtRange}
 use Rattle.spec.specs.declared.Found.{Found}
 use Rattle.spec.specs.declared.Found.the-variants.{At, Nothing}
 use Rattle.text.specs.Text.{fieldText}
-use Rattle.replies.specs.Lines.{namedText}
+use Rattle.answers.specs.Lines.{namedText}
 
 -- a name without the zeros at its end: a zero stays where something follows it
 abbrev pub keep : ℕ → List ℕ → List ℕ

@@ -1,11 +1,10 @@
-// The lines that the replay program answers with, put into a buffer that the caller lends, and the sums of records and book.
-mod answer;
-mod hex;
-mod sums;
+// The lines that the replay program answers with, put into a buffer that the caller lends, and the sums of records and book: the lines of
+// a process's table, and, passed on, answers (crate answers), bytes in hex (crate hex) and sums (crate sums).
+
 mod table;
 
-pub use answer::put_answer;
-pub use answer::put_break;
+pub use answers::put_answer;
+pub use answers::put_break;
 pub use hex::put_bytes;
 pub use hex::put_sized;
 pub use hex::put_sums;

@@ -5,7 +5,7 @@ ghost use lib.ListN.{length, take};
 ghost use Rattle.spec.specs.Tests.{ascii};
 ghost use Rattle.text.specs.Text.{Puts, fieldText};
 ghost use Rattle.replies.specs.Table.{stripped, signOf, signsText, nameText, partText, pageText, firstFrame};
-use crate::answer::put_named;
+use answers::put_named;
 use spec::Found;
 use spec::VirtRange;
 use text::put;

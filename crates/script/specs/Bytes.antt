@@ -1,4 +1,4 @@
--- Bytes as a script writes them.
+-- Bytes as a script writes them: hex digits, `-`, the bytes themselves, or a file's name. docs/REPLAY.md lists the forms.
 -- Assumes nothing.
 use Prim.Native.Nat.{ℕ, zero, suc, _+_, _*_, _-_}
 use mathlib.Core.Bool.{Bool, true, false, _&&_}

@@ -1,4 +1,4 @@
--- CRC-32, as in gzip, bit by bit.
+-- CRC-32, as in gzip, bit by bit. The code goes by a table of 256 entries, which is proved to come to the same.
 -- Assumes nothing.
 use Prim.Native.Nat.{ℕ, zero, suc, _/_, _%_}
 use mathlib.Core.List.{List, [], _∷_}

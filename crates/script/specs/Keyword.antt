@@ -1,4 +1,4 @@
--- The kinds of lines.
+-- The kinds of lines: a line's first word, and how many words it may have. Whatever is none of them is a bad line.
 -- Assumes nothing.
 use Prim.Native.Nat.{ℕ, _%_}
 use mathlib.Core.Bool.{Bool, _&&_, _||_}

@@ -1,4 +1,4 @@
--- Words of a line, separated by one space, and decimal numbers.
+-- Words of a line, separated by one space, and decimal numbers. A number above 64 bits is none.
 -- Assumes nothing.
 use Prim.Native.Nat.{ℕ, zero, suc, _+_, _*_, _-_, _^_}
 use mathlib.Core.Bool.{Bool, true, false, not, _&&_, _||_}

@@ -64,9 +64,10 @@ fn digit(b: u8) -> u8
 }
 
 // Puts the bytes that pairs of hex digits give at the start of `dst`. False: there is an odd number of digits, another byte, or
-// more than `dst` holds.
+// more than `dst` holds; what the first half as many bytes of `dst` as there are digits then hold means nothing. The bytes behind them stay.
 pub fn unhex(dst: &mut [u8], word: &[u8]) -> bool
     ensures { λ r. ⌜ unhexed r (take (length (now (word .entry)) / 2) (now (dst .exit))) ≡ (length (now (dst .entry)) below length (now (word .entry)) / 2 ⇒ none else pairsOf (now (word .entry))) ⌝ }
+    ensures { λ _. ⌜ drop (length (now (word .entry)) / 2) (now (dst .exit)) ≡ drop (length (now (word .entry)) / 2) (now (dst .entry)) ⌝ }
 {
     let n = word.len() / 2;
     if word.len() % 2 != 0 {

@@ -1,4 +1,5 @@
--- An optional bss and a break's result, as the specification has them.
+-- An optional bss and a break's result, as the specification has them. The code has an enum of its own, since Rattle has no
+-- `Option`.
 -- Assumes nothing.
 use mathlib.Core.Option.{Option, none, some}
 use Rattle.spec.specs.declared.VirtRange.{VirtRange}

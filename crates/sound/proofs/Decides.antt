@@ -23,19 +23,16 @@ use Rattle.laws.proofs.Owned.{valid-means, valid-test, in-range}
 use Rattle.laws.proofs.Exact.{some-none}
 use Rattle.laws.proofs.Facts.{sound-facts, facts-sound, sound-between}
 use Rattle.records.specs.Records.{passes}
-use Rattle.sound.specs.Plan.{rank, nth, Plan, LaidAll}
-use Rattle.sound.specs.Table.{frameWith, entry, Planned, Tabled, marked}
+use Rattle.plan.specs.Plan.{rank, nth, Plan, LaidAll}
+use Rattle.table.specs.Table.{frameWith, entry, Planned, Tabled, marked}
 use Rattle.sound.proofs.Counting.{count, free-used, Lists, counted}
-use Rattle.sound.proofs.Pass.{with-found, with-missing, entry-none, rank-below, rank-word}
-use Rattle.sound.proofs.Parts.{each-made, parts-of, place-gives}
-use Rattle.sound.proofs.Passing.{Mapped, shape-pass, pass-shape}
+use Rattle.plan.proofs.Within.{rank-below, rank-word}
+use Rattle.table.proofs.Pass.{with-found, with-missing, entry-none, option-some}
+use Rattle.plan.proofs.Parts.{each-made, parts-of, place-gives}
+use Rattle.plan.proofs.Passing.{Mapped, shape-pass, pass-shape}
 use Rattle.sound.proofs.Planning.{Made, base-total, rank-hits, rank-good, rank-gives, gives-rank, nth-apart, plan}
 
 -- ---- used frames are as many as ranks
-
-pub option-some : (o : Option ℕ) → (o ≡ none → ⊥) → (i : ℕ) × (o ≡ some i)
-option-some none f = absurd (f refl)
-option-some (some i) f = (i, refl)
 
 -- each rank's word stands in the book, and the book's words are ranks' words, each once
 pub record Matched (b : List ℕ) (word : ℕ → ℕ) (T : ℕ) : Type 0 where

@@ -1,10 +1,4 @@
--- Laws of the check, from a walk over a list to the book being sound.
-pub mod Ranks
-pub mod Pass
-pub mod Laying
-pub mod Parts
-pub mod Passing
-pub mod Seats
+-- Laws of the check, from the plan that is laid to the book being sound.
 pub mod Planning
 pub mod Counting
 pub mod Decides

@@ -18,13 +18,13 @@ use Rattle.laws.proofs.Lists.{Each}
 use Rattle.laws.proofs.Record.{Whole, WholeProc}
 use Rattle.laws.proofs.Owned.{valid-means, valid-test}
 use Rattle.records.specs.Records.{passes}
-use Rattle.sound.specs.Plan.{seat, part, tag, size, owner, partAt, hits, nth, Before, Plan, LaidAll}
-use Rattle.sound.proofs.Ranks.{sum-none, sum-more, base-up, nth-find, nth-at}
-use Rattle.sound.proofs.Pass.{hit-test}
-use Rattle.sound.proofs.Parts.{Part, Perm, parts, Parts, each-part, part-gives, gives-part, part-one}
-use Rattle.sound.proofs.Seats.{seats-at, pass-seats}
-use Rattle.sound.proofs.Laying.{part-segment}
-use Rattle.sound.proofs.Passing.{top-part, top-perm, pass-perms, pass-parts}
+use Rattle.plan.specs.Plan.{seat, part, tag, size, owner, partAt, hits, nth, Before, Plan, LaidAll}
+use Rattle.plan.proofs.Ranks.{sum-none, sum-more, base-up, nth-find, nth-at}
+use Rattle.plan.proofs.Within.{hit-test}
+use Rattle.plan.proofs.Parts.{Part, Perm, parts, Parts, each-part, part-gives, gives-part, part-one}
+use Rattle.plan.proofs.Seats.{seats-at, pass-seats}
+use Rattle.plan.proofs.Laying.{part-segment}
+use Rattle.plan.proofs.Passing.{top-part, top-perm, pass-perms, pass-parts}
 
 -- page r of a part, its word taken apart
 pub record Apart (g : UserSegment) (n w r : ℕ) : Type 0 where

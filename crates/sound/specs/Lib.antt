@@ -1,3 +1,2 @@
--- What the check's own functions promise each other. The specification's definitions stand in crate spec.
-pub mod Plan
+-- What the check leaves for a call's lookups. The specification's definitions stand in crate spec.
 pub mod Table

@@ -1,12 +1,13 @@
 -- Laws of tests: how a test that passed, or did not, is taken apart.
-use Prim.Native.Nat.{ℕ, zero, suc, _+_, _-_, _≤_, _<_}
+use Prim.Native.Nat.{ℕ, zero, suc, _≤_, _<_}
 use native.Mathlib.Omega.{arith}
 use native.Mathlib.Nat.{not-suc-le-zero}
-use mathlib.Core.Path.{_≡_, refl, sym, ap, _∙_}
+use mathlib.Core.Path.{_≡_, refl, sym, _∙_}
 use mathlib.Core.Bool.{Bool, true, false, not, _&&_, _||_}
-use mathlib.Core.List.{List, [], _∷_, _++_}
+use mathlib.Core.List.{List, [], _∷_}
 use lib.Dec.{eqb, ltb}
 use lib.ListN.{length, getD}
+pub use borrow.Author.Tests.{not-true, not-false as un-not}
 use borrow.Author.Tests.{eqb-true, eqb-false, ltb-true, ltb-false, lt-ltb, le-ltb}
 use Rattle.spec.specs.Tests.{_above_, _below_, within, _⇒_else_, all, allBelow}
 
@@ -31,27 +32,19 @@ pub neither : (a b : Bool) → (a || b) ≡ false → (a ≡ false) × (b ≡ fa
 neither true b e = clash true refl e
 neither false b e = (refl, e)
 
-pub or-not : (a b : Bool) → (a || b) ≡ true → not a ≡ true → b ≡ true
-or-not true b e n = clash false n refl
-or-not false b e n = e
-
 pub or-fact : (a b : Bool) → (a || b) ≡ true → a ≡ false → b ≡ true
 or-fact true b e h = clash true refl h
 or-fact false b e h = e
+
+pub or-first : (a b : Bool) → (a || b) ≡ true → b ≡ false → a ≡ true
+or-first true b e h = refl
+or-first false b e h = clash b e h
 
 pub or-test : (a b : Bool) → (a ≡ false → b ≡ true) → (a || b) ≡ true
 or-test true b f = refl
 or-test false b f = f refl
 
 -- not
-pub not-true : (b : Bool) → not b ≡ true → b ≡ false
-not-true true e = clash false e refl
-not-true false e = refl
-
-pub un-not : (b : Bool) → not b ≡ false → b ≡ true
-un-not true e = refl
-un-not false e = clash true refl e
-
 pub not-false : (b : Bool) → b ≡ false → not b ≡ true
 not-false b e = rw e
 
@@ -79,6 +72,9 @@ within-means low high a e =
 pub within-test : (low high a : ℕ) → low ≤ a → a < high → within low high a ≡ true
 within-test low high a l h = rw (le-ltb a low l, lt-ltb a high h)
 
+pub within-not : (low high a : ℕ) → (low ≤ a → a < high → ⊥) → within low high a ≡ false
+within-not low high a out = split (within low high a) (λ q. let r = within-means low high a q in absurd (out (r .0) (r .1))) (λ q. q)
+
 -- every number below a count, and every element of a list
 pub below-at : (c : ℕ) (t : ℕ → Bool) → allBelow c t ≡ true → (i : ℕ) → i < c → t i ≡ true
 below-at zero t e i h = absurd (not-suc-le-zero h)
@@ -101,7 +97,3 @@ all-at t d (x ∷ l) e (suc k) h = all-at t d l (both (t x) (all t l) e .1) k (o
 pub all-test : {A : Type 0} (t : A → Bool) (d : A) (l : List A) → ((k : ℕ) → k < length l → t (getD l k d) ≡ true) → all t l ≡ true
 all-test t d [] f = refl
 all-test t d (x ∷ l) f = and-test (t x) (all t l) (f 0 (omega arith)) (all-test t d l (λ k h. f (suc k) (omega arith)))
-
-pub all-app : {A : Type 0} (t : A → Bool) (x y : List A) → all t x ≡ true → all t y ≡ true → all t (x ++ y) ≡ true
-all-app t [] y e f = f
-all-app t (g ∷ x) y e f = let p = both (t g) (all t x) e in rw (p .0, all-app t x y (p .1) f)

@@ -16,12 +16,12 @@ use Rattle.spec.specs.Segment.{ibrk}
 use Rattle.spec.specs.Listing.{listError, listing}
 
 -- an ELF header whose unlisted fields are valid or 0, and a program header
-abbrev pub ehdr : ℕ → ℕ → ℕ → List ℕ
+abbrev ehdr : ℕ → ℕ → ℕ → List ℕ
 ehdr entry phoff phnum =
     (127 ∷ ascii "ELF" ++ 2 ∷ 1 ∷ 1 ∷ []) ++ replicate 9 0
     ++ leBytes 2 2 ++ leBytes 2 183 ++ leBytes 4 1 ++ leBytes 8 entry ++ leBytes 8 phoff ++ replicate 14 0 ++ leBytes 2 56 ++ leBytes 2 phnum ++ replicate 6 0
 
-abbrev pub phdr : ℕ → ℕ → ℕ → ℕ → ℕ → List ℕ
+abbrev phdr : ℕ → ℕ → ℕ → ℕ → ℕ → List ℕ
 phdr flags offset vaddr filesz memsz =
     leBytes 4 1 ++ leBytes 4 flags ++ leBytes 8 offset ++ leBytes 8 vaddr ++ leBytes 8 0 ++ leBytes 8 filesz ++ leBytes 8 memsz ++ leBytes 8 4096
 
@@ -41,7 +41,7 @@ texts (suc k) vaddr = phdr 5 0 vaddr 120 120 ++ texts k (vaddr + 4096)
 abbrev pub many : ℕ → List ℕ
 many k = ehdr 65652 64 k ++ texts k 65536
 
-abbrev pub lex-mot : List (List ℕ)
+abbrev lex-mot : List (List ℕ)
 lex-mot = ascii "lex" ∷ ascii "mot" ∷ []
 
 -- what the definitions give, and what the scope says
@@ -66,13 +66,13 @@ starred =
     ∷ []
 
 -- pushed arguments read back as given
-abbrev pub readsBack : List (List ℕ) → Bool
+abbrev readsBack : List (List ℕ) → Bool
 readsBack args =
     let read : Argv = copyArgv (pushed ustktop args (loaded image184)) (argvAt ustktop args) in
     read .error is 0 && same (same _is_) (read .args) args
 
 -- the others, and the listing
-abbrev pub unstarred : List (ℕ × ℕ)
+abbrev unstarred : List (ℕ × ℕ)
 unstarred =
     (elfError (one 7 0 65536 120 120), 25)
     ∷ (elfError (one 5 0 (2 ^ 64 - 8192) 0 4097), 24)
@@ -119,7 +119,7 @@ unstarred =
     ∷ []
 
 -- the listing's five lines
-abbrev pub lines184 : List ℕ
+abbrev lines184 : List ℕ
 lines184 = ascii "entry=65712\nsegment=text 65536 69632\nsegment=data 69632 73728\nbss=69816 77824\npages=7\n"
 
 -- names: an element, 27 bytes as they are, 28 cut at 24, a cut before a byte that continues a character, and at place 0

@@ -3,6 +3,10 @@ pub mod Bools
 pub mod Search
 pub mod Words
 pub mod Chain
+pub mod Ranges
+pub mod Args
+pub mod Free
+pub mod Flags
 pub mod Near
 pub mod Taken
 pub mod ReadBack

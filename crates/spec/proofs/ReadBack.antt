@@ -1,73 +1,23 @@
 -- Pushed arguments read back as given.
-use Prim.Native.Nat.{ℕ, zero, suc, _+_, _*_, _-_, _/_, _%_, _^_, _≤_, _<_}
+use Prim.Native.Nat.{ℕ, zero, suc, _+_, _*_, _-_, _/_, _^_, _≤_, _<_}
 use native.Mathlib.Omega.{arith}
-use native.Mathlib.Nat.{not-suc-le-zero, le-of-suc-le-suc, add-zero, add-suc, suc-add}
+use native.Mathlib.Nat.{not-suc-le-zero, le-of-suc-le-suc, add-zero}
 use native.Mathlib.Numerals.{add-one}
 use mathlib.Core.Path.{_≡_, refl, sym, ap, ap₂, _∙_}
-use mathlib.Core.Bool.{Bool, true, false, not, _&&_, _||_}
+use mathlib.Core.Bool.{Bool, true, false, not, _&&_}
 use mathlib.Core.Option.{Option, none, some}
 use mathlib.Core.List.{List, [], _∷_, _++_, append-assoc, append-nil}
-use lib.Dec.{eqb, ltb}
-use lib.ListN.{length, getD, take, drop, replicate, length-append, length-replicate, List·getD-append}
+use lib.ListN.{length, getD, take, drop, length-append, length-replicate, List·getD-append}
 use lib.Seq.{getD-append-add, take-at}
-use borrow.Author.Tests.{eqb-true, eqb-false, ltb-false, ltb-true, ne-eqb, eq-eqb}
-use Rattle.spec.proofs.Bools.{split, both, neither, not-true, not-above, clash}
-use Rattle.spec.specs.Tests.{_is_, _isnt_, _above_, _below_, within, _⇒_else_, any, has}
-use Rattle.spec.specs.Numbers.{uaddrtop, argLimit, pageDown, pageUp, le, leBytes, bytesFrom}
+use borrow.Author.Tests.{ltb-false, ne-eqb, eq-eqb}
+use Rattle.spec.proofs.Bools.{both, neither, not-true, not-above, within-test, within-not}
+use Rattle.spec.proofs.Ranges.{InRange, range-means, range-all}
+use Rattle.spec.proofs.Args.{args-means, length-string, length-pointers}
+use Rattle.spec.specs.Tests.{_is_, _above_, within, _⇒_else_, any, has}
+use Rattle.spec.specs.Numbers.{argLimit, pageDown, le, leBytes, bytesFrom}
 use Rattle.spec.specs.Frames.{Cell, Mem}
-use Rattle.spec.specs.Access.{cellOk, pagesOk, userRangeOk, byteOf, bytesAt, rewrite, write, Str, longer, copyStr}
+use Rattle.spec.specs.Access.{cellOk, userRangeOk, byteOf, bytesAt, rewrite, write, Str, longer, copyStr}
 use Rattle.spec.specs.Exec.{strings, stackSize, argsError, stringsAt, argvAt, belowZero, pointers, pushOk, pushed, Argv, argBuffer, argvFrom, copyArgv}
-
--- ---- ranges
-
-chain : (x y z : Bool) → (x ⇒ false else y ⇒ true else z) ≡ true → (x ≡ false) × (y ≡ false → z ≡ true)
-chain true y z e = absurd (let w : _≡_ {A = ℕ} 0 1 = cc in omega arith)
-chain false true z e = (refl, λ h. absurd (let w : _≡_ {A = ℕ} 0 1 = cc in omega arith))
-chain false false z e = (refl, λ h. e)
-
-page-at : (mem : Mem) (w : Bool) (k page : ℕ) → pagesOk mem w page k ≡ true → (i : ℕ) → i < k → cellOk w (mem (page + 4096 * i)) ≡ true
-page-at mem w zero page e i h = absurd (not-suc-le-zero h)
-page-at mem w (suc k) page e zero h = rw (add-zero page) (both (cellOk w (mem page)) (pagesOk mem w (page + 4096) k) e .0)
-page-at mem w (suc k) page e (suc i) h =
-    let q : page + 4096 + 4096 * i ≡ page + 4096 * suc i = omega arith in
-    rw (← q) (page-at mem w k (page + 4096) (both (cellOk w (mem page)) (pagesOk mem w (page + 4096) k) e .1) i (le-of-suc-le-suc h))
-
-pages-all : (mem : Mem) (w : Bool) (k page : ℕ) → ((i : ℕ) → i < k → cellOk w (mem (page + 4096 * i)) ≡ true) → pagesOk mem w page k ≡ true
-pages-all mem w zero page h = refl
-pages-all mem w (suc k) page h =
-    let e₀ : cellOk w (mem page) ≡ true = rw (add-zero page) at (h 0 (omega arith)) in
-    let more : pagesOk mem w (page + 4096) k ≡ true = pages-all mem w k (page + 4096)
-    (λ i l. let q : page + 4096 + 4096 * i ≡ page + 4096 * suc i = omega arith in rw q (h (suc i) (omega arith))) in
-    rw (e₀, more)
-
--- what a passed range says of each of its addresses
-record InRange (mem : Mem) (w : Bool) (addr len : ℕ) : Type 0 where
-  top : addr + len ≤ uaddrtop
-  each : (a : ℕ) → addr ≤ a → a < addr + len → cellOk w (mem (pageDown a)) ≡ true
-
-range-means : (mem : Mem) (w : Bool) (addr len : ℕ) → userRangeOk mem w addr len ≡ true → InRange mem w addr len
-range-means mem w addr len e = record {
-  top = ltb-false _ _ (c .0);
-  each = λ a l h.
-      let p = c .1 (ne-eqb len 0 (λ z. omega arith)) in
-      let q : pageDown addr + 4096 * (a / 4096 - addr / 4096) ≡ pageDown a = omega arith in
-      rw q at (page-at mem w ((pageUp (addr + len) - pageDown addr) / 4096) (pageDown addr) p (a / 4096 - addr / 4096) (omega arith));
-}
-  where
-    c : ((addr + len above uaddrtop) ≡ false) × ((len is 0) ≡ false → pagesOk mem w (pageDown addr) ((pageUp (addr + len) - pageDown addr) / 4096) ≡ true)
-    c = chain (addr + len above uaddrtop) (len is 0) _ e
-
-range-all : (mem : Mem) (w : Bool) (addr len : ℕ) → 1 ≤ len → InRange mem w addr len → userRangeOk mem w addr len ≡ true
-range-all mem w addr len h r =
-    rw (not-above (addr + len) uaddrtop (r .top), ne-eqb len 0 (λ z. omega arith))
-    (pages-all mem w _ (pageDown addr) (λ i l. page i l))
-  where
-    page : (i : ℕ) → i < (pageUp (addr + len) - pageDown addr) / 4096 → cellOk w (mem (pageDown addr + 4096 * i)) ≡ true
-    page zero l = rw (add-zero (pageDown addr)) (r .each addr (omega arith) (omega arith))
-    page (suc i) l =
-        let a : ℕ = pageDown addr + 4096 * suc i in
-        let q : pageDown a ≡ pageDown addr + 4096 * suc i = omega arith in
-        rw q at (r .each a (omega arith) (omega arith))
 
 -- ---- writes
 
@@ -88,31 +38,17 @@ write-ok w at bs mem a = go (within at (at + length bs) a)
     go true = rewrite-ok w (getD bs (a - at) 0) (mem a)
     go false = refl
 
-inside : (low high a : ℕ) → low ≤ a → a < high → within low high a ≡ true
-inside low high a l h =
-    rw (not-below) (split (ltb a high) (λ q. q) (λ q. absurd (let w = ltb-false a high q in omega arith)))
-  where
-    not-below : (a below low) ≡ false
-    not-below = split (ltb a low) (λ q. absurd (let w = ltb-true a low q in omega arith)) (λ q. q)
-
-above-it : (low high a : ℕ) → high ≤ a → within low high a ≡ false
-above-it low high a h = split (ltb a high) (λ q. absurd (let w = ltb-true a high q in omega arith)) (λ q. rw q (and-no (not (a below low))))
-  where
-    and-no : (b : Bool) → (b && false) ≡ false
-    and-no true = refl
-    and-no false = refl
-
 rewrite-byte : (b : ℕ) (o : Option Cell) → cellOk true o ≡ true → byteOf (rewrite b o) ≡ b
 rewrite-byte b none e = absurd (let z : _≡_ {A = ℕ} 0 1 = cc in omega arith)
 rewrite-byte b (some c) e = refl
 
 write-byte : (at : ℕ) (bs : List ℕ) (mem : Mem) (j : ℕ) → j < length bs → cellOk true (mem (at + j)) ≡ true → byteOf (write at bs mem (at + j)) ≡ getD bs j 0
 write-byte at bs mem j h e =
-    rw (inside at (at + length bs) (at + j) (omega arith) (omega arith))
+    rw (within-test at (at + length bs) (at + j) (omega arith) (omega arith))
     (rewrite-byte _ (mem (at + j)) e ∙ ap (λ (k : ℕ). getD bs k 0) (omega arith))
 
 write-past : (at : ℕ) (bs : List ℕ) (mem : Mem) (a : ℕ) → at + length bs ≤ a → write at bs mem a ≡ mem a
-write-past at bs mem a h = rw (above-it at (at + length bs) a h)
+write-past at bs mem a h = rw (within-not at (at + length bs) a (λ l u. omega arith))
 
 -- ---- bytes and numbers
 
@@ -176,9 +112,6 @@ strings-append : (x y : List (List ℕ)) → strings (x ++ y) ≡ strings x ++ s
 strings-append [] y = refl
 strings-append (a ∷ x) y = rw (strings-append x y, append-assoc a (0 ∷ strings x) (strings y)) refl
 
-length-string : (a : List ℕ) (x : List (List ℕ)) → length (strings (a ∷ x)) ≡ length a + 1 + length (strings x)
-length-string a x = let e = length-append a (0 ∷ strings x) in omega arith
-
 turn-end : (t z w f g : Bool) (u v x y q r : Argv) → t ≡ true → z ≡ true → (not t ⇒ u else z ⇒ v else not w ⇒ x else f ⇒ y else g ⇒ q else r) ≡ v
 turn-end t z w f g u v x y q r e₁ e₂ = rw (e₁, e₂)
 
@@ -233,13 +166,6 @@ module _ (mem : Mem) (A S : ℕ) (args : List (List ℕ))
 
 -- ---- what stands in the pushed bytes
 
-length-pointers : (args : List (List ℕ)) (s : ℕ) → length (pointers s args) ≡ 8 * (length args + 1)
-length-pointers [] s = refl
-length-pointers (a ∷ args) s =
-    let e = length-append (leBytes 8 s) (pointers (s + length a + 1) args) in
-    let ih = length-pointers args (s + length a + 1) in
-    omega arith
-
 pointer-at : (before rest : List (List ℕ)) (s j : ℕ) → j < 8 → getD (pointers s (before ++ rest)) (8 * length before + j) 0 ≡ getD (leBytes 8 (nextPtr (s + length (strings before)) rest)) j 0
 pointer-at [] [] s j h = let q : 8 * 0 + j ≡ j = omega arith in ap (λ (k : ℕ). getD (leBytes 8 0) k 0) q
 pointer-at [] (a ∷ rest) s j h =
@@ -262,11 +188,6 @@ string-at before a ys j = ap (λ (x : List ℕ). getD x (length (strings before)
 no-nul : (before : List (List ℕ)) (a : List ℕ) (ys : List (List ℕ)) → any (has 0) (before ++ a ∷ ys) ≡ false → has 0 a ≡ false
 no-nul [] a ys e = neither (has 0 a) (any (has 0) ys) e .0
 no-nul (b ∷ before) a ys e = no-nul before a ys (neither (has 0 b) (any (has 0) (before ++ a ∷ ys)) e .1)
-
-args-chain : (a b : Bool) → _≡_ {A = ℕ} (a ⇒ 32 else b ⇒ 33 else 0) 0 → (a ≡ false) × (b ≡ false)
-args-chain true b e = absurd (omega arith)
-args-chain false true e = absurd (omega arith)
-args-chain false false e = (refl, refl)
 
 -- ---- all together
 
@@ -336,8 +257,7 @@ pub read-back : (mem : Mem) (top : ℕ) (args : List (List ℕ)) → ((a : ℕ) 
     → copyArgv (pushed top args mem) (argvAt top args) ≡ record { error = 0; args = args }
 unfolding copyArgv
 read-back mem top args whole e p =
-    let ac = args-chain (any (has 0) args) (stackSize (length (strings args)) (length args) above argLimit) e in
-    let fit : stackSize (length (strings args)) (length args) ≤ argLimit = ltb-false _ _ (ac .1) in
+    let ok = args-means args e in
     let b₁ = both (not (belowZero top args) && userRangeOk mem true (stringsAt top args) (length (strings args))) (userRangeOk mem true (argvAt top args) (8 * (length args + 1))) p in
     let b₂ = both (not (belowZero top args)) (userRangeOk mem true (stringsAt top args) (length (strings args))) (b₁ .0) in
     let low : 8 * (length args + 1) ≤ stringsAt top args / 8 * 8 = ltb-false _ _ (not-true (belowZero top args) (b₂ .0)) in
@@ -345,5 +265,5 @@ read-back mem top args whole e p =
     let r₂ = range-means mem true (argvAt top args) (8 * (length args + 1)) (b₁ .1) in
     go (pushed top args mem) (argvAt top args) (stringsAt top args) args
     (λ i h. part mem top args whole low r₁ r₂ (argvAt top args) (8 * (length args + 1)) (argvAt top args + 8 * i) 8 r₂ (omega arith) (omega arith) (omega arith))
-    (ptrs mem top args whole low r₁ r₂) (strs mem top args whole low r₁ r₂ (ac .0) fit) (omega arith) fit
+    (ptrs mem top args whole low r₁ r₂) (strs mem top args whole low r₁ r₂ (ok .0) (ok .1)) (omega arith) (ok .1)
     args [] argLimit refl (omega arith)

@@ -1,4 +1,5 @@
--- Item 3, uaccess.rs: a process's access to its own memory.
+-- Item 3, uaccess.rs: a process's access to its own memory. What is asked is what stands at each address, whether in frames or in
+-- the plain machine.
 -- Assumes nothing.
 use Prim.Native.Nat.{ℕ, zero, suc, _+_, _-_, _/_}
 use mathlib.Core.Bool.{Bool, true, false, not, _&&_}

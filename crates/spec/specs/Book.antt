@@ -1,4 +1,5 @@
--- Item 2, frames and book: book words, process records and their pages.
+-- Item 2, frames and book: book words, process records and their pages. A word says which page of which process a frame holds; a
+-- record says which pages its process has.
 -- Assumes nothing.
 use Prim.Native.Nat.{ℕ, zero, suc, _+_, _*_, _-_, _/_, _%_}
 use mathlib.Core.Bool.{Bool, true, false, not, _&&_}

@@ -1,4 +1,5 @@
--- Item 4, elf.rs: the checks 11 to 27 of an image, in their order, and its loadable segments.
+-- Item 4, elf.rs: the checks 11 to 27 of an image, in their order, and its loadable segments. An image is any bytes; what is not
+-- checked here isn't read.
 -- Assumes nothing.
 use Prim.Native.Nat.{ℕ, zero, suc, _+_, _*_, _-_, _%_, _^_}
 use mathlib.Core.Bool.{Bool, true, false, not, _&&_, _||_}

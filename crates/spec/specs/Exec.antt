@@ -1,4 +1,5 @@
--- Item 5, exec.rs: layout, segments, the contents of pages, and arguments.
+-- Item 5, exec.rs: layout, segments, the contents of pages, and arguments. It says what a program's memory is to be before it first
+-- runs; how it comes into frames is in World.
 -- Assumes nothing.
 use Prim.Native.Nat.{ℕ, zero, suc, _+_, _*_, _-_, _/_}
 use mathlib.Core.Bool.{Bool, true, false, not, _&&_, _||_}
@@ -32,8 +33,11 @@ bssOf (g ∷ h ∷ gs) = bssOf (h ∷ gs)
 abbrev pub userSegment : VirtRange → Segment → UserSegment
 userSegment bss g = segment (pageDown (g .vaddr)) (g .perm is 3 ⇒ pageUp (bss .start) else pageUp (g .vaddr + g .memsz)) (g .perm)
 
+abbrev pub kept : VirtRange → List Segment → List UserSegment
+kept bss gs = filter (λ s. s .range .start below s .range .end) (map (userSegment bss) gs)
+
 abbrev pub imageSegments : List ℕ → List UserSegment
-imageSegments image = filter (λ s. s .range .start below s .range .end) (map (userSegment (bssOf (segmentsOf image))) (segmentsOf image))
+imageSegments image = kept (bssOf (segmentsOf image)) (segmentsOf image)
 
 -- the bss of an image
 abbrev pub imageBss : List ℕ → VirtRange

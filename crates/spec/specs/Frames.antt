@@ -1,4 +1,5 @@
--- Item 2, frames and book: what stands in frames, and the three ways in which they change: pages placed, released, written over.
+-- Item 2, frames and book: what stands in frames, and the three ways in which they change: pages placed, released, written over. All
+-- that a call does to memory is made of these three.
 -- Assumes nothing.
 use Prim.Native.Nat.{ℕ, zero, suc, _+_, _*_, _-_, _/_, _%_}
 use mathlib.Core.Bool.{Bool, _&&_}

@@ -1,4 +1,5 @@
--- Everything that a reader must believe, one module for each of the scope's items, in its order.
+-- Everything that a reader must believe, one module for each of the scope's items, in its order. No module uses one that stands
+-- below it.
 pub mod Tests
 pub mod Numbers
 pub mod Name

@@ -1,4 +1,5 @@
--- The listing program: what it prints for an image.
+-- The listing program: what it prints for an image. It is the reader's half of the scope that a user sees without starting a
+-- process.
 -- Assumes nothing.
 use Prim.Native.Nat.{ℕ, zero, suc, _+_, _/_, _%_}
 use mathlib.Core.List.{List, [], _∷_, _++_}

@@ -1,4 +1,4 @@
--- Item 1, str.rs: the name of a process. A name is any bytes.
+-- Item 1, str.rs: the name of a process. A name is any bytes; it is kept in 28, cut where it is longer.
 -- Assumes nothing.
 use Prim.Native.Nat.{ℕ, zero, suc, _-_}
 use mathlib.Core.List.{List, [], _∷_, _++_}

@@ -1,4 +1,5 @@
--- Item 2: a sound book, as a test that can be run and as facts.
+-- Item 2: a sound book, as a test that can be run and as facts. A call is judged by the test; proofs use the facts, and crate laws
+-- proves that the two say the same.
 -- Assumes nothing.
 use Prim.Native.Nat.{ℕ, zero, suc, _+_, _*_, _-_, _/_, _%_, _≤_, _<_}
 use mathlib.Core.Path.{_≡_}

@@ -1,4 +1,5 @@
--- Frames, book and records: what a process holds in them, what a call answers and what it leaves.
+-- Frames, book and records: what a process holds in them, what a call answers and what it leaves. `Does`, at the end, is the one
+-- form of the ten calls' contracts.
 -- Assumes nothing.
 use Prim.Native.Nat.{ℕ, _-_}
 use mathlib.Core.Path.{_≡_}

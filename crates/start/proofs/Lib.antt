@@ -1,5 +1,2 @@
--- What an image that may be installed gives, and where its arguments go.
-pub mod Installed
-pub mod Pushing
 -- The answer of a start.
 pub mod Weighing

@@ -1,18 +1,14 @@
 -- Text put behind text is one text.
 -- Assumes nothing.
-use mathlib.Core.Path.{_≡_, refl, sym, ap, ap₂, subst, _∙_}
-use mathlib.Core.List.{List, [], _∷_, _++_, append-nil, append-assoc}
-use Prim.Native.Nat.{ℕ, _+_, _≤_, _<_}
+use mathlib.Core.Path.{_≡_, sym, ap, ap₂, subst, _∙_}
+use mathlib.Core.List.{List, [], _++_}
+use Prim.Native.Nat.{ℕ, _≤_}
 use native.Mathlib.Omega.{arith}
-use native.Mathlib.Numerals.{add-one}
-use lib.ListN.{length, getD, take, length-append}
-use lib.Seq.{take-suc, length-take-le}
-use Rattle.spec.specs.Tests.{ascii}
-use Rattle.spec.specs.declared.VirtRange.{VirtRange}
-use Rattle.spec.specs.declared.UserSegment.{UserSegment}
+use lib.ListN.{length, take, length-append}
+use lib.Seq.{length-take-le}
 use Rattle.spec.specs.Frames.{put}
 use Rattle.laws.proofs.Lists.{put-nil, put-append, length-put}
-use Rattle.text.specs.Text.{Puts, numberText, spanText, linesText, lineText}
+use Rattle.text.specs.Text.{Puts}
 
 -- the buffer keeps its length
 pub same-room : {d s e : List ℕ} {at r : ℕ} → Puts d at s e r → length e ≡ length d
@@ -32,28 +28,6 @@ counts {d} {s} {e} {at} {r} p = let h : r ≤ length e = omega (arith, p .room, 
 -- the same text
 pub same-text : {d s t e : List ℕ} {at r : ℕ} → s ≡ t → Puts d at s e r → Puts d at t e r
 same-text {d} {s} {t} {e} {at} {r} q p = subst (λ (x : List ℕ). Puts d at x e r) q p
-
--- ---- the texts that are kept shut, by their parts
-
-pub span-text : (r : VirtRange) → numberText (r .start) ++ ascii " " ++ numberText (r .end) ++ (10 ∷ []) ≡ spanText r
-unfolding numberText spanText
-span-text r = refl
-
-pub lines-none : linesText [] ≡ []
-unfolding linesText
-lines-none = refl
-
-lines-some : (u : UserSegment) (us : List UserSegment) → linesText (u ∷ us) ≡ lineText u ++ linesText us
-unfolding linesText spanText
-lines-some u us = refl
-
--- one more line
-pub lines-next : (us : List UserSegment) (d : UserSegment) (i : ℕ) → i < length us → linesText (take i us) ++ lineText (getD us i d) ≡ linesText (take (i + 1) us)
-lines-next us d i h = rw (add-one i) (sym (ap linesText (take-suc us i d h) ∙ both (take i us) (getD us i d)))
-  where
-    both : (us : List UserSegment) (u : UserSegment) → linesText (us ++ u ∷ []) ≡ linesText us ++ lineText u
-    both [] u = lines-some u [] ∙ ap (λ (s : List ℕ). lineText u ++ s) lines-none ∙ append-nil (lineText u) ∙ ap (λ (s : List ℕ). s ++ lineText u) (sym lines-none)
-    both (v ∷ us) u = lines-some v (us ++ u ∷ []) ∙ ap (λ (s : List ℕ). lineText v ++ s) (both us u) ∙ sym (append-assoc (lineText v) (linesText us) (lineText u)) ∙ ap (λ (s : List ℕ). s ++ lineText u) (sym (lines-some v us))
 
 -- nothing put
 pub puts-none : (d : List ℕ) (at : ℕ) → at ≤ length d → Puts d at [] d at

@@ -14,7 +14,7 @@ use Rattle.spec.specs.Tests.{_below_, _⇒_else_}
 use Rattle.spec.specs.Listing.{decimalOf, decimal}
 
 -- at most as many as are allowed
-pub few-digits : (k n : ℕ) → length (decimalOf k n) ≤ k
+few-digits : (k n : ℕ) → length (decimalOf k n) ≤ k
 few-digits zero n = omega arith
 few-digits (suc k) n =
     split (n below 10) (λ q. rw q (omega arith)) (λ q. rw q (omega (arith, length-append (decimalOf k (n / 10)) ((48 + n % 10) ∷ []), few-digits k (n / 10))))

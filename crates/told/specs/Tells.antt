@@ -1,4 +1,5 @@
--- Answers as C sees them, and the one form of the exported calls' contracts.
+-- Answers as C sees them, and the one form of the exported calls' contracts. Who links the library believes this module besides the
+-- specification: `Tells` is `Does` with the answer in numbers.
 -- Assumes nothing.
 use Prim.Native.Nat.{ℕ}
 use mathlib.Core.Path.{_≡_}

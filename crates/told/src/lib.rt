@@ -1,4 +1,5 @@
-// Answers as C sees them: one struct of numbers, where the calls have an enum.
+// Answers as C sees them: one struct of numbers, where the calls have an enum. The exported calls answer with it, so that a kernel
+// in C or Rust reads them without knowing how Rattle lays out an enum.
 
 ghost use mathlib.Core.Path.{_≡_};
 ghost use Rattle.spec.specs.Machine.{zeroRegs};

@@ -1,7 +1,3 @@
--- Frames found, ranges, reads and writes page by page, and strings part by part.
-pub mod Found
-pub mod Ranges
-pub mod Copies
-pub mod Plain
+-- A string copy, part by part.
 pub mod Chunk
 pub mod Strings

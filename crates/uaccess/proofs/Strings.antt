@@ -1,52 +1,23 @@
--- The loops of a string copy.
+-- The loop of a string copy.
 use Prim.Native.Nat.{ℕ, zero, suc, _+_, _-_, _%_, _≤_, _<_}
 use native.Mathlib.Omega.{arith}
 use native.Mathlib.Nat.{add-zero}
-use native.Mathlib.Numerals.{add-one}
 use mathlib.Core.Path.{_≡_, refl, sym, ap, _∙_}
 use mathlib.Core.Bool.{Bool, true, false}
 use mathlib.Core.List.{List, [], _∷_, _++_, append-assoc}
 use lib.ListN.{length, getD, take, drop, length-append, length-drop, take-append-drop, drop-of-length-le}
 use lib.Seq.{drop-cons, length-take-le, take-add, drop-drop, take-take}
-use borrow.Author.Tests.{eqb-true, eq-eqb, ne-eqb}
 use borrow.Rule.Slice.PartMut.{putMid, midOf}
-use Rattle.spec.specs.Tests.{_is_}
 use Rattle.spec.specs.Frames.{Mem}
 use Rattle.spec.specs.Access.{userRangeOk, byteOf, bytesAt, Str, copyStr}
-use Rattle.spec.proofs.Bools.{split}
 use Rattle.laws.proofs.Contents.{length-bytes, get-bytes}
-use Rattle.book.proofs.Overwrite.{mix, mix-part}
-use Rattle.uaccess.specs.Strings.{toNul, copied}
-use Rattle.uaccess.proofs.Ranges.{range-along}
-use Rattle.uaccess.proofs.Copies.{bytes-part}
+use Rattle.strings.specs.Nul.{toNul}
+use Rattle.strings.proofs.Nul.{nul-most, nul-before, nul-at}
+use Rattle.uaccess.specs.Strings.{copied}
+use Rattle.ranges.proofs.Ranges.{range-along}
+use Rattle.copies.proofs.Copies.{bytes-part}
+use Rattle.laws.proofs.Overwrite.{mix, mix-part}
 use Rattle.uaccess.proofs.Chunk.{Readable, afterBytes, none, chunk-whole, chunk-nul, chunk-bad}
-
--- ---- up to a NUL
-
-pub nul-here : (s : List ℕ) (i : ℕ) → i < length s → getD s i 0 ≡ 0 → toNul (drop i s) ≡ 0
-nul-here s i h e = ap toNul (drop-cons s i 0 h) ∙ rw (eq-eqb (getD s i 0) 0 e)
-
-pub nul-next : (s : List ℕ) (i : ℕ) → i < length s → (getD s i 0 ≡ 0 → ⊥) → toNul (drop i s) ≡ suc (toNul (drop (i + 1) s))
-nul-next s i h e = rw (add-one i) (ap toNul (drop-cons s i 0 h) ∙ rw (ne-eqb (getD s i 0) 0 e))
-
-pub nul-end : (s : List ℕ) (i : ℕ) → length s ≤ i → toNul (drop i s) ≡ 0
-nul-end s i h = ap toNul (drop-of-length-le s h)
-
--- what the count says
-pub nul-most : (s : List ℕ) → toNul s ≤ length s
-nul-most [] = omega arith
-nul-most (x ∷ s) = split (x is 0) (λ q. rw q (omega arith)) (λ q. rw q (omega (arith, nul-most s)))
-
-nul-before : (s : List ℕ) (i : ℕ) → i < toNul s → getD s i 0 ≡ 0 → ⊥
-nul-before [] i h e = omega arith
-nul-before (x ∷ s) zero h e = omega (arith, rw (eq-eqb x 0 e) at h)
-nul-before (x ∷ s) (suc i) h e = split (x is 0) (λ q. omega (arith, rw q at h)) (λ q. nul-before s i (omega (arith, rw q at h)) e)
-
-nul-at : (s : List ℕ) → toNul s < length s → getD s (toNul s) 0 ≡ 0
-nul-at [] h = refl
-nul-at (x ∷ s) h = split (x is 0) (λ q. rw q (eqb-true x 0 q)) (λ q. rw q (nul-at s (omega (arith, rw q at h))))
-
--- ---- part by part
 
 -- of a lent part only the first k bytes changed
 drop-split : (r : List ℕ) (k chunk : ℕ) → k ≤ chunk → drop k (take chunk r) ++ drop chunk r ≡ drop k r

@@ -1,14 +1,15 @@
 //! Document 01's listing program, from what elf.rs and exec.rs say of an image.
-use crate::dat::Perm;
-use crate::elf::{self, ElfError};
-use crate::inside::{Exec, Inside};
-use crate::machine::{Host, USTKSIZE};
-use crate::mem::PAGE_SIZE_4K;
-use crate::world::{SEGMENTS, number};
+use crate::answer::number;
+use crate::script::KINDS;
+use crate::world::{Machine, SEGMENTS};
+use r9::elf::{self, ElfError};
+use r9::inside::Exec;
+use r9::machine::{USTKSIZE, code};
+use r9::mem::PAGE_SIZE_4K;
 use std::fmt::Write;
 
 /// The number of an image's refusal.
-fn elf_number(e: ElfError) -> u32 {
+fn elf_number(e: ElfError) -> u64 {
     use ElfError::*;
     match e {
         Truncated => 11,
@@ -31,14 +32,6 @@ fn elf_number(e: ElfError) -> u32 {
     }
 }
 
-pub fn kind(p: Perm) -> &'static str {
-    match p {
-        Perm::Text => "text",
-        Perm::Rodata => "rodata",
-        Perm::Data => "data",
-    }
-}
-
 pub fn listing(image: &[u8]) -> String {
     match lines(image) {
         Ok(s) => s,
@@ -46,14 +39,14 @@ pub fn listing(image: &[u8]) -> String {
     }
 }
 
-fn lines(image: &[u8]) -> Result<String, u32> {
+fn lines(image: &[u8]) -> Result<String, u64> {
     // The harness's own: the longest image the program reads.
     if image.len() > 32_768 {
         return Err(1);
     }
     let e = elf::parse(image).map_err(elf_number)?;
-    let bss = <Exec as Inside<Host>>::layout(&e).map_err(number)?;
-    let segments = <Exec as Inside<Host>>::segments(&e, bss);
+    let bss = Exec::layout::<Machine>(&e).map_err(number)?;
+    let segments = Exec::segments(&e, bss);
     // The harness's own: a record's room.
     if segments.len() > SEGMENTS - 1 {
         return Err(31);
@@ -61,7 +54,7 @@ fn lines(image: &[u8]) -> Result<String, u32> {
     let mut s = format!("entry={}\n", e.entry());
     let mut pages = USTKSIZE / PAGE_SIZE_4K;
     for g in &segments {
-        writeln!(s, "segment={} {} {}", kind(g.perm), g.range.start, g.range.end).unwrap();
+        writeln!(s, "segment={} {} {}", KINDS[code(g.perm) as usize], g.range.start, g.range.end).unwrap();
         pages += g.range.size() / PAGE_SIZE_4K;
     }
     pages += (bss.end - bss.start.next_multiple_of(PAGE_SIZE_4K)) / PAGE_SIZE_4K;

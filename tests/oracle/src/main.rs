@@ -1,48 +1,21 @@
-//! The oracle: the twelve published files of r9, compiled unchanged, behind a
-//! harness that runs scripts of calls over them and prints the answers.
+//! The oracle: the twelve published files of r9, compiled unchanged (the crate r9), behind a harness that runs scripts of calls over
+//! them and prints the answers.
 //!
 //!     oracle          a script on standard input, an answer for each line
 //!     oracle list     an image on standard input, document 01's listing
 //!     oracle lists    an image a line, as BYTES; its listing on one line, `;` between the lines
 //!
-//! What the Rust has no notion of is the harness's own, by document 01's rules:
-//! those places say so.
+//! What the Rust has no notion of is the harness's own, by document 01's rules: those places say so.
 
-// What the published files call `core` and `alloc`; see coreshim, allocshim.
-extern crate allocshim as alloc;
-extern crate coreshim as core;
-
-/// As r9's lib.rs.
-pub type Result<T> = std::result::Result<T, &'static str>;
-
-/// The kernel's console print, under the name `crate::println`: dropped.
-macro_rules! kprintln {
-    ($($t:tt)*) => { if false { let _ = format!($($t)*); } };
-}
-pub(crate) mod kprint {
-    pub(crate) use kprintln as println;
-}
-pub(crate) use kprint::println;
-
-#[path = "stubs/bitmapalloc.rs"]
-pub mod bitmapalloc;
-#[path = "stubs/fdt.rs"]
-pub mod fdt;
-#[path = "stubs/mcslock.rs"]
-pub mod mcslock;
-#[path = "stubs/small.rs"]
-mod small;
-pub use small::{console, devcons, devroot, irq, maths, proc, timer};
-
-mod inside;
+mod answer;
+mod calls;
 mod listing;
-mod machine;
+mod names;
 mod rule;
 mod script;
+mod sound;
 mod text;
 mod world;
-
-include!(concat!(env!("OUT_DIR"), "/mods.rs"));
 
 use std::io::{Read, Write};
 
@@ -56,19 +29,18 @@ fn main() {
     let args: Vec<&str> = args.iter().map(String::as_str).collect();
     match args[..] {
         [] => {
-            machine::init();
-            let mut w = world::World::new(0, 0);
+            let mut w = <world::World as script::Calls>::new(0, 0);
             for line in input.split(|&b| b == b'\n') {
                 if let Some(answer) = script::answer(&mut w, line) {
-                    std::writeln!(out, "{answer}").unwrap();
+                    writeln!(out, "{answer}").unwrap();
                 }
             }
         }
-        ["list"] => std::write!(out, "{}", listing::listing(&input)).unwrap(),
+        ["list"] => write!(out, "{}", listing::listing(&input)).unwrap(),
         ["lists"] => {
             for line in input.split(|&b| b == b'\n').filter(|l| !l.is_empty()) {
                 let image = text::bytes(line).expect("an image as BYTES");
-                std::writeln!(out, "{}", listing::listing(&image).trim_end().replace('\n', ";")).unwrap();
+                writeln!(out, "{}", listing::listing(&image).trim_end().replace('\n', ";")).unwrap();
             }
         }
         _ => {

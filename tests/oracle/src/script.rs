@@ -1,19 +1,81 @@
-//! A script's lines and their answers.
-use crate::dat::UserRegs;
-use crate::listing::kind;
-use crate::machine::{FRAMES, m};
-use crate::mem::{PAGE_SIZE_4K, VirtRange};
+//! A script's lines and their answers, over anything that has the calls: the published Rust here, the library in
+//! rust/tests/recorded.rs.
 use crate::text::{bytes, crc, hex, number};
-use crate::world::{Answer, NONE, PROCS, Stop, World, kstrcpy, record_pages, within};
 use std::fmt::Write;
 
+/// Why a call has no value to answer with.
+pub enum Stop {
+    Refused(u64),
+    Ended(u64),
+    /// A panic of the Rust or the harness: outside what can be compared.
+    Assert(String),
+}
+
+pub type Answer<T> = Result<T, Stop>;
+
+/// pc, sp, argc, argv.
+pub type Regs = [u64; 4];
+
+/// A process's record; no process's is all zero.
+#[derive(Clone, Copy, Default, PartialEq)]
+pub struct Record {
+    pub segments: [[u64; 3]; 16],
+    pub name: [u8; 28],
+    pub bss: [u64; 2],
+}
+
+/// Frames, book and records, and the calls over them.
+pub trait Calls: Sized {
+    fn new(frames: usize, fill: u8) -> Self;
+    fn frames(&self) -> &[u8];
+    fn book(&mut self) -> &mut [u64];
+    fn record(&self, n: usize) -> Record;
+    /// Lend only so much of frames and book, which have as much.
+    fn lend(&mut self, bytes: usize, words: usize);
+    fn start(&mut self, n: u64, name: &[u8], image: &[u8], args: &[&[u8]]) -> Answer<Regs>;
+    fn replace(&mut self, n: u64, name: &[u8], image: &[u8], argv: u64) -> Answer<Regs>;
+    fn push(&mut self, n: u64, pc: u64, top: u64, args: &[&[u8]]) -> Answer<Regs>;
+    fn brk(&mut self, n: u64, addr: u64) -> Answer<u64>;
+    /// `list` is the lent list of segments, or None for the record's own.
+    fn fork(&mut self, parent: u64, child: u64, list: Option<&[[u64; 3]]>) -> Answer<()>;
+    fn end(&mut self, n: u64) -> Answer<()>;
+    fn range(&mut self, n: u64, addr: u64, len: u64, write: bool) -> Answer<bool>;
+    fn from(&mut self, n: u64, addr: u64, dst: &mut [u8]) -> Answer<()>;
+    fn to(&mut self, n: u64, addr: u64, src: &[u8]) -> Answer<()>;
+    /// The length, or None for a bad page.
+    fn string(&mut self, n: u64, addr: u64, dst: &mut [u8]) -> Answer<Option<usize>>;
+    /// The break's rule by itself: the answer, and the bss after it.
+    fn rule(bss: Option<[u64; 2]>, free: u64, addr: u64) -> Answer<(u64, [u64; 2])>;
+    /// The name copy by itself.
+    fn name(name: &[u8]) -> Answer<[u8; 28]>;
+}
+
+/// Number 3.
+pub fn within(n: u64) -> Answer<usize> {
+    match n {
+        1..=16 => Ok(n as usize),
+        _ => Err(Stop::Refused(3)),
+    }
+}
+
+/// Whether a lent list is the record's segments, which go up to its first unused place.
+pub fn same_list(list: &[[u64; 3]], r: &Record) -> bool {
+    let used = r.segments.iter().take_while(|s| **s != [0; 3]).count();
+    list == &r.segments[..used]
+}
+
+/// What kinds of segments are called, by their permissions.
+pub const KINDS: [&str; 4] = ["", "text", "rodata", "data"];
+const PAGE: u64 = 4_096;
+/// The most frames there are: one more than a book may have.
+const FRAMES: u64 = 1_025;
 /// The longest line, and the longest buffer of `from` and `string`.
 const MAX: usize = 65_536;
 /// What a buffer holds at first.
 const BLANK: u8 = 238;
 
 /// The answer to a line; None where there is none.
-pub fn answer(w: &mut World, line: &[u8]) -> Option<String> {
+pub fn answer(w: &mut impl Calls, line: &[u8]) -> Option<String> {
     if line.is_empty() || line[0] == b'#' {
         return None;
     }
@@ -35,8 +97,8 @@ fn none(_: ()) -> String {
     String::new()
 }
 
-fn regs(r: UserRegs) -> String {
-    format!("pc={} sp={} argc={} argv={}", r.pc, r.sp, r.argc, r.argv)
+fn regs([pc, sp, argc, argv]: Regs) -> String {
+    format!("pc={pc} sp={sp} argc={argc} argv={argv}")
 }
 
 /// A buffer's length.
@@ -45,26 +107,30 @@ fn length(word: &[u8]) -> Option<usize> {
 }
 
 /// The answer to a call with its words; None for a bad line.
-fn call(w: &mut World, name: &[u8], words: &[&[u8]]) -> Option<String> {
+fn call<W: Calls>(w: &mut W, name: &[u8], words: &[&[u8]]) -> Option<String> {
     let many = |from: &[&[u8]]| from.iter().map(|b| bytes(b)).collect::<Option<Vec<_>>>();
     Some(match (name, words) {
         (b"frames", [n, fill @ ..]) => {
-            let n = number(n).filter(|n| *n <= FRAMES as u64)?;
+            let n = number(n).filter(|n| *n <= FRAMES)?;
             let fill = match fill {
                 [] => 0,
                 [f] => u8::try_from(number(f)?).ok()?,
                 _ => return None,
             };
-            *w = World::new(n as usize, fill);
+            *w = W::new(n as usize, fill);
             "ok".into()
         }
         (b"lend", [b, words]) => {
-            w.lend(number(b)?, number(words)?)?;
+            let (b, words) = (number(b)?, number(words)?);
+            if b > w.frames().len() as u64 || words > w.book().len() as u64 {
+                return None;
+            }
+            w.lend(b as usize, words as usize);
             "ok".into()
         }
         (b"word", [i, word]) => {
             let (i, word) = (number(i)?, number(word)?);
-            *w.book.get_mut(usize::try_from(i).ok()?)? = word;
+            *w.book().get_mut(usize::try_from(i).ok()?)? = word;
             "ok".into()
         }
         (b"start", [n, name, image, args @ ..]) => {
@@ -84,12 +150,11 @@ fn call(w: &mut World, name: &[u8], words: &[&[u8]]) -> Option<String> {
         (b"break", [n, addr]) => show(w.brk(number(n)?, number(addr)?), |v| v.to_string()),
         (b"fork", [parent, child, list @ ..]) => {
             let (parent, child) = (number(parent)?, number(child)?);
-            let (triples, rest) = list.as_chunks::<3>();
-            if !rest.is_empty() {
+            if list.len() % 3 != 0 {
                 return None;
             }
-            let triple = |t: &[&[u8]; 3]| Some([number(t[0])?, number(t[1])?, number(t[2])?]);
-            let list = triples.iter().map(triple).collect::<Option<Vec<_>>>()?;
+            let triple = |t: &[&[u8]]| Some([number(t[0])?, number(t[1])?, number(t[2])?]);
+            let list = list.chunks(3).map(triple).collect::<Option<Vec<_>>>()?;
             show(w.fork(parent, child, (!list.is_empty()).then_some(&list[..])), none)
         }
         (b"end", [n]) => show(w.end(number(n)?), none),
@@ -117,12 +182,11 @@ fn call(w: &mut World, name: &[u8], words: &[&[u8]]) -> Option<String> {
         (b"rule", [start, end, free, addr]) => {
             let bss = match (*start, *end) {
                 (b"none", b"none") => None,
-                (s, e) => Some(VirtRange::new(number(s)? as usize, number(e)? as usize)),
+                (s, e) => Some([number(s)?, number(e)?]),
             };
-            let a = crate::rule::rule(bss, number(free)?, number(addr)?);
-            show(a, |(v, b)| format!("{v} {} {}", b.start, b.end))
+            show(W::rule(bss, number(free)?, number(addr)?), |(v, [start, end])| format!("{v} {start} {end}"))
         }
-        (b"name", [b]) => show(kstrcpy(&bytes(b)?), |n| hex(&n)),
+        (b"name", [b]) => show(W::name(&bytes(b)?), |n| hex(&n)),
         (b"sum", []) => sum(w),
         (b"map", [n]) => map(w, number(n)?),
         _ => return None,
@@ -130,47 +194,40 @@ fn call(w: &mut World, name: &[u8], words: &[&[u8]]) -> Option<String> {
 }
 
 /// Sums of everything there is.
-fn sum(w: &World) -> String {
+fn sum(w: &mut impl Calls) -> String {
+    let words = |words: &[u64]| words.iter().flat_map(|v| v.to_le_bytes()).collect::<Vec<u8>>();
     let mut records = Vec::new();
-    for n in 1..=PROCS {
+    for n in 1..=16 {
         let r = w.record(n);
-        records.extend(r.segments.as_flattened().iter().flat_map(|v| v.to_le_bytes()));
+        records.extend(words(r.segments.as_flattened()));
         records.extend(r.name);
-        records.extend(r.bss.iter().flat_map(|v| v.to_le_bytes()));
+        records.extend(words(&r.bss));
     }
-    let book: Vec<u8> = w.book.iter().flat_map(|v| v.to_le_bytes()).collect();
-    let frames = &m().mem[..w.frames * PAGE_SIZE_4K];
-    format!("records={:08x} book={:08x} frames={:08x}", crc(&records), crc(&book), crc(frames))
+    format!("records={:08x} book={:08x} frames={:08x}", crc(&records), crc(&words(w.book())), crc(w.frames()))
 }
 
-/// What a process holds, for a person: its name, each segment and the bss, and
-/// each page with its frame. Every line after the first begins with a space.
-fn map(w: &World, n: u64) -> String {
-    let n = match within(n) {
-        Ok(n) => n,
-        Err(stop) => return show(Err::<(), _>(stop), none),
+/// What a process holds, for a person: its name, each segment and the bss, and each page with its frame. Every line after the first
+/// begins with a space.
+fn map(w: &mut impl Calls, n: u64) -> String {
+    let r = match within(n).map(|n| w.record(n)) {
+        Ok(r) if r == Record::default() => return "refused 4".into(),
+        Ok(r) => r,
+        Err(stop) => return show(Err(stop), none),
     };
-    let r = w.record(n);
-    if r == NONE {
-        return "refused 4".into();
-    }
     let shown = r.name.iter().rposition(|b| *b != 0).map_or(0, |i| i + 1);
     let name: String = r.name[..shown].iter().map(|b| if b.is_ascii_graphic() { *b as char } else { '.' }).collect();
     let mut s = format!("process {n} {name}").trim_end().to_string();
-    let pages = |s: &mut String, start: u64, end: u64| {
-        for va in (start.next_multiple_of(4_096)..end).step_by(PAGE_SIZE_4K) {
-            let frame = w.book.iter().position(|w| w / 4_096 * 4_096 == va && w % 4_096 / 16 == n as u64);
+    let mut pages = 0;
+    let bss = [r.bss[0], r.bss[1], 0];
+    for [start, end, perm] in r.segments.iter().filter(|s| **s != [0; 3]).chain([&bss]) {
+        let kind = if *perm == 0 { "bss" } else { KINDS[*perm as usize] };
+        write!(s, "\n  {kind} {start} {end} size {}", end - start).unwrap();
+        for va in (start.next_multiple_of(PAGE)..*end).step_by(PAGE as usize) {
+            let frame = w.book().iter().position(|word| word / PAGE * PAGE == va && word % PAGE / 16 == n);
             write!(s, "\n    page {va} frame {}", frame.map_or("none".into(), |f| f.to_string())).unwrap();
+            pages += 1;
         }
-    };
-    let p = [crate::dat::Perm::Text, crate::dat::Perm::Rodata, crate::dat::Perm::Data];
-    for [start, end, perm] in r.segments.iter().filter(|s| **s != [0; 3]) {
-        write!(s, "\n  {} {start} {end} size {}", kind(p[*perm as usize - 1]), end - start).unwrap();
-        pages(&mut s, *start, *end);
     }
-    let [start, end] = r.bss;
-    write!(s, "\n  bss {start} {end} size {}", end - start).unwrap();
-    pages(&mut s, start, end);
-    write!(s, "\n  pages {}", record_pages(&r).len()).unwrap();
+    write!(s, "\n  pages {pages}").unwrap();
     s
 }

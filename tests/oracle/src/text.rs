@@ -23,10 +23,11 @@ pub fn bytes(word: &[u8]) -> Option<Vec<u8>> {
             (b.len() <= FILE_MAX).then_some(b)
         }
         _ => {
-            let (pairs, rest) = word.as_chunks::<2>();
+            if word.len() % 2 != 0 {
+                return None;
+            }
             let digit = |d: u8| (d as char).to_digit(16).map(|v| v as u8);
-            rest.is_empty().then_some(())?;
-            pairs.iter().map(|&[a, b]| Some(16 * digit(a)? + digit(b)?)).collect()
+            word.chunks(2).map(|pair| Some(16 * digit(pair[0])? + digit(pair[1])?)).collect()
         }
     }
 }

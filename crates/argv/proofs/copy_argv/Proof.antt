@@ -12,7 +12,8 @@ use Rattle.spec.specs.Frames.{Mem, memOf}
 use Rattle.spec.specs.Exec.{copyArgv}
 use Rattle.book.specs.Lent.{store}
 use Rattle.args.specs.Sizes.{saturated}
-use Rattle.argv.specs.Reading.{pointerAt, Added, moreOf}
+use Rattle.pointers.specs.Places.{pointerAt}
+use Rattle.copy_arg.specs.Strings.{Added, moreOf}
 use Rattle.argv.proofs.SoFar.{SoFar, none-yet, so-bad, so-null, so-stop, so-next}
 use Rattle.argv.proofs.copy_argv.Statement.{statement}
 use Rattle.argv.proofs.copy_argv.Tie as tie

@@ -1,6 +1,6 @@
 -- `file_of` meets its contract: a walk of its MIR by hand. The reader that `of` makes is held in a local and passed to `file`.
 -- Assumes nothing.
-use mathlib.Core.Path.{_≡_, refl, sym, ap, subst, _∙_}
+use mathlib.Core.Path.{_≡_, refl, ap, _∙_}
 use Prim.Native.Nat.{ℕ, _+_, _*_, _≤_}
 use mathlib.Core.List.{List, [], _∷_}
 use lib.ListN.{length, take, drop}
@@ -16,7 +16,7 @@ use ghost.Atoms.{Atoms, sem}
 use contract.Lifetimes.{Lfts}
 use contract.Monad.{Fun, fact}
 use contract.Running.{givenOf, tables, tablesOf}
-use types.Kit.{Given, ‵, raw, _⊛_, ⋆, some, later, _$_, _∵_, !, qed, by, move, drop as toss, use1, use2, split, pick, fsplit, fjoin, suffices, frame, await, done}
+use types.Kit.{Given, ‵, raw, _⊛_, ⋆, some, later, _$_, _∵_, !, qed, by, move, drop as toss, use1, use2, split, join, pick, fsplit, fjoin, suffices, frame, await, done}
 use types.Run.{look, init, forget, stop, from, load, and-then, no-more, land, returns, enter, alloc1, alloc0, params1, pass1, pass0, free1, free0}
 use sound.WpLaws.{FmC, fmOf, WpFn-mono}
 use denote.RattleType.{RattleType, owns}
@@ -41,7 +41,9 @@ use Rattle.elf.proofs.Elf as Hd
 use Rattle.elf.proofs.Elf.Laws as Hd′
 use Rattle.elf.proofs.Segment as G
 use Rattle.elf.proofs.Segment.Laws as G′
+use Rattle.checked.specs.Parts.{partOf}
 use Rattle.checked.specs.declared.Elf.{Elf}
+use Rattle.checked.proofs.Tables.{part-in}
 use Rattle.checked.proofs.Elf as T
 use Rattle.checked.proofs.Elf.Laws as T′
 use Rattle.checked.proofs.of as of
@@ -105,7 +107,7 @@ module _ {M : Type 1} (𝓤 : URA M) (H : Heap 𝓤) (A : Atoms 𝓤) (W : Given
   to-of = (((κ, tt), (q, tt), tt, (s, (h, tt)), (v ∷ [], (mh ∷ [], tt))), tt)
 
   asks-of : ent 𝓤 (onEntry 𝓤 H A of.signature (κ, tt) (q, tt) (s, (h, tt)) (v ∷ [], (mh ∷ [], tt))) (Of 𝓤 H A at-mem run .pre to-of)
-  asks-of = qed W ((‵ (flft κ q) ⊛ ‵ ftrue) ∷ ‵ (owns (ShrSlice (named 0) κ u8 ∷ Head ∷ []) (s, (h, tt)) (v ∷ [], (mh ∷ [], tt))) ∷ []) ∵ says ! within $ frame ! $ done !
+  asks-of = qed W ((‵ (flft κ q) ⊛ ‵ ftrue) ∷ ‵ (owns (ShrSlice (named 0) κ u8 ∷ Head ∷ []) (s, (h, tt)) (v ∷ [], (mh ∷ [], tt))) ∷ []) ∵ join ! $ frame ! $ done !
 
   goes-of : ent 𝓤 (onEntry 𝓤 H A all.signature (κ, tt) (q, tt) (s, (h, (g, tt))) at) (sep 𝓤 (Of 𝓤 H A at-mem run .pre to-of) (sem 𝓤 H A Own))
   goes-of =
@@ -115,7 +117,7 @@ module _ {M : Type 1} (𝓤 : URA M) (H : Heap 𝓤) (A : Atoms 𝓤) (W : Given
       move ! (2 ∷ 0 ∷ []) $ use2 W (raw (Of 𝓤 H A at-mem run .pre to-of)) asks-of $ frame ! $ done !
 
   abbrev Made : Elf → Type 0
-  Made r = (r .image ≡ s) × (now (r .table) ≡ take (56 * h .phnum) (drop (h .phoff) (now s))) × (r .entry ≡ h .entry)
+  Made r = (r .image ≡ s) × (now (r .table) ≡ partOf (now s) (h .phoff) (56 * h .phnum)) × (r .entry ≡ h .entry)
 
   of-said : (r : Elf) → ent 𝓤 (ensured 𝓤 H A of.ended (of.clauses 𝓤 H A at-mem run) (κ, tt) (s, (h, tt)) tt r) (fact 𝓤 (Made r))
   of-said r = exE 𝓤 _ (λ ws. snd∗ 𝓤 (sem 𝓤 H A (lasts of.ended (κ, tt) (s, (h, tt)) ws)) (fact 𝓤 (Made r)))
@@ -124,16 +126,13 @@ module _ {M : Type 1} (𝓤 : URA M) (H : Heap 𝓤) (A : Atoms 𝓤) (W : Given
   abbrev to-file : Elf → Val → File 𝓤 H A at-mem run .Ghost
   to-file r u = (((κ, tt), (q, tt), tt, (r, (g, tt)), (u ∷ [], (mg ∷ [], tt))), tt)
 
-  in-image : (r : Elf) → Made r → g .offset + g .filesz ≤ length (now (r .image))
-  in-image r e = subst (λ (x : RefT (List ℕ)). g .offset + g .filesz ≤ length (now x)) (sym (e .0)) inside
-
   goes-file : (r : Elf) (u : Val) → Made r → ent 𝓤 (⋆ 𝓤 H A (‵ (B (κ, tt) .own r (u ∷ [])) ∷ (‵ (flft κ q) ⊛ ‵ ftrue) ∷ [])) (File 𝓤 H A at-mem run .pre (to-file r u))
   goes-file r u e =
       qed W (‵ (B (κ, tt) .own r (u ∷ [])) ∷ (‵ (flft κ q) ⊛ ‵ ftrue) ∷ []) ∵ nothing ! $ owned ! G.the-row (Is G.the-row) (LL.makes G.the-type G′.the-plain 𝓤 H A) g (mg ∷ []) isG $ fjoin ! $ move ! (1 ∷ 0 ∷ []) $ fjoin ! $ move ! (1 ∷ 0 ∷ []) $
-      says ! (in-image r e) $ frame ! $ done !
+      join ! $ frame ! $ done !
 
   abbrev Read : Elf → RefT (List ℕ) → Type 0
-  Read r p = now p ≡ take (g .filesz) (drop (g .offset) (now (r .image)))
+  Read r p = now p ≡ partOf (now (r .image)) (g .offset) (g .filesz)
 
   file-said : (r : Elf) (p : RefT (List ℕ)) → ent 𝓤 (ensured 𝓤 H A file.ended (file.clauses 𝓤 H A at-mem run) (κ, tt) (r, (g, tt)) tt p) (fact 𝓤 (Read r p))
   file-said r p = exE 𝓤 _ (λ ws. snd∗ 𝓤 (sem 𝓤 H A (lasts file.ended (κ, tt) (r, (g, tt)) ws)) (fact 𝓤 (Read r p)))
@@ -142,7 +141,7 @@ module _ {M : Type 1} (𝓤 : URA M) (H : Heap 𝓤) (A : Atoms 𝓤) (W : Given
   Said p = now p ≡ take (g .filesz) (drop (g .offset) (now s))
 
   read-is : (r : Elf) (p : RefT (List ℕ)) → Made r → Read r p → Said p
-  read-is r p e f = f ∙ ap (λ (x : RefT (List ℕ)). take (g .filesz) (drop (g .offset) (now x))) (e .0)
+  read-is r p e f = f ∙ ap (λ (x : RefT (List ℕ)). partOf (now x) (g .offset) (g .filesz)) (e .0) ∙ part-in (now s) (g .offset) (g .filesz) inside
 
   exits : (p : RefT (List ℕ)) (u : Val) → Said p → ent 𝓤 (⋆ 𝓤 H A (‵ (ShrSlice (named 0) κ u8 .own p (u ∷ [])) ∷ (‵ (flft κ q) ⊛ ‵ ftrue) ∷ ‵ Own ∷ [])) (Post u)
   exits p u e =

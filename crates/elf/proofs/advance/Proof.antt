@@ -1,6 +1,7 @@
 -- `elf::advance` meets its contract: a header is skipped, refused, or passed, by the laws of the walk.
 -- Assumes nothing.
 use mathlib.Core.Path.{_≡_, refl, sym, ap, _∙_}
+use mathlib.Core.List.{[]}
 use Prim.Native.Nat.{ℕ}
 use native.Mathlib.Omega.{arith}
 use denote.Ref.{now}
@@ -8,8 +9,10 @@ use lib.ListN.{length}
 use borrow.Author.Needs.{needs}
 use borrow.Author.Tests.{not-true, not-false}
 use Rattle.spec.specs.Elf.{errorNumber}
-use Rattle.header.specs.Header.{verdictNumber, phdrOf}
+use Rattle.header.specs.Header.{verdictNumber}
+use Rattle.phdr.specs.Phdr.{phdrOf}
 use Rattle.elf.specs.Reader.{segmentFrom, Checked}
+use Rattle.laws.proofs.Headers.{header-means}
 use Rattle.elf.proofs.Errors.{not-zero}
 use Rattle.elf.proofs.Checked.{checked}
 use Rattle.elf.proofs.Walk.{skips, refuses, goes-on}
@@ -25,7 +28,7 @@ returns c ps =
 passed : (c : tie.After-enum-told) → let a = c .before .before .before .before .before .before .args in Checked (length (now (a .image))) (segmentFrom (phdrOf (a .p)))
 passed c =
     let a = c .before .before .before .before .before .before .args in
-    checked (now (a .image)) (a .seen .end) (phdrOf (a .p)) _ (sym (c .before .before .judge-phdr .ensures) ∙ ap verdictNumber (c .enum-told .given .1))
+    checked (now (a .image)) (a .seen .end) (phdrOf (a .p)) (header-means (now (a .image)) (a .seen .end) (phdrOf (a .p)) [] (sym (c .before .before .judge-phdr .ensures) ∙ ap verdictNumber (c .enum-told .given .1)) .0)
 
 add-page-up : tie.Need-add-page-up
 add-page-up c = let f = passed (c .before) in omega arith

@@ -5,8 +5,7 @@ use denote.Ref.{now}
 use lib.ListN.{length}
 use borrow.Author.Needs.{needs}
 use Rattle.header.specs.Header.{verdictNumber, fieldsError}
-use Rattle.elf.proofs.Checks.{first, next}
-use Rattle.elf.proofs.Errors.{not-zero}
+use Rattle.elf.proofs.Errors.{not-zero, first, next}
 use Rattle.elf.proofs.Image.{table}
 use Rattle.elf.proofs.judge.Statement.{statement}
 use Rattle.elf.proofs.judge.Tie as tie

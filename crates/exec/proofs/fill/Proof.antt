@@ -1,7 +1,6 @@
 -- `exec::fill` meets its contract: too many segments are refused, and otherwise each field is the image's.
 -- Assumes nothing.
 use mathlib.Core.Path.{_≡_, sym, ap, ap₂, _∙_}
-use mathlib.Core.List.{List}
 use Prim.Native.Nat.{ℕ, _+_, _-_, _/_, _^_, _≤_}
 use native.Mathlib.Omega.{arith}
 use denote.Ref.{now}
@@ -9,14 +8,13 @@ use lib.ListN.{length, take, set}
 use borrow.Author.Needs.{needs}
 use Rattle.spec.specs.Numbers.{pageUp}
 use Rattle.spec.specs.Book.{pageCount, stack}
-use Rattle.spec.specs.Elf.{elfError, segmentsOf}
-use Rattle.spec.specs.Exec.{imageSegments, imageBss}
+use Rattle.spec.specs.Elf.{segmentsOf}
+use Rattle.spec.specs.Exec.{imageSegments, kept}
 use Rattle.spec.specs.declared.VirtRange.{VirtRange}
-use Rattle.spec.specs.declared.UserSegment.{UserSegment}
 use Rattle.elf.proofs.Image.{says-fields}
 use Rattle.elf.proofs.Ahead.{parsed-zero}
-use Rattle.exec.specs.Plan.{kept, recorded}
-use Rattle.exec.specs.declared.Recorded.{Recorded}
+use Rattle.recorded.specs.Pages.{recorded}
+use Rattle.recorded.specs.declared.Recorded.{Recorded}
 use Rattle.exec.proofs.Planned.{plan-many, plan-yes, bss-low, all-pages, first-ones, with-stack, same-plan}
 use Rattle.exec.proofs.fill.Statement.{statement}
 use Rattle.exec.proofs.fill.Tie as tie
@@ -57,7 +55,7 @@ returns-2 c =
     let us = imageSegments image in
     let few : length us ≤ 15 = omega (arith, many s, c .before .before .before .if1 .left) in
     let first = c .before .page-count .ensures .0 ∙ ap (λ (r : Recorded). pageCount (take (r .count) (r .segments))) (whole s) ∙ ap pageCount (first-ones us few) in
-    let behind = c .pages-in .ensures .0 ∙ ap (λ (x : ℕ). (p .args .bss .end - x) / 4096) (c .before .before .page-up .ensures)
+    let behind = c .pages .ensures .0 ∙ ap (λ (x : ℕ). (p .args .bss .end - x) / 4096) (c .before .before .page-up .ensures)
     ∙ ap (λ (b : VirtRange). (b .end - pageUp (b .start)) / 4096) (p .pre .1 .1) in
     same-plan _ _ _ _ _ _ _ _ _ _
     (says-fields image (p .args .h) (p .pre .0) .0)

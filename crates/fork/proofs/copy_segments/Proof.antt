@@ -10,12 +10,12 @@ use lib.Seq.{take-all}
 use borrow.Author.Needs.{needs}
 use Rattle.spec.specs.Book.{zeroSegment, bssSegment, procAt, frameOf}
 use Rattle.spec.specs.Sound.{Sound, Shape}
-use Rattle.spec.specs.Frames.{Store, pagesOf, place, frameBytes}
+use Rattle.spec.specs.Frames.{pagesOf, place, frameBytes}
 use Rattle.spec.specs.World.{State}
 use Rattle.spec.specs.declared.UserSegment.{UserSegment}
 use Rattle.spec.specs.declared.Proc.{Proc}
 use Rattle.spec.proofs.Bools.{within-means}
-use Rattle.laws.proofs.Lists.{Each}
+use Rattle.laws.proofs.Lists.{Each, each-at}
 use Rattle.laws.proofs.Frame.{Fits}
 use Rattle.laws.proofs.Record.{Whole}
 use Rattle.book.specs.Lent.{store}
@@ -26,7 +26,7 @@ use Rattle.front.specs.Numbers.{stateOf}
 use Rattle.front.proofs.First.{Forks, fork-none, fork-other, sizes-words}
 use Rattle.front.proofs.Living.{passed-sound, living-shape}
 use Rattle.front.proofs.Own.{take-more, pages-own}
-use Rattle.fork.proofs.Forked.{mapped-still, Copied, copied-none, copied-more, each-at, copyable-segments, copyable-bss}
+use Rattle.fork.proofs.Forked.{mapped-still, Copied, copied-none, copied-more, copyable-segments, copyable-bss}
 use Rattle.fork.specs.Lent.{Copyable, Tells}
 use Rattle.fork.proofs.Told.{tells-first}
 use Rattle.fork.proofs.copy_segments.Statement.{statement}

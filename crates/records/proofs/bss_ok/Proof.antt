@@ -2,7 +2,8 @@
 use borrow.Author.Needs.{needs}
 use borrow.Author.Tests.{lt-ltb, le-ltb}
 use Rattle.spec.specs.Numbers.{utzero, pageUp}
-use Rattle.records.proofs.Walk.{at-most, and-false, and-true}
+use mathlib.Core.Bool.{and-false, and-true}
+use Rattle.records.proofs.Walk.{at-most}
 use Rattle.records.proofs.bss_ok.Statement.{statement}
 use Rattle.records.proofs.bss_ok.Tie as tie
 

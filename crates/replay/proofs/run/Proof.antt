@@ -1,25 +1,26 @@
--- `replay::run` meets its contract. The invariant: the buffers keep their lengths, and what is held stays within them.
+-- `replay::run` meets its contract: the invariant: the buffers keep their lengths, and what is held stays within them.
 -- Assumes nothing.
 use mathlib.Core.Path.{_≡_, refl}
 use native.Mathlib.Omega.{arith}
 use lib.ListN.{length}
-use Rattle.replay.specs.Rooms.{Lends, Within}
+use Rattle.lines.specs.Lent.{Lends}
+use Rattle.replay.specs.Rooms.{Within}
 use borrow.Author.Needs.{needs}
 use Rattle.replay.proofs.run.Statement.{statement}
 use Rattle.replay.proofs.run.Tie as tie
 
 abbrev Inv-loop : tie.InvT-loop
-Inv-loop frames₀ book₀ space₀ buffer₀ line₀ s₀ turns₀ frames book space buffer line s turns =
-    (length frames ≡ length frames₀) × (length book ≡ length book₀) × (length space ≡ length space₀) × (length buffer ≡ length buffer₀) × (length line ≡ length line₀)
+Inv-loop frames₀ book₀ space₀ out₀ buffer₀ line₀ s₀ turns₀ frames book space out buffer line s turns =
+    (length frames ≡ length frames₀) × (length book ≡ length book₀) × (length space ≡ length space₀) × (length out ≡ length out₀) × (length buffer ≡ length buffer₀) × (length line ≡ length line₀)
     × Lends (s .world) × Within (s .input) (length buffer) (length line)
 
 abbrev μ-loop : tie.MeasureT-loop
-μ-loop frames₀ book₀ space₀ buffer₀ line₀ s₀ turns₀ frames book space buffer line s turns = turns
+μ-loop frames₀ book₀ space₀ out₀ buffer₀ line₀ s₀ turns₀ frames book space out buffer line s turns = turns
 
 loop-holds : tie.Need-loop-holds Inv-loop μ-loop
 loop-holds c =
     let b = c .before-line .ensures in
-    (refl, refl, refl, refl, refl, c .before .nothing .ensures, record { taken = omega (arith, b .0, b .1); filled = omega (arith, b .1); held = omega (arith, b .2) })
+    (refl, refl, refl, refl, refl, refl, c .before .nothing .ensures, record { taken = omega (arith, b .0, b .1); filled = omega (arith, b .1); held = omega (arith, b .2) })
 
 pub run-spec : {M : Type 1} → statement M
 run-spec =
@@ -36,7 +37,9 @@ run-spec =
     (λ c. search needs)
     (λ c. search needs)
     (λ c. search needs)
+    (λ c. search needs)
     (λ c κs. search needs)
+    (λ c. search needs)
     (λ c. search needs)
     (λ c. search needs)
     (λ c. search needs)

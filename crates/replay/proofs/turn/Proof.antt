@@ -2,13 +2,19 @@
 -- Assumes nothing.
 use mathlib.Core.Path.{sym}
 use native.Mathlib.Omega.{arith}
+use lib.ListN.{length-take}
 use lib.Seq.{length-take-le}
 use borrow.Author.Needs.{needs}
 use Rattle.replay.proofs.turn.Statement.{statement}
 use Rattle.replay.proofs.turn.Tie as tie
 
 slice-aggregate-answer : tie.Need-slice-aggregate-answer
-slice-aggregate-answer c = sym (length-take-le _ _ (omega (arith, c .before .before .before .before .before .before .before .before .before .take .ensures .held)))
+slice-aggregate-answer c = sym (length-take-le _ _ (omega (arith, c .before .before .before .before .before .before .before .before .before .before .take .ensures .held)))
+
+answer-requires : tie.Need-answer-requires
+answer-requires c κs =
+    let p = c .before .before .before .before .before .before .before .before .before .before .before .before .before .before .before .before .before .before .before .before .before .pre in
+    (p .0, (p .1 .0, ((p .1 .1 .0 .0, (simp length-take (omega (arith, c .before .before .before .before .before .before .before .before .before .before .take .ensures .held, p .1 .1 .0 .1 .0)), p .1 .1 .0 .1 .1)), p .1 .1 .1 .0)))
 
 pub turn-spec : {M : Type 1} → statement M
 turn-spec =
@@ -20,8 +26,9 @@ turn-spec =
     (λ c. search needs)
     (λ c. search needs)
     slice-aggregate-answer
+    answer-requires
     (λ c κs. search needs)
-    (λ c κs. search needs)
+    (λ c. search needs)
     (λ c. search needs)
     (λ c. search needs)
     (λ c. search needs)

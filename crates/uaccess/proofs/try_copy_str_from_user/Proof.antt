@@ -13,10 +13,13 @@ use Rattle.spec.specs.Access.{userRangeOk, byteOf, bytesAt, copyStr}
 use Rattle.spec.proofs.Bools.{not-true, un-not}
 use Rattle.laws.proofs.Contents.{length-bytes}
 use Rattle.book.specs.Lent.{store}
-use Rattle.book.proofs.Overwrite.{mix, mix-none}
-use Rattle.uaccess.specs.Strings.{toNul, copied}
-use Rattle.uaccess.proofs.Ranges.{range-top, range-cell}
-use Rattle.uaccess.proofs.Strings.{nul-most, copyFrom, str-none, str-end, str-bad, str-part, str-nul, str-whole}
+use Rattle.strings.specs.Nul.{toNul}
+use Rattle.strings.proofs.Nul.{nul-most}
+use Rattle.uaccess.specs.Strings.{copied}
+use Rattle.ranges.proofs.Ranges.{range-cell}
+use Rattle.uaccess.proofs.Strings.{copyFrom, str-none, str-end, str-bad, str-part, str-nul, str-whole}
+use Rattle.laws.proofs.Overwrite.{mix, mix-none}
+use Rattle.spec.proofs.Ranges.{range-means}
 use Rattle.uaccess.proofs.try_copy_str_from_user.Statement.{statement}
 use Rattle.uaccess.proofs.try_copy_str_from_user.Tie as tie
 
@@ -43,7 +46,7 @@ module _ (c : tie.Else1 Inv-loop μ-loop) where
   ok = sym (c .before .user-range-ok .ensures (now (start .args .frames))) ∙ un-not _ (c .if1 .left)
 
   top : start .args .src + n + 1 ≤ uaddrtop
-  top = range-top (memory start) false (start .args .src + n) 1 ok
+  top = range-means (memory start) false (start .args .src + n) 1 ok .top
 
 -- where the part that the page fills is known
 module _ (c : tie.After-in-page Inv-loop μ-loop) where

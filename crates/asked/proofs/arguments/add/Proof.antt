@@ -20,11 +20,14 @@ returns c =
     let a = c .before .before .before .before .before .before .before .args in
     let p = c .before .before .before .before .before .before .before .pre in (
       record { counted = p .1 .counted; sized = p .1 .sized; summed = p .1 .summed },
-      λ args k. record {
-        nuls = nuls-more (a .a) (now (a .bytes)) (now (a .lengths)) (now (a .arg)) args (p .1) k (c .before .before .before .has-nul .result) (c .before .before .before .has-nul .ensures);
-        whole = λ o. clash true refl o;
-        more = λ o. over-more (a .a) (now (a .bytes)) (now (a .lengths)) (now (a .arg)) args (p .1) k (p .0 .0) (p .0 .1) (c .if1 .taken);
-      },
+      (
+        λ args k. record {
+          nuls = nuls-more (a .a) (now (a .bytes)) (now (a .lengths)) (now (a .arg)) args (p .1) k (c .before .before .before .has-nul .result) (c .before .before .before .has-nul .ensures);
+          whole = λ o. clash true refl o;
+          more = λ o. over-more (a .a) (now (a .bytes)) (now (a .lengths)) (now (a .arg)) args (p .1) k (p .0 .0) (p .0 .1) (c .if1 .taken);
+        },
+        refl,
+      ),
     )
 
 fits : (c : tie.Else1) → (c .before .before .before .before .before .before .before .args .a .over ≡ false) × (c .before .before .before .before .before .before .before .args .a .count < length (now (c .before .before .before .before .before .before .before .args .lengths))) × (length (now (c .before .before .before .before .before .before .before .args .arg)) ≤ length (now (c .before .before .before .before .before .before .before .args .bytes)) - c .before .before .before .before .before .before .before .args .a .size)
@@ -48,11 +51,14 @@ returns-2 c =
         sized = rw (same-len-mid _ _ _ _ (f .kept .0)) (omega (arith, n, fits (c .before .before .before .before) .2, p .1 .sized));
         summed = sum-set (now (a .lengths)) (a .a .count) (f .result) (fits (c .before .before .before .before) .1) ∙ ap (λ (k : ℕ). k + f .result) (p .1 .summed);
       },
-      λ args k. record {
-        nuls = nuls-more (a .a) bytes (now (a .lengths)) (now (a .arg)) args (p .1) k (c .before .before .before .before .before .before .before .has-nul .result) (c .before .before .before .before .before .before .before .has-nul .ensures);
-        whole = λ o. whole-more (a .a) bytes (now (a .lengths)) (now (a .arg)) args (p .1) k _ (f .result) n put (fits (c .before .before .before .before) .1) (fits (c .before .before .before .before) .0);
-        more = λ o. clash false o refl;
-      },
+      (
+        λ args k. record {
+          nuls = nuls-more (a .a) bytes (now (a .lengths)) (now (a .arg)) args (p .1) k (c .before .before .before .before .before .before .before .has-nul .result) (c .before .before .before .before .before .before .before .has-nul .ensures);
+          whole = λ o. whole-more (a .a) bytes (now (a .lengths)) (now (a .arg)) args (p .1) k _ (f .result) n put (fits (c .before .before .before .before) .1) (fits (c .before .before .before .before) .0);
+          more = λ o. clash false o refl;
+        },
+        refl,
+      ),
     )
 
 pub add-spec : {M : Type 1} → statement M

@@ -17,7 +17,7 @@ use Rattle.asked.proofs.arguments.given.Tie as tie
 returns : tie.Need-returns
 returns c =
     let o = not-true (c .before .before .before .before .args .a .over) (c .if1 .taken) in
-    (c .before .before .before .before .pre .1, (λ args k. ap argsError (k .whole o), λ args k z. k .whole o))
+    (c .before .before .before .before .pre .1, (λ args k. ap argsError (k .whole o), (λ args k z. k .whole o, refl)))
 
 returns-2 : tie.Need-returns-2
 returns-2 c =
@@ -30,7 +30,7 @@ returns-2 c =
       record { counted = simp length-set (omega (arith, p .0 .1)); sized = omega (arith, wide); summed = sum-set (now (a .lengths)) 0 4096 long },
       (
         λ args k. one-error args (a .a .nul) _ _ (c .before .before .before .filler .result) (k .nuls) (k .more o) (c .before .before .before .filler .ensures) filled (take-suc-set (now (a .lengths)) 0 4096 long),
-        λ args k z. absurd (over-fails args (k .more o) z),
+        (λ args k z. absurd (over-fails args (k .more o) z), refl),
       ),
     )
 

@@ -12,14 +12,14 @@ returns : tie.Need-returns
 returns c =
     let a = c .before .before .before .before .before .before .before .args in
     let u = c .before .before .before .unhex in
-    (omega arith, λ h. pairs-none (u .result) _ (now (a .word)) (c .if1 .taken) (pairs-fit (u .result) _ (now (a .word)) (length (now (a .dst))) (u .ensures) h))
+    (omega arith, λ h. pairs-none (u .result) _ (now (a .word)) (c .if1 .taken) (pairs-fit (u .result) _ (now (a .word)) (length (now (a .dst))) (u .ensures .0) h))
 
 returns-2 : tie.Need-returns-2
 returns-2 c =
     let a = c .before .before .before .before .before .before .before .args in
     let u = c .before .before .before .unhex in (
-      omega (arith, pairs-room (u .result) _ (now (a .word)) (length (now (a .dst))) (c .if1 .left) (u .ensures)),
-      λ h. pairs-some (u .result) _ (now (a .word)) (c .if1 .left) (pairs-fit (u .result) _ (now (a .word)) (length (now (a .dst))) (u .ensures) h),
+      omega (arith, pairs-room (u .result) _ (now (a .word)) (length (now (a .dst))) (c .if1 .left) (u .ensures .0)),
+      λ h. pairs-some (u .result) _ (now (a .word)) (c .if1 .left) (pairs-fit (u .result) _ (now (a .word)) (length (now (a .dst))) (u .ensures .0) h),
     )
 
 pub pairs-spec : {M : Type 1} → statement M

@@ -6,7 +6,7 @@ use denote.Ref.{now}
 use lib.ListN.{length, getD, length-set}
 use Rattle.spec.specs.Tests.{_is_, _⇒_else_}
 use Rattle.spec.specs.Book.{ownerOf}
-use Rattle.book.proofs.Overwrite.{mix-none}
+use Rattle.laws.proofs.Overwrite.{mix-none}
 use Rattle.book.proofs.Released.{released, release-turn, release-all}
 use Rattle.book.proofs.release.release_owner.Statement.{statement}
 use Rattle.book.proofs.release.release_owner.Tie as tie

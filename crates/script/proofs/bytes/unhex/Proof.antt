@@ -1,9 +1,10 @@
 -- `script::bytes::unhex` meets its contract. The loop's invariant: the word gives the first `i` bytes of `dst`, and then what its other pairs give.
 use mathlib.Core.Path.{_≡_, refl, ap, _∙_}
-use Prim.Native.Nat.{_-_, _*_, _/_, _≤_}
+use Prim.Native.Nat.{_+_, _-_, _*_, _/_, _≤_}
 use native.Mathlib.Omega.{arith}
 use denote.Ref.{now}
 use lib.ListN.{length, take, drop, length-set}
+use lib.Seq.{drop-set-lt}
 use Rattle.spec.proofs.Chain.{chain}
 use Rattle.script.proofs.Pairs.{behind, behind-none, pairs-more, pairs-end, pairs-high, pairs-low, pairs-odd, no-bytes, all-bytes}
 use Rattle.script.specs.Bytes.{pairsOf}
@@ -11,7 +12,7 @@ use Rattle.script.proofs.bytes.unhex.Statement.{statement}
 use Rattle.script.proofs.bytes.unhex.Tie as tie
 
 abbrev Inv-loop : tie.InvT-loop
-Inv-loop dst₀ word n i₀ dst i = (i ≤ n) × (length dst ≡ length dst₀) × (pairsOf word ≡ behind (take i dst) (pairsOf (drop (2 * i) word)))
+Inv-loop dst₀ word n i₀ dst i = (i ≤ n) × (length dst ≡ length dst₀) × (pairsOf word ≡ behind (take i dst) (pairsOf (drop (2 * i) word))) × (drop n dst ≡ drop n dst₀)
 
 abbrev μ-loop : tie.MeasureT-loop
 μ-loop dst₀ word n i₀ dst i = n - i
@@ -19,13 +20,13 @@ abbrev μ-loop : tie.MeasureT-loop
 returns : tie.Need-returns Inv-loop μ-loop
 returns c =
     let a = c .before .before .before .args in
-    no-bytes (now (a .dst)) (now (a .word)) (pairs-odd (now (a .word)) (c .if1 .taken))
+    (no-bytes (now (a .dst)) (now (a .word)) (pairs-odd (now (a .word)) (c .if1 .taken)), refl)
 
 returns-2 : tie.Need-returns-2 Inv-loop μ-loop
-returns-2 c = search chain depth 5
+returns-2 c = (search chain depth 5, refl)
 
 loop-holds : tie.Need-loop-holds Inv-loop μ-loop
-loop-holds c = (omega arith, refl, behind-none _)
+loop-holds c = (omega arith, refl, behind-none _, refl)
 
 mul-digit : tie.Need-mul-digit Inv-loop μ-loop
 mul-digit c = omega arith
@@ -55,9 +56,11 @@ returns-3 : tie.Need-returns-3 Inv-loop μ-loop
 returns-3 c =
     let a = c .before .before .before .before .before .before .before .before .before .before .before .args in
     let at = c .before .before .before .before .before .before .loop in
-    let high = c .before .before .before .digit in
-    no-bytes (now (a .dst)) (now (a .word))
-    (at .inv .2 ∙ ap (behind (take (at .i) (at .dst))) (pairs-high (now (a .word)) (at .i) (high .result) (omega arith) (high .ensures .1) (c .if3 .taken)))
+    let high = c .before .before .before .digit in (
+      no-bytes (now (a .dst)) (now (a .word))
+          (at .inv .2 ∙ ap (behind (take (at .i) (at .dst))) (pairs-high (now (a .word)) (at .i) (high .result) (omega arith) (high .ensures .1) (c .if3 .taken))),
+      at .inv .3,
+    )
 
 same-length-2 : tie.Need-same-length-2 Inv-loop μ-loop
 same-length-2 c = omega arith
@@ -66,9 +69,11 @@ returns-4 : tie.Need-returns-4 Inv-loop μ-loop
 returns-4 c =
     let a = c .before .before .before .before .before .before .before .before .before .before .before .before .args in
     let at = c .before .before .before .before .before .before .before .loop in
-    let low = c .before .before .digit2 in
-    no-bytes (now (a .dst)) (now (a .word))
-    (at .inv .2 ∙ ap (behind (take (at .i) (at .dst))) (pairs-low (now (a .word)) (at .i) (low .result) (omega arith) (low .ensures .1) (c .if4 .taken)))
+    let low = c .before .before .digit2 in (
+      no-bytes (now (a .dst)) (now (a .word))
+          (at .inv .2 ∙ ap (behind (take (at .i) (at .dst))) (pairs-low (now (a .word)) (at .i) (low .result) (omega arith) (low .ensures .1) (c .if4 .taken))),
+      at .inv .3,
+    )
 
 mul-dst : tie.Need-mul-dst Inv-loop μ-loop
 mul-dst c = omega arith
@@ -87,10 +92,11 @@ loop-less c = omega arith
 
 loop-again : tie.Need-loop-again Inv-loop μ-loop
 loop-again c =
+    let a = c .before .before .before .before .before .before .before .before .before .before .before .before .args in
     let at = c .before .before .before .before .before .before .before .loop in
     let high = c .before .before .before .before .digit in
     let low = c .before .before .digit2 in
-    (omega arith, simp length-set (at .inv .1), at .inv .2 ∙ pairs-more _ (at .dst) (at .i) (high .result) (low .result) (omega arith) (omega arith) (high .ensures .1) (low .ensures .1) (omega arith) (omega arith))
+    (omega arith, simp length-set (at .inv .1), at .inv .2 ∙ pairs-more _ (at .dst) (at .i) (high .result) (low .result) (omega arith) (omega arith) (high .ensures .1) (low .ensures .1) (omega arith) (omega arith), drop-set-lt (length (now (a .word)) / 2) (at .dst) (at .i) (high .result * 16 + low .result) (omega arith) ∙ at .inv .3)
 
 same-length-3 : tie.Need-same-length-3 Inv-loop μ-loop
 same-length-3 c = omega arith
@@ -100,7 +106,7 @@ returns-5 c =
     let a = c .before .before .before .before .before .before .args in
     let at = c .before .loop in
     let end : at .i ≡ length (now (a .word)) / 2 = omega arith in
-    all-bytes (now (a .dst)) (now (a .word)) _ (omega arith) (rw end at (at .inv .2 ∙ pairs-end (now (a .word)) (take (at .i) (at .dst)) (at .i) (omega arith)))
+    (all-bytes (now (a .dst)) (now (a .word)) _ (omega arith) (rw end at (at .inv .2 ∙ pairs-end (now (a .word)) (take (at .i) (at .dst)) (at .i) (omega arith))), at .inv .3)
 
 pub unhex-spec : {M : Type 1} → statement M
 unhex-spec =

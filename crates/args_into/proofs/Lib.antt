@@ -1,0 +1,2 @@
+-- Strings and pointers laid into a buffer.
+pub mod Lay

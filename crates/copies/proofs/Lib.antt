@@ -1,0 +1,2 @@
+-- Reads and writes page by page.
+pub mod Copies

@@ -1,0 +1,3 @@
+-- A string by way of any buffer; one string more.
+pub mod Buffered
+pub mod Adding

@@ -1,0 +1,2 @@
+-- What one string more comes to.
+pub mod Strings

@@ -1,0 +1,2 @@
+-- What is free once the old pages are.
+pub mod Freed

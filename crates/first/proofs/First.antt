@@ -1,0 +1,106 @@
+-- The numbers that come first: the one that is given, and what none tells.
+use Prim.Native.Nat.{ℕ, _*_, _≤_, _<_}
+use native.Mathlib.Omega.{arith}
+use mathlib.Core.Path.{_≡_, refl, sym, ap, _∙_}
+use mathlib.Core.Bool.{Bool, true, false, not, _&&_}
+use mathlib.Core.List.{List}
+use lib.Dec.{eqb}
+use lib.ListN.{length}
+use borrow.Author.Tests.{eqb-true, le-ltb}
+use Rattle.spec.specs.Tests.{_is_, _below_, _⇒_else_, _orElse_}
+use Rattle.spec.specs.Book.{valid}
+use Rattle.spec.specs.Frames.{sized}
+use Rattle.spec.specs.World.{State, sound, taken}
+use Rattle.spec.proofs.Bools.{both, clash, not-true, within-means}
+use Rattle.spec.proofs.Chain.{here, past, is-through, isnt-through, not-holds, not-fails}
+use Rattle.book.specs.Lent.{store}
+use Rattle.laws.proofs.Checks.{or-else}
+use Rattle.first.specs.Numbers.{numberError, plainError, beginError, forkError}
+
+-- ---- in code: a test b of what the specification calls b′ gives its number, or the next is looked for
+
+pub given : (b b′ : Bool) (k e : ℕ) → b ≡ b′ → not b ≡ true → k ≡ (not b′ ⇒ k else e)
+given b b′ k e h t = here (not b′) k e k (not-holds b b′ h t) refl
+
+pub further : (b b′ : Bool) (k e r : ℕ) → b ≡ b′ → not b ≡ false → r ≡ e → r ≡ (not b′ ⇒ k else e)
+further b b′ k e r h t g = past (not b′) k e r (not-fails b b′ h t) g
+
+-- e is what was found first
+pub number-first : (e a b : ℕ) → e ≡ a → (e ≡ 0 → ⊥) → e ≡ (a orElse b)
+number-first e a b h ne = past (eqb a 0) b a e (isnt-through e a 0 h ne) h
+
+pub number-next : (e a b r : ℕ) → e ≡ a → e ≡ 0 → r ≡ b → r ≡ (a orElse b)
+number-next e a b r h z g = here (eqb a 0) b a r (is-through e a 0 h z) g
+
+-- ---- sizes
+
+last-false : (a b : Bool) → (a && (b && false)) ≡ false
+last-false true true = refl
+last-false true false = refl
+last-false false b = refl
+
+module _ (frames book : List ℕ) where
+  pub sizes-many : 1024 < length book → sized (store frames book) ≡ false
+  sizes-many h = rw (le-ltb (length book) 1025 h) (last-false (length frames is 4096 * length book) (not (length book below 1)))
+
+  pub sizes-words : sized (store frames book) ≡ true → (length frames ≡ 4096 * length book) × (1 ≤ length book) × (length book ≤ 1024)
+  sizes-words e =
+      let p = both (length frames is 4096 * length book) _ e in
+      let w = within-means 1 1025 (length book) (p .1) in
+      (eqb-true _ _ (p .0), w .0, omega arith)
+
+-- ---- where no number is given
+
+none-here : (b : Bool) (k e : ℕ) → (k is 0) ≡ false → (not b ⇒ k else e) ≡ 0 → (b ≡ true) × (e ≡ 0)
+none-here true k e z h = (refl, h)
+none-here false k e z h = absurd (let w : (k is 0) ≡ true = rw h in let v : false ≡ true = sym z ∙ w in let u : _≡_ {A = ℕ} 0 1 = cc in omega arith)
+
+-- sizes, the book and the number are as they should be
+pub record Passed (s : State) (n : ℕ) (fits : Bool) : Type 0 where
+  pub sizes : sized (s .store) ≡ true
+  pub lengths : fits ≡ true
+  pub book : sound s ≡ true
+  pub number : valid n ≡ true
+
+pub number-none : (s : State) (n : ℕ) (fits : Bool) → numberError s n fits ≡ 0 → Passed s n fits
+unfolding numberError
+number-none s n fits e =
+    let p1 = none-here (sized (s .store) && fits) 1 _ refl e in
+    let p2 = none-here (sound s) 2 _ refl (p1 .1) in
+    let p3 = none-here (valid n) 3 0 refl (p2 .1) in
+    let b = both (sized (s .store)) fits (p1 .0) in
+    record { sizes = b .0; lengths = b .1; book = p2 .0; number = p3 .0 }
+
+-- and the process lives
+pub plain-none : (s : State) (n : ℕ) (fits : Bool) → plainError s n fits ≡ 0 → Passed s n fits × (taken s n ≡ true)
+unfolding plainError
+plain-none s n fits e =
+    let p = or-else (numberError s n fits) _ e in
+    (number-none s n fits (p .0), none-here (taken s n) 4 0 refl (p .1) .0)
+
+-- or the number of a new process is free
+pub begin-none : (s : State) (n : ℕ) (fits : Bool) → beginError s n fits ≡ 0 → Passed s n fits × (not (taken s n) ≡ true)
+unfolding beginError
+begin-none s n fits e =
+    let p = or-else (numberError s n fits) _ e in
+    (number-none s n fits (p .0), none-here (not (taken s n)) 5 0 refl (p .1) .0)
+
+-- or, of a fork, both
+pub record Forks (s : State) (n child : ℕ) : Type 0 where
+  pub passed : Passed s n true
+  pub second : valid child ≡ true
+  pub parent : taken s n ≡ true
+  pub fresh : not (taken s child) ≡ true
+
+pub fork-none : (s : State) (n child : ℕ) → forkError s n child ≡ 0 → Forks s n child
+unfolding forkError
+fork-none s n child e =
+    let p = or-else (numberError s n true) _ e in
+    let p3 = none-here (valid child) 3 _ refl (p .1) in
+    let p4 = none-here (taken s n) 4 _ refl (p3 .1) in
+    let p5 = none-here (not (taken s child)) 5 0 refl (p4 .1) in
+    record { passed = number-none s n true (p .0); second = p3 .0; parent = p4 .0; fresh = p5 .0 }
+
+-- whose numbers differ
+pub fork-other : (s : State) (n child : ℕ) → Forks s n child → n ≡ child → ⊥
+fork-other s n child f e = clash (taken s child) (ap (taken s) (sym e) ∙ f .parent) (not-true (taken s child) (f .fresh))

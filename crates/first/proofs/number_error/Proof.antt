@@ -1,0 +1,15 @@
+-- `number_error` meets its contract: its lists are as long as their types say, and the table is empty.
+use mathlib.Core.Path.{refl}
+use borrow.Author.Needs.{needs}
+use Rattle.sound.proofs.Lookup.{blank-zeros}
+use Rattle.first.proofs.number_error.Statement.{statement}
+use Rattle.first.proofs.number_error.Tie as tie
+
+number-ready-requires : tie.Need-number-ready-requires
+number-ready-requires c κs = (refl, refl, refl, blank-zeros 1024)
+
+returns : tie.Need-returns
+returns c = search needs
+
+pub number-error-spec : {M : Type 1} → statement M
+number-error-spec = tie.close (tie.spec number-ready-requires returns)

@@ -1,0 +1,75 @@
+-- `number_ready` meets its contract: each test is the specification's, in its order.
+use native.Mathlib.Omega.{arith}
+use mathlib.Core.Path.{_≡_, refl, sym, ap, _∙_}
+use mathlib.Core.Bool.{Bool, true, _&&_}
+use denote.Ref.{now}
+use borrow.Author.Needs.{needs}
+use borrow.Author.Tests.{not-false}
+use Rattle.spec.specs.Frames.{sized}
+use Rattle.spec.proofs.Bools.{both}
+use Rattle.book.specs.Lent.{store}
+use Rattle.first.specs.Numbers.{numberError}
+use Rattle.first.proofs.First.{given, further, sizes-words}
+use Rattle.first.proofs.number_ready.Statement.{statement}
+use Rattle.first.proofs.number_ready.Tie as tie
+
+-- the first test is of sizes and lengths
+sizes-is : (c : tie.After-sizes-ok)
+    → (c .sizes-ok .result && c .before .before .before .args .fits)
+    ≡ (sized (store (now (c .before .before .before .args .frames)) (now (c .before .before .before .args .book))) && c .before .before .before .args .fits)
+sizes-is c = ap (λ (b : Bool). b && c .before .before .before .args .fits) (c .sizes-ok .ensures)
+
+sizes-ok-requires : tie.Need-sizes-ok-requires
+sizes-ok-requires c κs = search needs
+
+returns : tie.Need-returns
+unfolding numberError
+returns c = (given _ _ 1 _ (sizes-is (c .before)) (c .if1 .taken), λ z. absurd (omega arith))
+
+prepare-requires : tie.Need-prepare-requires
+prepare-requires c κs =
+    let d = c .before .before .before in
+    let a = d .before .before .before .before in
+    let s = sym (d .before .sizes-ok .ensures) ∙ both (d .before .sizes-ok .result) (a .args .fits) (not-false _ (d .if1 .left)) .0 in
+    (sizes-words (now (a .args .frames)) (now (a .args .book)) s .2, a .pre .0, a .pre .1, a .pre .2, a .pre .3)
+
+returns-2 : tie.Need-returns-2
+unfolding numberError
+returns-2 c =
+    let d = c .before .before .before .before .before in
+    (further _ _ 1 _ 2 (sizes-is (d .before)) (d .if1 .left) (given _ _ 2 _ (c .before .prepare .ensures .0) (c .if2 .taken)), λ z. absurd (omega arith))
+
+is-number-requires : tie.Need-is-number-requires
+is-number-requires c κs = search needs
+
+returns-3 : tie.Need-returns-3
+unfolding numberError
+returns-3 c =
+    let p = c .before .before in
+    let d = p .before .before .before .before .before in (
+      further _ _ 1 _ 3 (sizes-is (d .before)) (d .if1 .left)
+          (further _ _ 2 _ 3 (p .before .prepare .ensures .0) (p .if2 .left) (given _ _ 3 0 (c .before .is-number .ensures) (c .if3 .taken))),
+      λ z. absurd (omega arith),
+    )
+
+returns-4 : tie.Need-returns-4
+unfolding numberError
+returns-4 c =
+    let p = c .before .before in
+    let d = p .before .before .before .before .before in (
+      further _ _ 1 _ 0 (sizes-is (d .before)) (d .if1 .left)
+          (further _ _ 2 _ 0 (p .before .prepare .ensures .0) (p .if2 .left) (further _ _ 3 0 0 (c .before .is-number .ensures) (c .if3 .left) refl)),
+      λ z. p .before .prepare .ensures .1 (not-false _ (p .if2 .left)),
+    )
+
+pub number-ready-spec : {M : Type 1} → statement M
+number-ready-spec =
+    tie.close
+    (tie.spec
+    sizes-ok-requires
+    returns
+    prepare-requires
+    returns-2
+    is-number-requires
+    returns-3
+    returns-4)

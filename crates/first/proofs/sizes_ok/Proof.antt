@@ -1,0 +1,19 @@
+-- `sizes_ok` meets its contract: its tests are the specification's, once there are few enough words that 4,096 × words fits.
+use mathlib.Core.Path.{refl, sym}
+use denote.Ref.{now}
+use borrow.Author.Needs.{needs}
+use Rattle.first.proofs.First.{sizes-many}
+use Rattle.first.proofs.sizes_ok.Statement.{statement}
+use Rattle.first.proofs.sizes_ok.Tie as tie
+
+returns : tie.Need-returns
+returns c = sym (sizes-many (now (c .before .args .frames)) (now (c .before .args .book)) (c .if1 .taken))
+
+mul-result : tie.Need-mul-result
+mul-result c = search needs
+
+returns-2 : tie.Need-returns-2
+returns-2 c = refl
+
+pub sizes-ok-spec : {M : Type 1} → statement M
+sizes-ok-spec = tie.close (tie.spec returns mul-result returns-2)

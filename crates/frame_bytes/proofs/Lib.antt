@@ -1,0 +1,2 @@
+-- Bytes held and given.
+pub mod Held

@@ -1,0 +1,2 @@
+-- What pages hold.
+pub mod Contents

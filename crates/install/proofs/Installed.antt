@@ -1,0 +1,80 @@
+-- What an image that may be installed gives: the whole stack among its pages, once they are placed; its bss, entry and record.
+use Prim.Native.Nat.{ℕ, _-_}
+use native.Mathlib.Omega.{arith}
+use mathlib.Core.Path.{_≡_, ap, _∙_}
+use mathlib.Core.Bool.{true}
+use mathlib.Core.Option.{Option, some}
+use mathlib.Core.List.{List, [], _∷_, _++_}
+use lib.ListN.{length, replicate}
+use Rattle.spec.specs.Numbers.{ustktop, ustksize, pageBytes}
+use Rattle.spec.specs.Book.{bookPerm, zeroSegment, stack, bssSegment, inSegment, permAt, pageCount}
+use Rattle.spec.specs.Frames.{Store, pagesOf, place}
+use Rattle.spec.specs.Elf.{entry, segmentsOf}
+use Rattle.spec.specs.Exec.{imageSegments, imageBss, startPieces, fileByte}
+use Rattle.spec.specs.World.{procOf}
+use Rattle.spec.specs.History as history
+use Rattle.spec.specs.declared.UserSegment.{UserSegment}
+use Rattle.spec.proofs.Bools.{split, within-test}
+use Rattle.laws.proofs.Frame.{frame-perm, page-perm}
+use Rattle.laws.proofs.Owned.{valid-means}
+use Rattle.laws.proofs.Contents.{length-page}
+use Rattle.laws.proofs.Placed.{Whole, Room, perm-placed}
+use Rattle.laws.proofs.Started.{start-perm, start-apart}
+use Rattle.laws.proofs.Pieces.{orPerm}
+use Rattle.pagealloc.specs.Lent.{Mapped}
+use Rattle.exec.specs.declared.Plan.{Plan}
+use Rattle.exec.proofs.Planned.{plan-accepted}
+use Rattle.install.specs.Installing.{Installable, recordOf}
+
+-- the last of pieces gives its addresses a permission, unless another does
+last-there : (gs : List UserSegment) (b g : UserSegment) (a : ℕ) → inSegment a g ≡ true → (q : ℕ) × (permAt (gs ++ b ∷ g ∷ []) a ≡ some q)
+last-there [] b g a h = split (inSegment a b) (λ s. (b .perm, rw s)) (λ s. (g .perm, rw (s, h)))
+last-there (x ∷ gs) b g a h = split (inSegment a x) (λ s. (x .perm, rw s)) (λ s. let r = last-there gs b g a h in (r .0, rw s (r .1)))
+
+module _ (m : Store) (n : ℕ) (image : List ℕ) (plan : Plan) (bytes lengths : List ℕ) (i : Installable m n image plan bytes lengths) where
+  abbrev page : ℕ → List ℕ
+  page = pageBytes (fileByte (segmentsOf image))
+
+  whole : Whole n page (startPieces image)
+  whole = record {
+    owner = omega (arith, valid-means n (i .number) .1);
+    pieces = start-apart image (i .accepted);
+    small = λ a q s. omega (arith, start-perm image (i .accepted) a q s .1);
+    bytes = λ a q z s. length-page (fileByte (segmentsOf image)) a;
+  }
+
+  room : Room m n (startPieces image)
+  room = record {
+    owner = valid-means n (i .number) .0;
+    fresh = λ a q z s. page-perm m n a z ∙ ap history.permIn (i .empty a);
+    enough = i .room;
+  }
+
+  abbrev placed : Store
+  placed = place m n (pagesOf page (startPieces image))
+
+  pub stack-mapped : Mapped (placed .book) n (ustktop - ustksize) ustktop
+  stack-mapped a z l u =
+      let r = last-there (imageSegments image) (bssSegment (imageBss image)) stack a (within-test (ustktop - ustksize) ustktop a l u) in
+      frame-perm (placed .book) n a (r .0) (perm-placed m n page (startPieces image) (i .sizes) whole room a z ∙ ap (λ (o : Option ℕ). orPerm o (bookPerm (m .book) n a)) (r .1))
+
+  -- the plan is the image's
+  plan-is : plan ≡ record {
+    number = 0;
+    elf = 0;
+    entry = entry image;
+    segments = imageSegments image ++ stack ∷ replicate (15 - length (imageSegments image)) zeroSegment;
+    count = length (imageSegments image);
+    bss = imageBss image;
+    pages = pageCount (startPieces image);
+  }
+  plan-is = i .planned ∙ plan-accepted image (i .accepted)
+
+  pub plan-bss : plan .bss ≡ imageBss image
+  plan-bss = ap (λ (p : Plan). p .bss) plan-is
+
+  pub plan-entry : plan .entry ≡ entry image
+  plan-entry = ap (λ (p : Plan). p .entry) plan-is
+
+  pub plan-record : (name : List ℕ) → recordOf plan name ≡ procOf image name
+  plan-record name = ap (λ (p : Plan). recordOf p name) plan-is

@@ -1,0 +1,95 @@
+// The layout of an image, as r9's exec.rs checks it: each segment lies between UTZERO and the guard page below the stack, nothing
+// follows data, and the bss is what the last segment leaves behind it. It is the second half of refusal 30.
+
+ghost use mathlib.Core.Path.{_≡_};
+ghost use Prim.Native.Nat.{_+_, _-_, _*_, _^_, _≤_, _<_};
+ghost use lib.ListN.{length};
+ghost use Rattle.spec.specs.Elf.{phdrAt, segmentsOf};
+ghost use Rattle.elf.specs.Reader.{CheckedLoad, loadOf, said, parsed};
+ghost use Rattle.layout.specs.Fits.{fitOf, nothing, fits};
+use elf::Elf;
+use elf::Load;
+use elf::Parsed;
+use elf::Segment;
+use spec::VirtRange;
+
+// What the segments so far come to: whether the last is data, after which nothing may follow, and the bss behind it.
+pub struct Laid {
+    pub closed: bool,
+    pub bss: VirtRange,
+}
+
+// What a layout comes to: for Result<VirtRange>.
+pub enum Fit {
+    Fits(Laid),
+    Refused,
+}
+
+// One more segment of a layout: its range must fit the user address space, between UTZERO and the guard page below the stack, and it
+// must not follow data. What it leaves is the bss behind it.
+fn lay(before: Laid, g: Segment) -> Fit
+    requires { ⌜ (g .vaddr + g .memsz ≤ 2 ^ 64 - 4096) × (g .filesz ≤ g .memsz) ⌝ }
+    ensures { λ r. ⌜ r ≡ fitOf before (Load.Segment g) ⌝ }
+{
+    let end = g.vaddr + g.memsz;
+    if before.closed | (g.vaddr < spec::UTZERO) | (end > spec::LIMIT) {
+        return Fit::Refused;
+    }
+    let top = mem::page_up(end);
+    if g.perm == spec::DATA {
+        let start = g.vaddr + g.filesz as u64;
+        return Fit::Fits(Laid {
+            closed: true,
+            bss: VirtRange { start, end: top },
+        });
+    }
+    Fit::Fits(Laid {
+        closed: false,
+        bss: VirtRange {
+            start: top,
+            end: top,
+        },
+    })
+}
+
+// The layout with the segment of one more program header, if it has one.
+fn lay_header(image: &[u8], h: Elf, i: usize, before: Laid) -> Fit
+    requires { ⌜ (h .phoff + 56 * h .phnum ≤ length (now image)) × (i < h .phnum) ⌝ }
+    requires { ⌜ CheckedLoad (length (now image)) (loadOf (phdrAt (now image) (h .phoff + 56 * i))) ⌝ }
+    ensures { λ r. ⌜ r ≡ fitOf before (loadOf (phdrAt (now (image .entry)) (h .phoff + 56 * i))) ⌝ }
+{
+    let l = checked::segment_of(image, h, i);
+    match l {
+        Load::Skip => Fit::Fits(before),
+        Load::Segment(g) => lay(before, g),
+    }
+}
+
+// Checks that an image fits the user address space, as text and rodata, then at most one data segment, which the bss follows.
+pub fn layout(image: &[u8], h: Elf) -> Fit
+    requires { ⌜ said (Parsed.Elf h) ≡ parsed (now image) ⌝ }
+    ensures { λ r. ⌜ r ≡ fits nothing (segmentsOf (now (image .entry))) ⌝ }
+{
+    let mut seen = Laid {
+        closed: false,
+        bss: VirtRange {
+            start: spec::UTZERO,
+            end: spec::UTZERO,
+        },
+    };
+    let n = h.phnum;
+    let mut k = 0;
+    while k < n {
+        let f = lay_header(image, h, k, seen);
+        k += 1;
+        match f {
+            Fit::Refused => {
+                return Fit::Refused;
+            }
+            Fit::Fits(t) => {
+                seen = t;
+            }
+        }
+    }
+    Fit::Fits(seen)
+}

@@ -1,0 +1,4 @@
+pub mod Words
+pub mod Texts
+pub mod Asks
+pub mod Lent

@@ -1,0 +1,127 @@
+// A line of any kind but `map`: what it leaves, and its answer in a lent buffer.
+ghost use mathlib.Core.Path.{_≡_};
+ghost use Prim.Native.Nat.{_≤_};
+ghost use lib.ListN.{length};
+ghost use Rattle.lines.specs.Lent.{Lends};
+use crate::called;
+use crate::called::Said;
+use crate::lent;
+use crate::lent::Step;
+use crate::lent::World;
+use crate::program;
+use crate::shown;
+use script::Line;
+use spec::Procs;
+
+// A line of the rules by themselves leaves the records.
+fn unchanged(procs: Procs, size: usize) -> Said
+    ensures { λ r. ⌜ (r .procs ≡ procs) × (r .size ≡ size) ⌝ }
+{
+    Said {
+        procs: procs,
+        size: size,
+    }
+}
+
+// A call over what is lent of frames and book.
+fn lent_call(
+    frames: &mut [u8],
+    book: &mut [u64],
+    space: &mut [u8],
+    out: &mut [u8],
+    procs: Procs,
+    kind: Line,
+    line: &[u8],
+) -> Said
+    requires { ⌜ (65536 ≤ length (now space)) × ((length (now line) ≤ length (now space)) × (131136 ≤ length (now out))) ⌝ }
+    ensures { λ r. ⌜ r .size ≤ length (now (out .exit)) ⌝ }
+{
+    match kind {
+        Line::Start => program::start(frames, book, space, out, procs, line),
+        Line::Replace => program::replace(frames, book, space, out, procs, line),
+        Line::Push => program::push(frames, book, space, out, procs, line),
+        Line::Break => called::brk(frames, book, out, procs, line),
+        Line::Fork => called::fork(frames, book, out, procs, line),
+        Line::End => called::end(frames, book, out, procs, line),
+        Line::Range => called::range(frames, book, out, procs, line),
+        Line::From => called::from(frames, book, space, out, procs, line),
+        Line::To => called::to(frames, book, space, out, procs, line),
+        Line::String => called::string(frames, book, space, out, procs, line),
+        Line::Rule => unchanged(procs, shown::rule(out, line)),
+        Line::Name => unchanged(procs, shown::name(space, out, line)),
+        _ => called::bad(out, procs),
+    }
+}
+
+// What is held once a call has left its records.
+fn after_call(w: World, said: Said) -> Step
+    ensures { λ r. ⌜ r ≡ record { world = record { procs = said .procs; count = w .count; bytes = w .bytes; words = w .words }; size = said .size } ⌝ }
+{
+    let procs = said.procs;
+    let world = World {
+        procs: procs,
+        count: w.count,
+        bytes: w.bytes,
+        words: w.words,
+    };
+    Step {
+        world: world,
+        size: said.size,
+    }
+}
+
+// Any other line.
+fn call(
+    frames: &mut [u8],
+    book: &mut [u64],
+    space: &mut [u8],
+    out: &mut [u8],
+    w: World,
+    kind: Line,
+    line: &[u8],
+) -> Step
+    requires { ⌜ length (now frames) ≡ 4198400 ⌝ }
+    requires { ⌜ length (now book) ≡ 1025 ⌝ }
+    requires { ⌜ (65536 ≤ length (now space)) × ((length (now line) ≤ length (now space)) × (131136 ≤ length (now out))) ⌝ }
+    requires { ⌜ Lends w ⌝ }
+    ensures { λ r. ⌜ Lends (r .world) × (r .size ≤ length (now (out .exit))) ⌝ }
+{
+    let bytes = w.bytes;
+    let words = w.words;
+    let said = lent_call(
+        &mut frames[..bytes],
+        &mut book[..words],
+        space,
+        out,
+        lent::procs_of(w),
+        kind,
+        line,
+    );
+    after_call(w, said)
+}
+
+// A line of a kind: what it leaves, and its answer.
+pub fn answer(
+    frames: &mut [u8],
+    book: &mut [u64],
+    space: &mut [u8],
+    out: &mut [u8],
+    w: World,
+    kind: Line,
+    line: &[u8],
+) -> Step
+    requires { ⌜ length (now frames) ≡ 4198400 ⌝ }
+    requires { ⌜ length (now book) ≡ 1025 ⌝ }
+    requires { ⌜ (65536 ≤ length (now space)) × ((length (now line) ≤ length (now space)) × (131136 ≤ length (now out))) ⌝ }
+    requires { ⌜ Lends w ⌝ }
+    ensures { λ r. ⌜ Lends (r .world) × (r .size ≤ length (now (out .exit))) ⌝ }
+{
+    match kind {
+        Line::Blank => Step { world: w, size: 0 },
+        Line::Frames => lent::frames(frames, book, out, w, line),
+        Line::Lend => lent::lend(out, w, line),
+        Line::Word => lent::word(book, out, w, line),
+        Line::Sum => lent::sum(frames, book, out, w),
+        _ => call(frames, book, space, out, w, kind, line),
+    }
+}

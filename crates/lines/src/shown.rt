@@ -1,0 +1,71 @@
+// The lines of rules by themselves.
+ghost use Prim.Native.Nat.{_≤_};
+ghost use lib.ListN.{length};
+use asked::Taken;
+use script::Number;
+use segment::Bss;
+use spec::Answer;
+
+// The bss that two words of a line give.
+enum Words {
+    Give(Bss),
+    Bad,
+}
+
+fn bss_of(line: &[u8]) -> Words {
+    let first = script::word(line, 1);
+    let second = script::word(line, 2);
+    if script::same(first, b"none") {
+        if script::same(second, b"none") {
+            return Words::Give(Bss::Unset);
+        }
+        return Words::Bad;
+    }
+    let Number::Is(start) = script::decimal(first) else {
+        return Words::Bad;
+    };
+    let Number::Is(end) = script::decimal(second) else {
+        return Words::Bad;
+    };
+    Words::Give(Bss::Set(mem::range(start, end)))
+}
+
+// rule START END FREE ADDRESS
+pub fn rule(out: &mut [u8], line: &[u8]) -> usize
+    requires { ⌜ 131136 ≤ length (now out) ⌝ }
+    ensures { λ n. ⌜ n ≤ length (now (out .exit)) ⌝ }
+{
+    let Words::Give(bss) = bss_of(line) else {
+        return crate::say::bad_line(out);
+    };
+    let Number::Is(free) = asked::number(line, 3) else {
+        return crate::say::bad_line(out);
+    };
+    let Number::Is(addr) = asked::number(line, 4) else {
+        return crate::say::bad_line(out);
+    };
+    let b = segment::ibrk(bss, addr, free);
+    let error = b.error;
+    let value = b.value;
+    let after = b.bss;
+    if error != 0 {
+        return crate::say::answer(out, Answer::Refused(error));
+    }
+    match after {
+        Bss::Set(r) => crate::say::moved(out, value, r),
+        Bss::Unset => crate::say::answer(out, Answer::Refused(spec::EBADARG)),
+    }
+}
+
+// name BYTES
+pub fn name(space: &mut [u8], out: &mut [u8], line: &[u8]) -> usize
+    requires { ⌜ (length (now line) ≤ length (now space)) × (131136 ≤ length (now out)) ⌝ }
+    ensures { λ n. ⌜ n ≤ length (now (out .exit)) ⌝ }
+{
+    let Taken::Size(n) = asked::bytes(space, script::word(line, 1)) else {
+        return crate::say::bad_line(out);
+    };
+    let mut text = [0u8; 28];
+    kstr::kstrcpy(&mut text, &space[..n]);
+    crate::say::ok_bytes(out, &text)
+}

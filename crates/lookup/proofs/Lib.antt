@@ -1,0 +1,2 @@
+-- Entries of the table as frames.
+pub mod Entries

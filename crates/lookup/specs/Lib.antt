@@ -1,0 +1,2 @@
+-- What a sound book leaves for a call's lookups.
+pub mod Ready

@@ -1,0 +1,2 @@
+-- The pages of a record.
+pub mod Own

@@ -1,0 +1,3 @@
+-- Frames found, and ranges page by page.
+pub mod Found
+pub mod Ranges

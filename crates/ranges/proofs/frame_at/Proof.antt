@@ -1,0 +1,24 @@
+-- `ranges::frame_at` meets its contract.
+use Prim.Native.Nat.{ℕ}
+use mathlib.Core.Path.{ap, _∙_}
+use denote.Ref.{now}
+use borrow.Author.Needs.{needs}
+use Rattle.spec.specs.Book.{frameOf}
+use Rattle.book.specs.Lent.{foundOf}
+use Rattle.ranges.proofs.frame_at.Statement.{statement}
+use Rattle.ranges.proofs.frame_at.Tie as tie
+
+page-down-requires : tie.Need-page-down-requires
+page-down-requires c κs = search needs
+
+frame-at-requires : tie.Need-frame-at-requires
+frame-at-requires c κs = search needs
+
+returns : tie.Need-returns
+returns c =
+    let start = c .before .before .before in
+    let a = start .args in
+    c .frame-at .ensures (now (a .book)) (start .pre) ∙ ap (λ (p : ℕ). foundOf (frameOf (now (a .book)) (a .number) p)) (c .before .page-down .ensures)
+
+pub frame-at-spec : {M : Type 1} → statement M
+frame-at-spec = tie.close (tie.spec page-down-requires frame-at-requires returns)

@@ -1,0 +1,74 @@
+-- Each placed page takes a free frame; bytes written take none.
+use Prim.Native.Nat.{ℕ, zero, suc, _+_, _-_, _/_, _≤_, _<_}
+use native.Mathlib.Omega.{arith}
+use native.Mathlib.Nat.{not-suc-le-zero, le-of-suc-le-suc}
+use mathlib.Core.Path.{_≡_, refl, ap, ap₂, _∙_}
+use mathlib.Core.Bool.{false}
+use mathlib.Core.Option.{Option, none, some}
+use mathlib.Core.List.{List, [], _∷_}
+use lib.Dec.{eqb}
+use lib.ListN.{length, getD, set, length-append}
+use borrow.Author.Tests.{eqb-true, ne-eqb, eq-eqb}
+use Rattle.spec.proofs.Bools.{split}
+use Rattle.spec.proofs.Search.{hit, miss}
+use Rattle.spec.proofs.Words.{used-word}
+use Rattle.spec.specs.Tests.{_is_}
+use Rattle.spec.specs.Numbers.{pageDown}
+use Rattle.spec.specs.Book.{wordOf, freeFrame, frameOf, free, pageCount}
+use Rattle.spec.specs.Frames.{Store, Page, pagesFrom, pagesOf, hold, place, poke, pokes}
+use Rattle.spec.specs.declared.UserSegment.{UserSegment}
+
+-- the frame that a search finds is free, and one is found while one is free
+pub free-frame : (book : List ℕ) (k : ℕ) → freeFrame book ≡ some k → (k < length book) × (getD book k 0 ≡ 0)
+free-frame book k e = let r = hit (λ j. getD book j 0 is 0) (length book) k e in (r .0, eqb-true (getD book k 0) 0 (r .1))
+
+pub none-free : (book : List ℕ) → freeFrame book ≡ none → free book ≡ 0
+none-free book e = go book (miss (λ j. getD book j 0 is 0) (length book) e)
+  where
+    go : (l : List ℕ) → ((k : ℕ) → k < length l → (getD l k 0 is 0) ≡ false) → free l ≡ 0
+    go [] h = refl
+    go (w ∷ ws) h = rw (h 0 (omega arith)) (go ws (λ k l. h (suc k) (omega arith)))
+
+-- a word set in a free frame takes it
+pub free-set : (book : List ℕ) (k w : ℕ) → k < length book → getD book k 0 ≡ 0 → (w ≡ 0 → ⊥) → free (set book k w) + 1 ≡ free book
+free-set [] k w l z ne = absurd (not-suc-le-zero l)
+free-set (x ∷ xs) zero w l z ne = rw (ne-eqb w 0 ne, eq-eqb x 0 z)
+free-set (x ∷ xs) (suc k) w l z ne =
+    let ih = free-set xs k w (le-of-suc-le-suc l) z ne in
+    split (eqb x 0) (λ q. rw q (omega arith)) (λ q. rw q ih)
+
+-- each page takes a free frame
+pub free-place : (m : Store) (n : ℕ) (ps : List Page) → 1 ≤ n → length ps ≤ free (m .book) → free (place m n ps .book) + length ps ≡ free (m .book)
+unfolding place
+free-place m n [] lo room = omega arith
+free-place m n (p ∷ ps) lo room = go (freeFrame (m .book)) refl (λ t. free-place t n ps lo)
+  where
+    go : (o : Option ℕ) → freeFrame (m .book) ≡ o → ((t : Store) → length ps ≤ free (t .book) → free (place t n ps .book) + length ps ≡ free (t .book))
+        → free (place (hold m n p o) n ps .book) + length (p ∷ ps) ≡ free (m .book)
+    go none e more = absurd (omega (arith, none-free (m .book) e))
+    go (some k) e more =
+        let r = free-frame (m .book) k e in
+        let f = free-set (m .book) k (wordOf (p .page) n (p .perm)) (r .0) (r .1) (used-word (p .page) n (p .perm) lo) in
+        let ih = more (hold m n p (some k)) (omega arith) in
+        omega arith
+
+-- there are as many pages as pieces count
+length-from : (f : ℕ → List ℕ) (perm a k : ℕ) → length (pagesFrom f perm a k) ≡ k
+length-from f perm a zero = refl
+length-from f perm a (suc k) = ap suc (length-from f perm (a + 4096) k)
+
+pub length-pages : (f : ℕ → List ℕ) (gs : List UserSegment) → length (pagesOf f gs) ≡ pageCount gs
+length-pages f [] = refl
+length-pages f (g ∷ gs) =
+    let k : ℕ = (g .range .end - g .range .start) / 4096 in
+    length-append (pagesFrom f (g .perm) (g .range .start) k) (pagesOf f gs) ∙ ap₂ _+_ (length-from f (g .perm) (g .range .start) k) (length-pages f gs)
+
+-- bytes written over change no word
+pub poke-book : (m : Store) (a b : ℕ) (o : Option ℕ) → poke m a b o .book ≡ m .book
+poke-book m a b none = refl
+poke-book m a b (some k) = refl
+
+pub pokes-book : (m : Store) (n a : ℕ) (bs : List ℕ) → pokes m n a bs .book ≡ m .book
+unfolding pokes
+pokes-book m n a [] = refl
+pokes-book m n a (b ∷ bs) = pokes-book (poke m a b (frameOf (m .book) n (pageDown a))) n (a + 1) bs ∙ poke-book m a b (frameOf (m .book) n (pageDown a))

@@ -1,0 +1,2 @@
+-- The bytes before a NUL.
+pub mod Nul

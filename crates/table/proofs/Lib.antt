@@ -1,0 +1,2 @@
+-- One word of the book more.
+pub mod Pass

@@ -1,0 +1,21 @@
+"""Item 6: the break's rule."""
+from .machine import LIMIT, MAX, PAGE, Refused, up
+
+
+def rule(bss, free, address):
+    """The answer's value and the new bss; Refused 32, 33, 34."""
+    if bss is None:
+        raise Refused(32)
+    start, end = bss
+    if address == 0:
+        return start, bss
+    if address < start:
+        raise Refused(33)
+    new = up(address)
+    if new > MAX:
+        raise Refused(33)
+    if new > LIMIT:
+        raise Refused(34)
+    if new > end and new - end > PAGE * free:
+        raise Refused(33)
+    return 0, (start, new)

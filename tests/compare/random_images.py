@@ -1,0 +1,102 @@
+"""Random images, and damaged ones, from a generator of random numbers."""
+from document01.machine import DATA, LIMIT, MAX, PAGE, RODATA, TEXT, UTZERO, up
+from elf import change, example, field, header, program
+
+FLAGS = {TEXT: 5, RODATA: 4, DATA: 6}
+EXAMPLE = example(b'\x1f\x20\x03\xd5', b'data')
+
+
+def random_image(r, size='plain'):
+    """An ELF image of 1 to 16 headers, mostly one that loads; `small` ones have up to 3, `big` ones more bytes."""
+    count = r.choice([1, 1, 2, 2, 2, 3, 3, 4, 5, 6, 8, 12, 15, 16])
+    if size == 'small':
+        count = r.choice([1, 1, 1, 2, 2, 3])
+    dense = count > 8 and r.random() < 0.5            # every header a segment of a page
+    body = bytes(r.randrange(256) for _ in range(r.randint(4, 12 if size == 'small' else 48)))
+    if size == 'big':
+        body += r.randbytes(r.randrange(9000))
+    table = 64 if r.random() < 0.8 else 64 + len(body)
+    total = 64 + 56 * count + len(body)
+    page = UTZERO // PAGE + r.choice([0, 0, 0, 1, 5])
+    data = count - 1 if r.random() < 0.7 else 0       # which header is the data, if any
+    table_bytes, texts = b'', []
+    for i in range(count):
+        odd = r.random()
+        if count > 1 and not dense and odd < 0.08:
+            fields = [r.getrandbits(64) for _ in range(4)]
+            table_bytes += program(r.getrandbits(32), *fields, type=r.choice([0, 2, 6, 7]))
+            continue
+        if count > 1 and not dense and odd < 0.16:
+            fields = [r.getrandbits(64) for _ in range(3)]
+            table_bytes += program(r.getrandbits(32), *fields, 0)
+            continue
+        perm = DATA if i == data and i > 0 else r.choice([TEXT, TEXT, RODATA]) if texts else TEXT
+        offset = r.choice([0, r.randint(0, total), total - total % 4, total])
+        filesz = r.choice([0, total - offset, total - offset, r.randint(0, total - offset)])
+        if not texts and perm == TEXT:
+            offset, filesz = 0, r.randint(min(8, total), total)
+        vaddr = page * PAGE + offset % PAGE
+        fill = up(vaddr + filesz) - vaddr - filesz    # up to the end of its page
+        more = r.choice([0, 0, 1, fill, fill, fill + 1, r.randrange(3 * PAGE)])
+        memsz = max(filesz + (0 if dense else more), 1)
+        if i == count - 1 and r.random() < 0.04:      # at the very top
+            vaddr = LIMIT - PAGE + offset % PAGE
+            memsz = LIMIT - vaddr + r.choice([0, 0, 1])
+            filesz = min(filesz, memsz)
+        if r.random() < 0.02:
+            memsz += r.choice([PAGE * 1024, 2**40, 2**63])
+        flags = FLAGS[perm] + 8 * r.choice([0, 0, 0, 1, r.getrandbits(29)])
+        table_bytes += program(flags, offset, vaddr, filesz, memsz)
+        if perm == TEXT:
+            texts.append((vaddr, filesz))
+        page = up(vaddr + memsz) // PAGE + r.choice([0, 0, 0, 1])
+    places = [a for v, n in texts for a in (up4(v), (v + n - 1) // 4 * 4) if v <= a < v + n]
+    entry = r.choice(places) if places else UTZERO
+    head = header(entry, count, table)
+    return head + table_bytes + body if table == 64 else head + body + table_bytes
+
+
+def up4(a):
+    return (a + 3) // 4 * 4
+
+
+# Places and sizes of fields of the file header and of a program header.
+HEADER_FIELDS = [(4, 1), (5, 1), (6, 1), (16, 2), (18, 2), (20, 4), (24, 8), (32, 8), (54, 2), (56, 2)]
+PROGRAM_FIELDS = [(0, 4), (4, 4), (8, 8), (16, 8), (32, 8), (32, 8), (40, 8), (40, 8), (48, 8)]
+
+
+def damaged(r, image):
+    """The image with something wrong in it, or nothing."""
+    for _ in range(r.choice([1, 1, 1, 2])):
+        n = len(image)
+        count = min(field(image, 56, 2), 16) if n >= 64 else 0
+        way = r.random()
+        if n == 0 or way < 0.1:
+            image = image[:r.choice([0, 63, 64, r.randint(0, n), n - 1])]
+        elif way < 0.35:
+            image = change(image, r.randrange(n), 1, r.getrandbits(8))
+        elif way < 0.5 and n >= 64:
+            at, size = r.choice(HEADER_FIELDS)
+            image = change(image, at, size, near(r, image, field(image, at, size)))
+        elif count:
+            at, size = r.choice(PROGRAM_FIELDS)
+            at += field(image, 32, 8) + 56 * r.randrange(count)
+            if at + size <= n:
+                image = change(image, at, size, near(r, image, field(image, at, size)))
+    return image
+
+
+def near(r, image, old):
+    """A value for a field: near the old one or at a boundary."""
+    return r.choice([old + 1, old - 1, old + 4, old + PAGE, old - PAGE, old ^ 1 << r.randrange(64), 0, 1, len(image),
+                     len(image) + 1, UTZERO, UTZERO - 1, LIMIT, LIMIT + 1, 2**64 - PAGE, 2**64 - PAGE + 1, MAX,
+                     r.getrandbits(3), r.getrandbits(64)])
+
+
+def any_image(r, size='plain'):
+    way = r.random()
+    if way < 0.3:
+        return EXAMPLE
+    if way < 0.65:
+        return random_image(r, size)
+    return damaged(r, r.choice([EXAMPLE, random_image(r, size)]))

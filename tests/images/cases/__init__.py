@@ -1,0 +1,6 @@
+"""The listing's cases, by topic: each function adds some, with their listings by hand, in the order of GROUPS."""
+import pathlib
+import sys
+
+# The model of document 01 and the images' fields are tests/compare's.
+sys.path.insert(0, str(pathlib.Path(__file__).resolve().parents[2] / 'compare'))
