@@ -1,6 +1,8 @@
 // The lines of rules by themselves.
 ghost use Prim.Native.Nat.{_≤_};
 ghost use lib.ListN.{length};
+ghost use Rattle.lines.specs.Words.{wordOf};
+ghost use Rattle.lines.specs.Lent.{ShowsName};
 use asked::Taken;
 use script::Number;
 use segment::Bss;
@@ -61,6 +63,7 @@ pub fn rule(out: &mut [u8], line: &[u8]) -> usize
 pub fn name(space: &mut [u8], out: &mut [u8], line: &[u8]) -> usize
     requires { ⌜ (length (now line) ≤ length (now space)) × (131136 ≤ length (now out)) ⌝ }
     ensures { λ n. ⌜ n ≤ length (now (out .exit)) ⌝ }
+    ensures { λ n. ⌜ ShowsName (wordOf 1 (now (line .entry))) (now (out .exit)) n ⌝ }
 {
     let Taken::Size(n) = asked::bytes(space, script::word(line, 1)) else {
         return crate::say::bad_line(out);
