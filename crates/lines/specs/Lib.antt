@@ -2,3 +2,4 @@ pub mod Words
 pub mod Texts
 pub mod Asks
 pub mod Lent
+pub mod Rule

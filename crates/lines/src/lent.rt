@@ -1,8 +1,10 @@
 // The lines of frames and book.
 ghost use mathlib.Core.Path.{_≡_};
+ghost use mathlib.Core.Option.{none};
 ghost use Prim.Native.Nat.{_≤_, _<_};
 ghost use lib.ListN.{length, replicate};
-ghost use Rattle.lines.specs.Lent.{Lends};
+ghost use Rattle.lines.specs.Words.{numberOf};
+ghost use Rattle.lines.specs.Lent.{Lends, Leaves, Shows, lendOf, wordWorld, wordBook, sumLine};
 use script::Number;
 use spec::Procs;
 
@@ -64,6 +66,7 @@ fn bad(out: &mut [u8], w: World) -> Step
     requires { ⌜ 131136 ≤ length (now out) ⌝ }
     requires { ⌜ Lends w ⌝ }
     ensures { λ r. ⌜ Lends (r .world) × (r .size ≤ length (now (out .exit))) ⌝ }
+    ensures { λ r. ⌜ Leaves w none r (now (out .exit)) ⌝ }
 {
     let size = crate::say::bad_line(out);
     Step {
@@ -133,6 +136,7 @@ pub fn lend(out: &mut [u8], w: World, line: &[u8]) -> Step
     requires { ⌜ 131136 ≤ length (now out) ⌝ }
     requires { ⌜ Lends w ⌝ }
     ensures { λ r. ⌜ Lends (r .world) × (r .size ≤ length (now (out .exit))) ⌝ }
+    ensures { λ r. ⌜ Leaves w (lendOf w (numberOf 1 (now (line .entry))) (numberOf 2 (now (line .entry)))) r (now (out .exit)) ⌝ }
 {
     let Number::Is(bytes) = asked::number(line, 1) else {
         return bad(out, w);
@@ -160,6 +164,8 @@ pub fn word(book: &mut [u64], out: &mut [u8], w: World, line: &[u8]) -> Step
     requires { ⌜ 131136 ≤ length (now out) ⌝ }
     requires { ⌜ Lends w ⌝ }
     ensures { λ r. ⌜ Lends (r .world) × (r .size ≤ length (now (out .exit))) ⌝ }
+    ensures { λ r. ⌜ Leaves w (wordWorld w (numberOf 1 (now (line .entry))) (numberOf 2 (now (line .entry)))) r (now (out .exit)) ⌝ }
+    ensures { λ r. ⌜ now (book .exit) ≡ wordBook w (numberOf 1 (now (line .entry))) (numberOf 2 (now (line .entry))) (now (book .entry)) ⌝ }
 {
     let Number::Is(i) = asked::number(line, 1) else {
         return bad(out, w);
@@ -186,6 +192,7 @@ pub fn sum(frames: &mut [u8], book: &mut [u64], out: &mut [u8], w: World) -> Ste
     requires { ⌜ 131136 ≤ length (now out) ⌝ }
     requires { ⌜ Lends w ⌝ }
     ensures { λ r. ⌜ Lends (r .world) × (r .size ≤ length (now (out .exit))) ⌝ }
+    ensures { λ r. ⌜ Shows w (sumLine w (now (frames .entry)) (now (book .entry))) r (now (out .exit)) ⌝ }
 {
     let count = w.count;
     let bytes = 4096 * count;

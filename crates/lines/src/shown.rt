@@ -1,6 +1,11 @@
 // The lines of rules by themselves.
+ghost use mathlib.Core.Path.{_≡_};
 ghost use Prim.Native.Nat.{_≤_};
 ghost use lib.ListN.{length};
+ghost use Rattle.lines.specs.Words.{wordOf, numberOf};
+ghost use Rattle.lines.specs.Texts.{Says};
+ghost use Rattle.lines.specs.Lent.{ShowsName};
+ghost use Rattle.lines.specs.Rule.{bssWords, ruleLine};
 use asked::Taken;
 use script::Number;
 use segment::Bss;
@@ -12,7 +17,9 @@ enum Words {
     Bad,
 }
 
-fn bss_of(line: &[u8]) -> Words {
+fn bss_of(line: &[u8]) -> Words
+    ensures { λ r. ⌜ r ≡ bssWords (wordOf 1 (now (line .entry))) (wordOf 2 (now (line .entry))) ⌝ }
+{
     let first = script::word(line, 1);
     let second = script::word(line, 2);
     if script::same(first, b"none") {
@@ -33,7 +40,7 @@ fn bss_of(line: &[u8]) -> Words {
 // rule START END FREE ADDRESS
 pub fn rule(out: &mut [u8], line: &[u8]) -> usize
     requires { ⌜ 131136 ≤ length (now out) ⌝ }
-    ensures { λ n. ⌜ n ≤ length (now (out .exit)) ⌝ }
+    ensures { λ n. ⌜ Says (ruleLine (bssWords (wordOf 1 (now (line .entry))) (wordOf 2 (now (line .entry)))) (numberOf 3 (now (line .entry))) (numberOf 4 (now (line .entry)))) (now (out .exit)) n ⌝ }
 {
     let Words::Give(bss) = bss_of(line) else {
         return crate::say::bad_line(out);
@@ -61,6 +68,7 @@ pub fn rule(out: &mut [u8], line: &[u8]) -> usize
 pub fn name(space: &mut [u8], out: &mut [u8], line: &[u8]) -> usize
     requires { ⌜ (length (now line) ≤ length (now space)) × (131136 ≤ length (now out)) ⌝ }
     ensures { λ n. ⌜ n ≤ length (now (out .exit)) ⌝ }
+    ensures { λ n. ⌜ ShowsName (wordOf 1 (now (line .entry))) (now (out .exit)) n ⌝ }
 {
     let Taken::Size(n) = asked::bytes(space, script::word(line, 1)) else {
         return crate::say::bad_line(out);
