@@ -1,4 +1,5 @@
--- Arguments in the buffers that are lent for them.
+-- Arguments in the buffers that are lent for them. More than fit are over the limit anyway, so that what is kept of them has the
+-- same answer.
 -- Assumes nothing.
 use mathlib.Core.Path.{_≡_}
 use mathlib.Core.Bool.{true, false}

@@ -1,4 +1,5 @@
--- What a word gives: bytes, but for a file's, of which nothing is known.
+-- What a word gives: bytes, but for a file's, of which nothing is known. A contract that speaks of bytes taken says that a call is
+-- made with exactly these.
 -- Assumes nothing.
 use Prim.Native.Nat.{ℕ}
 use mathlib.Core.Path.{_≡_}

@@ -1,4 +1,4 @@
--- A list of segments as a script gives it: start, end and permission of each.
+-- A list of segments as a script gives it: start, end and permission of each. It is what a fork lends in place of the record's own.
 -- Assumes nothing.
 use Prim.Native.Nat.{ℕ}
 use mathlib.Core.List.{List, [], _∷_}

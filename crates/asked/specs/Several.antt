@@ -1,4 +1,4 @@
--- What several words give: arguments, a name, and numbers.
+-- What several words give: arguments, a name, and numbers. Each is stated over the words from a place on, as the code takes them.
 -- Assumes nothing.
 use Prim.Native.Nat.{ℕ, zero, suc}
 use mathlib.Core.Path.{_≡_}

@@ -1,4 +1,5 @@
-// What a script's words give a call: bytes, of a file too, names, arguments, and a fork's list of segments.
+// What a script's words give a call: bytes, of a file too, names, arguments, and a fork's list of segments. Files are read here and
+// nowhere else in the program replay.
 mod arguments;
 mod lists;
 mod words;

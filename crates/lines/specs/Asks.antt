@@ -1,4 +1,5 @@
--- What the lines ask for: the call of each, or none for a bad line; and what a line leaves and answers.
+-- What the lines ask for: the call of each, or none for a bad line; and what a line leaves and answers. `Answers` is the one form of
+-- the calls' lines: the specification's `after` and `answer` of the call that the words ask for.
 -- Assumes nothing.
 use Prim.Native.Nat.{ℕ, _-_, _≤_}
 use mathlib.Core.Path.{_≡_}

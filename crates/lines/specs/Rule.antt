@@ -1,4 +1,4 @@
--- The line of the break's rule by itself.
+-- The line of the break's rule by itself. It asks the specification's `ibrk`, with no process at hand.
 -- Assumes nothing.
 use Prim.Native.Nat.{ℕ}
 use mathlib.Core.Option.{Option, none, some}

@@ -1,4 +1,5 @@
--- The line that a call is answered with.
+-- The line that a call is answered with. All calls but three have the same text; a range says yes or no, and the two copies that
+-- fill a buffer show it.
 -- Assumes nothing.
 use Prim.Native.Nat.{ℕ, _≤_}
 use mathlib.Core.Path.{_≡_}

@@ -1,4 +1,4 @@
--- The words of a line, counted from 0, and those that are numbers.
+-- The words of a line, counted from 0, and those that are numbers. Word 0 says which line it is.
 -- Assumes nothing.
 use Prim.Native.Nat.{ℕ}
 use mathlib.Core.List.{List}

@@ -1,4 +1,4 @@
--- How far the input is taken stays within its buffers.
+-- How far the input is taken stays within its buffers. What a line means is crate lines' business; this is the reading of it.
 -- Assumes nothing.
 use Prim.Native.Nat.{ℕ, _≤_}
 use Rattle.replay.specs.declared.input.Input.{Input}

@@ -1,4 +1,5 @@
-// Replays a script of calls from standard input, one call a line, and answers each line: docs/REPLAY.md has the form.
+// Replays a script of calls from standard input, one call a line, and answers each line: docs/REPLAY.md has the form. What a line
+// leaves and answers is crate lines' business; here lines are read and answers written.
 ghost use mathlib.Core.Path.{_≡_};
 ghost use Prim.Native.Nat.{_≤_};
 ghost use lib.ListN.{length};
