@@ -1,16 +1,124 @@
-// The lines of a replay script: what each asks for, what it leaves, and its answer, which is put into a lent buffer. Nothing is read
-// but the files that words name, and nothing is written.
-mod called;
-mod lent;
-mod line;
-mod program;
-mod say;
-mod shown;
-mod words;
+// The lines of a replay script: which one is run, what it leaves, and its answer, which is put into a lent buffer. Nothing is read but
+// the files that words name, and nothing is written.
+ghost use mathlib.Core.Path.{_≡_};
+ghost use Prim.Native.Nat.{_≤_};
+ghost use lib.ListN.{length};
+ghost use Rattle.lent_lines.specs.Lent.{Lends};
+use lent_lines::Step;
+use lent_lines::World;
+use line::said::Said;
+use script::Line;
+use spec::Procs;
 
-pub use called::Said;
-pub use lent::Step;
-pub use lent::World;
-pub use lent::nothing;
-pub use lent::procs_of;
-pub use line::answer;
+// A line of the rules by themselves leaves the records.
+fn unchanged(procs: Procs, size: usize) -> Said
+    ensures { λ r. ⌜ (r .procs ≡ procs) × (r .size ≡ size) ⌝ }
+{
+    Said {
+        procs: procs,
+        size: size,
+    }
+}
+
+// A call over what is lent of frames and book.
+fn lent_call(
+    frames: &mut [u8],
+    book: &mut [u64],
+    space: &mut [u8],
+    out: &mut [u8],
+    procs: Procs,
+    kind: Line,
+    line: &[u8],
+) -> Said
+    requires { ⌜ (65536 ≤ length (now space)) × ((length (now line) ≤ length (now space)) × (131136 ≤ length (now out))) ⌝ }
+    ensures { λ r. ⌜ r .size ≤ length (now (out .exit)) ⌝ }
+{
+    match kind {
+        Line::Start => program_lines::start(frames, book, space, out, procs, line),
+        Line::Replace => program_lines::replace(frames, book, space, out, procs, line),
+        Line::Push => program_lines::push(frames, book, space, out, procs, line),
+        Line::Break => call_lines::brk(frames, book, out, procs, line),
+        Line::Fork => call_lines::fork(frames, book, out, procs, line),
+        Line::End => call_lines::end(frames, book, out, procs, line),
+        Line::Range => call_lines::range(frames, book, out, procs, line),
+        Line::From => call_lines::from(frames, book, space, out, procs, line),
+        Line::To => call_lines::to(frames, book, space, out, procs, line),
+        Line::String => call_lines::string(frames, book, space, out, procs, line),
+        Line::Rule => unchanged(procs, shown_lines::rule(out, line)),
+        Line::Name => unchanged(procs, shown_lines::name(space, out, line)),
+        _ => line::said::bad(out, procs),
+    }
+}
+
+// What is held once a call has left its records.
+fn after_call(w: World, said: Said) -> Step
+    ensures { λ r. ⌜ r ≡ record { world = record { procs = said .procs; count = w .count; bytes = w .bytes; words = w .words }; size = said .size } ⌝ }
+{
+    let procs = said.procs;
+    let world = World {
+        procs: procs,
+        count: w.count,
+        bytes: w.bytes,
+        words: w.words,
+    };
+    Step {
+        world: world,
+        size: said.size,
+    }
+}
+
+// Any other line.
+fn call(
+    frames: &mut [u8],
+    book: &mut [u64],
+    space: &mut [u8],
+    out: &mut [u8],
+    w: World,
+    kind: Line,
+    line: &[u8],
+) -> Step
+    requires { ⌜ length (now frames) ≡ 4198400 ⌝ }
+    requires { ⌜ length (now book) ≡ 1025 ⌝ }
+    requires { ⌜ (65536 ≤ length (now space)) × ((length (now line) ≤ length (now space)) × (131136 ≤ length (now out))) ⌝ }
+    requires { ⌜ Lends w ⌝ }
+    ensures { λ r. ⌜ Lends (r .world) × (r .size ≤ length (now (out .exit))) ⌝ }
+{
+    let bytes = w.bytes;
+    let words = w.words;
+    let said = lent_call(
+        &mut frames[..bytes],
+        &mut book[..words],
+        space,
+        out,
+        lent_lines::procs_of(w),
+        kind,
+        line,
+    );
+    after_call(w, said)
+}
+
+// A line of a kind: what it leaves, and its answer.
+pub fn answer(
+    frames: &mut [u8],
+    book: &mut [u64],
+    space: &mut [u8],
+    out: &mut [u8],
+    w: World,
+    kind: Line,
+    line: &[u8],
+) -> Step
+    requires { ⌜ length (now frames) ≡ 4198400 ⌝ }
+    requires { ⌜ length (now book) ≡ 1025 ⌝ }
+    requires { ⌜ (65536 ≤ length (now space)) × ((length (now line) ≤ length (now space)) × (131136 ≤ length (now out))) ⌝ }
+    requires { ⌜ Lends w ⌝ }
+    ensures { λ r. ⌜ Lends (r .world) × (r .size ≤ length (now (out .exit))) ⌝ }
+{
+    match kind {
+        Line::Blank => Step { world: w, size: 0 },
+        Line::Frames => lent_lines::frames(frames, book, out, w, line),
+        Line::Lend => lent_lines::lend(out, w, line),
+        Line::Word => lent_lines::word(book, out, w, line),
+        Line::Sum => lent_lines::sum(frames, book, out, w),
+        _ => call(frames, book, space, out, w, kind, line),
+    }
+}

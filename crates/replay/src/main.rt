@@ -3,7 +3,7 @@
 ghost use mathlib.Core.Path.{_≡_};
 ghost use Prim.Native.Nat.{_≤_};
 ghost use lib.ListN.{length};
-ghost use Rattle.lines.specs.Lent.{Lends};
+ghost use Rattle.lent_lines.specs.Lent.{Lends};
 ghost use Rattle.replay.specs.Rooms.{Within};
 
 mod input;
@@ -11,8 +11,8 @@ mod say;
 mod shown;
 
 use input::Input;
+use lent_lines::World;
 use libc::STDOUT_FILENO;
-use lines::World;
 use script::Line;
 
 // What the program holds: what the script has made, and how far its input is read.
@@ -101,7 +101,7 @@ fn run(
     requires { ⌜ (65537 ≤ length (now space)) × ((length (now line) ≡ 65537) × (131136 ≤ length (now out))) ⌝ }
 {
     let mut s = Session {
-        world: lines::nothing(),
+        world: lent_lines::nothing(),
         input: input::before_line(0, 0, false),
         ended: false,
     };

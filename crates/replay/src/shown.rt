@@ -2,8 +2,8 @@
 ghost use mathlib.Core.Path.{_≡_};
 ghost use Prim.Native.Nat.{_≤_, _^_};
 ghost use lib.ListN.{length};
-ghost use Rattle.lines.specs.Lent.{Lends};
-use lines::World;
+ghost use Rattle.lent_lines.specs.Lent.{Lends};
+use lent_lines::World;
 use script::Number;
 use spec::Proc;
 use spec::UserSegment;
@@ -91,7 +91,7 @@ pub fn map(book: &[u64], w: World, line: &[u8])
         crate::say::refused(spec::NUMBER);
         return;
     }
-    let procs = lines::procs_of(w);
+    let procs = lent_lines::procs_of(w);
     if !front::record::lives(procs, number) {
         crate::say::refused(spec::DEAD);
         return;

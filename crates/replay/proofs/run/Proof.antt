@@ -3,7 +3,7 @@
 use mathlib.Core.Path.{_≡_, refl}
 use native.Mathlib.Omega.{arith}
 use lib.ListN.{length}
-use Rattle.lines.specs.Lent.{Lends}
+use Rattle.lent_lines.specs.Lent.{Lends}
 use Rattle.replay.specs.Rooms.{Within}
 use borrow.Author.Needs.{needs}
 use Rattle.replay.proofs.run.Statement.{statement}

@@ -1,0 +1,4 @@
+-- What the contracts of this crate cite besides the specification.
+pub mod Words
+pub mod Texts
+pub mod Asks

@@ -1,6 +1,0 @@
--- What the contracts of this crate cite besides the specification.
-pub mod Words
-pub mod Texts
-pub mod Asks
-pub mod Lent
-pub mod Rule
