@@ -5,9 +5,12 @@ use Prim.Native.Nat.{ℕ, _*_, _≤_}
 use mathlib.Core.Path.{_≡_}
 use mathlib.Core.Bool.{Bool, false}
 use mathlib.Core.Option.{Option, none, some}
-use mathlib.Core.List.{List}
-use lib.ListN.{length, take, set}
+use mathlib.Core.List.{List, _++_}
+use lib.ListN.{take, drop, set, replicate}
 use Rattle.spec.specs.Tests.{_below_, _above_, _⇒_else_, ascii}
+use Rattle.spec.specs.Book.{zeroProc}
+use Rattle.spec.specs.declared.Procs.{Procs}
+use Rattle.script.specs.Words.{spacesOf}
 use Rattle.script.specs.declared.words.Number.{Number}
 use Rattle.script.specs.declared.words.Number.the-variants.{Is, Bad}
 use Rattle.script.specs.Crc.{crcOf}
@@ -15,6 +18,7 @@ use Rattle.replies.specs.Lines.{sumsText}
 use Rattle.replies.specs.Sums.{wordsBytes, recordsBytes}
 use Rattle.lent_lines.specs.declared.World.{World}
 use Rattle.lent_lines.specs.declared.Step.{Step}
+use Rattle.line.specs.Words.{numberOf}
 use Rattle.line.specs.Texts.{Says}
 
 -- there are at most 1,025 frames, and no more is lent than there is
@@ -35,6 +39,38 @@ worldText (some v) = ascii "ok\n"
 pub record Leaves (w : World) (o : Option World) (r : Step) (out : List ℕ) : Type 0 where
   pub world : r .world ≡ worldAfter w o
   pub said : Says (worldText o) out (r .size)
+
+-- the records of no process; and n frames, all of them lent, with no process
+unfoldable pub noProcs : Procs
+noProcs = record { all = replicate 16 zeroProc }
+
+abbrev pub allLent : ℕ → World
+allLent n = record { procs = noProcs; count = n; bytes = 4096 * n; words = n }
+
+-- frames N [FILL]: at most 1,025 frames, whose bytes are FILL, at most 255, or 0 if it isn't there
+abbrev pub fillOf : List ℕ → Number
+fillOf line = spacesOf line below 2 ⇒ Is 0 else numberOf 2 line
+
+abbrev pub framesWorld : Number → Number → Option World
+framesWorld (Is n) (Is fill) = n above 1025 ⇒ none else fill above 255 ⇒ none else some (allLent n)
+framesWorld (Is n) Bad = none
+framesWorld Bad fill = none
+
+-- what it makes of frames and book, whose words are zero. What lies behind the n frames stays, and all of it if the line is bad
+abbrev pub filled : Option World → Number → List ℕ → List ℕ
+filled none fill frames = frames
+filled (some w) (Is fill) frames = replicate (w .bytes) fill ++ drop (w .bytes) frames
+filled (some w) Bad frames = frames
+
+abbrev pub cleared : Option World → List ℕ → List ℕ
+cleared none book = book
+cleared (some w) book = replicate (w .words) 0 ++ drop (w .words) book
+
+abbrev pub framesBytes : Number → Number → List ℕ → List ℕ
+framesBytes n fill frames = filled (framesWorld n fill) fill frames
+
+abbrev pub framesBook : Number → Number → List ℕ → List ℕ
+framesBook n fill book = cleared (framesWorld n fill) book
 
 -- lend BYTES WORDS: at most what there is
 abbrev pub lendOf : World → Number → Number → Option World

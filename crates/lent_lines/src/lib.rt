@@ -4,7 +4,7 @@ ghost use mathlib.Core.Option.{none};
 ghost use Prim.Native.Nat.{_≤_, _<_};
 ghost use lib.ListN.{length, replicate};
 ghost use Rattle.line.specs.Words.{numberOf};
-ghost use Rattle.lent_lines.specs.Lent.{Lends, Leaves, Shows, lendOf, wordWorld, wordBook, sumLine};
+ghost use Rattle.lent_lines.specs.Lent.{Lends, Leaves, Shows, noProcs, allLent, fillOf, framesWorld, framesBytes, framesBook, lendOf, wordWorld, wordBook, sumLine};
 use script::Number;
 use spec::Procs;
 
@@ -26,7 +26,9 @@ pub struct Step {
 const MOST: u64 = 1025;
 
 // The records of no process.
-fn no_procs() -> Procs {
+fn no_procs() -> Procs
+    ensures { λ r. ⌜ r ≡ noProcs ⌝ }
+{
     let p = front::record::zero_proc();
     let all = [p; 16];
     Procs { all: all }
@@ -35,6 +37,7 @@ fn no_procs() -> Procs {
 // No frames.
 pub fn nothing() -> World
     ensures { λ r. ⌜ Lends r ⌝ }
+    ensures { λ r. ⌜ r ≡ allLent 0 ⌝ }
 {
     World {
         procs: no_procs(),
@@ -87,7 +90,9 @@ fn clear_words(words: &mut [u64])
 }
 
 // The number that the frames of a line are filled with.
-fn fill_of(line: &[u8]) -> Number {
+fn fill_of(line: &[u8]) -> Number
+    ensures { λ r. ⌜ r ≡ fillOf (now (line .entry)) ⌝ }
+{
     if script::spaces(line) < 2 {
         return Number::Is(0);
     }
@@ -101,6 +106,9 @@ pub fn frames(frames: &mut [u8], book: &mut [u64], out: &mut [u8], w: World, lin
     requires { ⌜ 131136 ≤ length (now out) ⌝ }
     requires { ⌜ Lends w ⌝ }
     ensures { λ r. ⌜ Lends (r .world) × (r .size ≤ length (now (out .exit))) ⌝ }
+    ensures { λ r. ⌜ Leaves w (framesWorld (numberOf 1 (now (line .entry))) (fillOf (now (line .entry)))) r (now (out .exit)) ⌝ }
+    ensures { λ r. ⌜ now (frames .exit) ≡ framesBytes (numberOf 1 (now (line .entry))) (fillOf (now (line .entry))) (now (frames .entry)) ⌝ }
+    ensures { λ r. ⌜ now (book .exit) ≡ framesBook (numberOf 1 (now (line .entry))) (fillOf (now (line .entry))) (now (book .entry)) ⌝ }
 {
     let Number::Is(n) = asked::number(line, 1) else {
         return bad(out, w);

@@ -20,7 +20,7 @@ abbrev μ-loop : tie.MeasureT-loop
 loop-holds : tie.Need-loop-holds Inv-loop μ-loop
 loop-holds c =
     let b = c .before-line .ensures in
-    (refl, refl, refl, refl, refl, refl, c .before .nothing .ensures, record { taken = omega (arith, b .0, b .1); filled = omega (arith, b .1); held = omega (arith, b .2) })
+    (refl, refl, refl, refl, refl, refl, c .before .nothing .ensures .0, record { taken = omega (arith, b .0, b .1); filled = omega (arith, b .1); held = omega (arith, b .2) })
 
 pub run-spec : {M : Type 1} → statement M
 run-spec =
