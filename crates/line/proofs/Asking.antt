@@ -1,6 +1,6 @@
 -- What a line's answer comes to, from what its parts ensure.
 -- Assumes nothing.
-use mathlib.Core.Path.{_≡_, refl, sym, ap, subst, _∙_}
+use mathlib.Core.Path.{_≡_, refl, sym, ap, ap₂, subst, _∙_}
 use mathlib.Core.Bool.{Bool, true, false}
 use mathlib.Core.Option.{Option, none, some}
 use mathlib.Core.List.{List, [], _∷_}
@@ -9,25 +9,26 @@ use native.Mathlib.Omega.{arith}
 use lib.Dec.{eqb}
 use lib.ListN.{length, take}
 use lib.Seq.{length-take-le}
-use borrow.Author.Tests.{eqb-true, le-ltb, lt-ltb}
+use borrow.Author.Tests.{eqb-true, eq-eqb, ne-eqb, le-ltb, lt-ltb}
 use Rattle.spec.specs.Tests.{_is_, _⇒_else_, ascii}
 use Rattle.spec.specs.Machine.{Call, fork, copy-from-user, try-copy-str-from-user, Reply}
 use Rattle.spec.specs.World.{State, Does}
 use Rattle.spec.specs.declared.Procs.{Procs}
 use Rattle.spec.proofs.Bools.{split}
 use Rattle.front.specs.Numbers.{stateOf, call}
-use Rattle.script.specs.Words.{tailOf, afterOf, sameBytes}
+use Rattle.script.specs.Words.{headOf, tailOf, afterOf, sameBytes}
 use Rattle.script.specs.Bytes.{formOf}
 use Rattle.script.specs.declared.bytes.Form.the-variants.{File}
 use Rattle.asked.specs.Given.{bytesOf, Gives}
 use Rattle.asked.specs.Lists.{listOf}
+use Rattle.asked.specs.Several.{wordsOf, Gave, nothing, one}
 use Rattle.asked.proofs.Collecting.{head-short}
 use Rattle.line.specs.declared.words.Two.the-variants.{Are as TwoAre}
 use Rattle.line.specs.declared.words.Three.{Three}
 use Rattle.line.specs.declared.words.Three.the-variants.{Are as ThreeAre}
 use Rattle.line.specs.Words.{wordOf, threeOf}
 use Rattle.line.specs.Texts.{replyText, Says}
-use Rattle.line.specs.Asks.{Reading, Reads, forkOf, rangeIn, rangeAsks, blank, fromOf, stringOf, lineAfter, lineText, Replies, Answers}
+use Rattle.line.specs.Asks.{Reading, Reads, givenFrom, forkOf, rangeIn, rangeAsks, blank, fromOf, stringOf, lineAfter, lineText, Replies, Answers}
 
 -- ---- what words gave
 
@@ -73,6 +74,43 @@ word-gives k line w n {o} h e f =
 
 pub named-gives : (k : ℕ) (line : List ℕ) {w : List ℕ} {o : Option (List ℕ)} → w ≡ wordOf k line → Gives w o → Gives (wordOf k line) o
 named-gives k line {w} {o} e g = subst (λ (x : List ℕ). Gives x o) e g
+
+-- ---- what words gave from one on
+
+-- words k, k + 1 and so on gave os
+abbrev pub with-list : Reading → ℕ → List (Option (List ℕ)) → Reading
+with-list given k [] = given
+with-list given k (o ∷ os) = with-word (with-list given (suc k) os) k o
+
+after-tail : (k : ℕ) (line : List ℕ) → tailOf (afterOf k line) ≡ afterOf k (tailOf line)
+after-tail zero line = refl
+after-tail (suc k) line = after-tail k (tailOf line)
+
+list-reads : (line : List ℕ) (given : Reading) (k n : ℕ) (rest : List ℕ) (os : List (Option (List ℕ))) → rest ≡ afterOf k line → Reads line given → Gave (wordsOf n rest) os → Reads line (with-list given k os)
+list-reads line given k zero rest [] e known g = known
+list-reads line given k (suc n) rest (o ∷ os) e known (one g gs) =
+    with-reads line (with-list given (suc k) os) k (list-reads line given (suc k) n (tailOf rest) os (ap tailOf e ∙ after-tail k line) known gs) (subst (λ (x : List ℕ). Gives (headOf x) o) e g)
+
+pub words-read : (line : List ℕ) (given : Reading) (k n : ℕ) (os : List (Option (List ℕ))) → Reads line given → Gave (wordsOf n (afterOf k line)) os → Reads line (with-list given k os)
+words-read line given k n os known g = list-reads line given k n (afterOf k line) os refl known g
+
+-- words before them gave what they gave
+pub with-other : (given : Reading) (j k : ℕ) (o : Option (List ℕ)) → (k ≡ j → ⊥) → with-word given j o k ≡ given k
+with-other given j k o ne = rw (ne-eqb k j ne)
+
+pub list-before : (given : Reading) (k : ℕ) (os : List (Option (List ℕ))) (j : ℕ) → j < k → with-list given k os j ≡ given j
+list-before given k [] j h = refl
+list-before given k (o ∷ os) j h = with-other (with-list given (suc k) os) k j o (λ e. omega arith) ∙ list-before given (suc k) os j (omega arith)
+
+pub from-other : (given : Reading) (j : ℕ) (o : Option (List ℕ)) (k n : ℕ) → j < k → givenFrom k n (with-word given j o) ≡ givenFrom k n given
+from-other given j o k zero h = refl
+from-other given j o k (suc n) h = ap₂ (λ (x : Option (List ℕ)) (xs : List (Option (List ℕ))). x ∷ xs) (with-other given j k o (λ e. omega arith)) (from-other given j o (suc k) n (omega arith))
+
+-- and these gave what they gave
+pub list-given : (given : Reading) (k n : ℕ) (ws : List ℕ) (os : List (Option (List ℕ))) → Gave (wordsOf n ws) os → givenFrom k n (with-list given k os) ≡ os
+list-given given k zero ws [] nothing = refl
+list-given given k (suc n) ws (o ∷ os) (one g gs) =
+    ap₂ (λ (x : Option (List ℕ)) (xs : List (Option (List ℕ))). x ∷ xs) (rw (eq-eqb k k refl)) (from-other (with-list given (suc k) os) k o (suc k) n (omega arith) ∙ list-given given (suc k) n (tailOf ws) os gs)
 
 -- ---- a line that is no call, and one that makes a call
 

@@ -1,14 +1,14 @@
 -- What the lines ask for: the call of each, or none for a bad line; and what a line leaves and answers. `Answers` is the one form of
 -- the calls' lines: the specification's `after` and `answer` of the call that the words ask for.
 -- Assumes nothing.
-use Prim.Native.Nat.{ℕ, _-_, _≤_}
+use Prim.Native.Nat.{ℕ, zero, suc, _-_, _≤_}
 use mathlib.Core.Path.{_≡_}
 use mathlib.Core.Bool.{Bool, true, false}
 use mathlib.Core.Option.{Option, none, some}
-use mathlib.Core.List.{List, [], _∷_}
+use mathlib.Core.List.{List, [], _∷_, _++_}
 use lib.ListN.{length, take, replicate}
 use Rattle.spec.specs.Tests.{_above_, _⇒_else_, ascii}
-use Rattle.spec.specs.Machine.{Call, start, replace, break, fork, end, user-range-ok, copy-from-user, copy-to-user, try-copy-str-from-user}
+use Rattle.spec.specs.Machine.{Call, start, replace, push, break, fork, end, user-range-ok, copy-from-user, copy-to-user, try-copy-str-from-user}
 use Rattle.spec.specs.Book.{used, procAt}
 use Rattle.spec.specs.World.{State, answer, after}
 use Rattle.spec.specs.declared.Procs.{Procs}
@@ -19,7 +19,7 @@ use Rattle.script.specs.declared.words.Number.{Number}
 use Rattle.script.specs.declared.words.Number.the-variants.{Is, Bad}
 use Rattle.asked.specs.Given.{Gives}
 use Rattle.asked.specs.Lists.{listOf}
-use Rattle.asked.specs.Several.{numbersOf, atMost}
+use Rattle.asked.specs.Several.{lacking, gotten, numbersOf, atMost}
 use Rattle.line.specs.declared.words.Two.{Two}
 use Rattle.line.specs.declared.words.Two.the-variants.{Are as TwoAre, Bad as TwoBad}
 use Rattle.line.specs.declared.words.Three.{Three}
@@ -118,10 +118,42 @@ replaceOf Bad argv name image = none
 abbrev pub replaceAsks : List ℕ → Reading → Option Call
 replaceAsks line given = replaceOf (numberOf 1 line) (numberOf 4 line) (given 2) (given 3)
 
--- start with a name and arguments, and the image of word 3
+-- the arguments of start and push: what the words behind word 3 gave. A call takes their bytes one behind the other, and their lengths
+abbrev pub givenFrom : ℕ → ℕ → Reading → List (Option (List ℕ))
+givenFrom k zero given = []
+givenFrom k (suc n) given = given k ∷ givenFrom (suc k) n given
+
+abbrev pub argsGiven : List ℕ → Reading → List (Option (List ℕ))
+argsGiven line given = givenFrom 4 (spacesOf line - 3) given
+
+abbrev pub joined : List (List ℕ) → List ℕ
+joined [] = []
+joined (a ∷ args) = a ++ joined args
+
+abbrev pub sizes : List (List ℕ) → List ℕ
+sizes [] = []
+sizes (a ∷ args) = length a ∷ sizes args
+
+-- start NUMBER NAME IMAGE [ARG ..]
 abbrev pub startWith : ℕ → List ℕ → List ℕ → List ℕ → Option (List ℕ) → Option Call
 startWith n name bytes lengths (some image) = some (call n (start image name bytes lengths))
 startWith n name bytes lengths none = none
+
+abbrev pub startOf : Number → Option (List ℕ) → Option (List ℕ) → List (Option (List ℕ)) → Option Call
+startOf (Is n) (some name) image args = lacking args ⇒ none else startWith n name (joined (gotten args)) (sizes (gotten args)) image
+startOf (Is n) none image args = none
+startOf Bad name image args = none
+
+abbrev pub startAsks : List ℕ → Reading → Option Call
+startAsks line given = startOf (numberOf 1 line) (given 2) (given 3) (argsGiven line given)
+
+-- push NUMBER PC TOP [ARG ..]
+abbrev pub pushOf : Three → List (Option (List ℕ)) → Option Call
+pushOf (ThreeAre n pc top) args = lacking args ⇒ none else some (call n (push pc top (joined (gotten args)) (sizes (gotten args))))
+pushOf ThreeBad args = none
+
+abbrev pub pushAsks : List ℕ → Reading → Option Call
+pushAsks line given = pushOf (threeOf line) (argsGiven line given)
 
 -- ---- what a line leaves and answers: a bad one changes nothing
 

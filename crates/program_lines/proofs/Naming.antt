@@ -1,64 +1,65 @@
 -- Of a name a call keeps its last element, as a record holds it: names that are alike there give the same line.
 -- Assumes nothing.
 use mathlib.Core.Path.{_≡_, refl, sym, ap, ap₂, _∙_}
+use mathlib.Core.Bool.{Bool, true, false}
 use mathlib.Core.Option.{Option, none, some}
 use mathlib.Core.List.{List, _++_, _∷_}
 use Prim.Native.Nat.{ℕ, _-_}
 use native.Mathlib.Omega.{arith}
 use lib.ListN.{length, replicate}
+use Rattle.spec.specs.Tests.{_⇒_else_}
 use Rattle.spec.specs.Name.{elem, kstrcpy}
 use Rattle.spec.specs.Book.{zeroSegment, stack}
-use Rattle.spec.specs.Exec.{imageSegments, imageBss, copyArgv}
-use Rattle.spec.specs.Machine.{replace, Call, Outcome, accepted, refused, ended, Reply, outcome, judge}
-use Rattle.spec.specs.World.{State, view, answer, after, setProc, forget, load, leave}
-use Rattle.spec.specs.declared.Proc.{Proc}
+use Rattle.spec.specs.Exec.{imageSegments, imageBss, argsOf, copyArgv}
+use Rattle.spec.specs.Machine.{start, replace, Outcome, accepted, refused, ended, outcome, judge}
+use Rattle.spec.specs.World.{State, view, answer, setProc, forget, load, leave}
 use Rattle.front.specs.Numbers.{call}
 use Rattle.script.specs.declared.words.Number.{Number}
 use Rattle.script.specs.declared.words.Number.the-variants.{Is}
-use Rattle.asked.specs.Several.{nameOf}
-use Rattle.line.specs.Texts.{replyText}
-use Rattle.line.specs.Asks.{Reading, Reads, replaceWith, replaceOf, lineAfter, lineText, Answers}
+use Rattle.asked.specs.Several.{lacking, gotten, nameOf}
+use Rattle.line.specs.Asks.{joined, sizes, startWith, startOf, replaceWith, replaceOf}
+use Rattle.program_lines.proofs.Alike.{Alike, alike-self, alike-calls}
 
--- two lines leave and say the same
-pub record Alike (s : State) (c d : Option Call) : Type 0 where
-  pub left : lineAfter s c ≡ lineAfter s d
-  pub said : lineText s c ≡ lineText s d
+-- an image is loaded alike
+load-named : (s : State) (n : ℕ) (image : List ℕ) (args : List (List ℕ)) (a b : List ℕ) → kstrcpy (elem a) ≡ kstrcpy (elem b) → load s n image a args ≡ load s n image b args
+load-named s n image args a b e = ap (λ (text : List ℕ). record {
+  store = load s n image a args .store;
+  procs = setProc (s .procs) n (record {
+    segments = imageSegments image ++ stack ∷ replicate (15 - length (imageSegments image)) zeroSegment;
+    text = text;
+    bss = imageBss image;
+  });
+}) e
 
-pub answers-alike : {s t : State} {f : List ℕ → Reading → Option Call} (g : List ℕ → Reading → Option Call) (line : List ℕ) {out : List ℕ} {size : ℕ}
-    (a : Answers s f line t out size) (given : Reading) → Reads line given → Alike s (f line (a .given)) (g line given) → Answers s g line t out size
-answers-alike g line a given known e = record { given = given; known = known; left = a .left ∙ e .left; said = a .said ∙ e .said; room = a .room }
-
-module _ (s : State) (n argv : ℕ) (image a b : List ℕ) (e : kstrcpy (elem a) ≡ kstrcpy (elem b)) where
-  abbrev loaded : List ℕ → State
-  loaded text = record {
-    store = load (forget s n) n image a (copyArgv (view s n .mem) argv .args) .store;
-    procs = setProc (forget s n .procs) n (record {
-      segments = imageSegments image ++ stack ∷ replicate (15 - length (imageSegments image)) zeroSegment;
-      text = text;
-      bss = imageBss image;
-    });
-  }
-
-  same-answer : answer s (call n (replace image a argv)) ≡ answer s (call n (replace image b argv))
+module _ (s : State) (n : ℕ) (image a b : List ℕ) (e : kstrcpy (elem a) ≡ kstrcpy (elem b)) where
+  replace-calls : (argv : ℕ) → Alike s (some (call n (replace image a argv))) (some (call n (replace image b argv)))
   unfolding answer judge
-  same-answer = refl
+  replace-calls argv = alike-calls s (call n (replace image a argv)) (call n (replace image b argv)) refl (leaves (outcome (answer s (call n (replace image b argv))))) (λ r. refl)
+    where
+      leaves : (o : Outcome) → leave s (call n (replace image a argv)) o ≡ leave s (call n (replace image b argv)) o
+      leaves accepted = load-named (forget s n) n image (copyArgv (view s n .mem) argv .args) a b e
+      leaves refused = refl
+      leaves ended = refl
 
-  same-left : (o : Outcome) → leave s (call n (replace image a argv)) o ≡ leave s (call n (replace image b argv)) o
-  same-left accepted = ap loaded e
-  same-left refused = refl
-  same-left ended = refl
-
-  same-after : after s (call n (replace image a argv)) ≡ after s (call n (replace image b argv))
-  unfolding after
-  same-after = same-left (outcome (answer s (call n (replace image a argv)))) ∙ ap (λ (r : Reply). leave s (call n (replace image b argv)) (outcome r)) same-answer
-
-  alike : Alike s (some (call n (replace image a argv))) (some (call n (replace image b argv)))
-  alike = record { left = same-after; said = ap (λ (r : Reply). replyText (replace image a argv) r) same-answer }
+  start-calls : (bytes lengths : List ℕ) → Alike s (some (call n (start image a bytes lengths))) (some (call n (start image b bytes lengths)))
+  unfolding answer judge
+  start-calls bytes lengths =
+      alike-calls s (call n (start image a bytes lengths)) (call n (start image b bytes lengths)) refl (leaves (outcome (answer s (call n (start image b bytes lengths))))) (λ r. refl)
+    where
+      leaves : (o : Outcome) → leave s (call n (start image a bytes lengths)) o ≡ leave s (call n (start image b bytes lengths)) o
+      leaves accepted = load-named s n image (argsOf bytes lengths) a b e
+      leaves refused = refl
+      leaves ended = refl
 
 -- whatever the image
-replace-alike : (s : State) (n argv : ℕ) (a b : List ℕ) (image : Option (List ℕ)) → kstrcpy (elem a) ≡ kstrcpy (elem b) → Alike s (replaceWith n argv a image) (replaceWith n argv b image)
-replace-alike s n argv a b none e = record { left = refl; said = refl }
-replace-alike s n argv a b (some image) e = alike s n argv image a b e
+module _ (s : State) (n : ℕ) (a b : List ℕ) (e : kstrcpy (elem a) ≡ kstrcpy (elem b)) where
+  replace-alike : (argv : ℕ) (image : Option (List ℕ)) → Alike s (replaceWith n argv a image) (replaceWith n argv b image)
+  replace-alike argv none = alike-self s none
+  replace-alike argv (some image) = replace-calls s n image a b e argv
+
+  start-alike : (bytes lengths : List ℕ) (image : Option (List ℕ)) → Alike s (startWith n a bytes lengths image) (startWith n b bytes lengths image)
+  start-alike bytes lengths none = alike-self s none
+  start-alike bytes lengths (some image) = start-calls s n image a b e bytes lengths
 
 -- a word that gave no name, and one that gave a name
 nameless : (o : Option (List ℕ)) → none ≡ nameOf o → o ≡ none
@@ -71,4 +72,18 @@ module _ {m k : Number} {n argv : ℕ} (p : m ≡ Is n) (q : k ≡ Is argv) wher
 
   pub replace-named : (s : State) (name : List ℕ) (o image : Option (List ℕ)) → some (kstrcpy (elem name)) ≡ nameOf o → Alike s (replaceWith n argv name image) (replaceOf m k o image)
   replace-named s name none image h = let z : _≡_ {A = ℕ} 0 1 = cc in absurd (omega arith)
-  replace-named s name (some b) image h = let e : kstrcpy (elem name) ≡ kstrcpy (elem b) = cc in rw (p, q) (replace-alike s n argv name b image e)
+  replace-named s name (some b) image h = let e : kstrcpy (elem name) ≡ kstrcpy (elem b) = cc in rw (p, q) (replace-alike s n name b e argv image)
+
+module _ {m : Number} {n : ℕ} (p : m ≡ Is n) (args : List (Option (List ℕ))) where
+  pub start-nameless : (o image : Option (List ℕ)) → none ≡ nameOf o → none ≡ startOf m o image args
+  start-nameless o image h = sym (ap (λ (x : Number). startOf x o image args) p ∙ ap (λ (x : Option (List ℕ)). startOf (Is n) x image args) (nameless o h))
+
+  pub start-named : (s : State) (name : List ℕ) (o image : Option (List ℕ)) (args′ : List (Option (List ℕ))) → args′ ≡ args → some (kstrcpy (elem name)) ≡ nameOf o
+      → Alike s (startOf (Is n) (some name) image args) (startOf m o image args′)
+  start-named s name none image args′ r h = let z : _≡_ {A = ℕ} 0 1 = cc in absurd (omega arith)
+  start-named s name (some b) image args′ r h = let e : kstrcpy (elem name) ≡ kstrcpy (elem b) = cc in rw (p, r) (either e (lacking args))
+    where
+      either : kstrcpy (elem name) ≡ kstrcpy (elem b) → (lacks : Bool)
+          → Alike s (lacks ⇒ none else startWith n name (joined (gotten args)) (sizes (gotten args)) image) (lacks ⇒ none else startWith n b (joined (gotten args)) (sizes (gotten args)) image)
+      either e true = alike-self s none
+      either e false = start-alike s n name b e (joined (gotten args)) (sizes (gotten args)) image

@@ -2,7 +2,10 @@
 ghost use Prim.Native.Nat.{_≤_};
 ghost use lib.ListN.{length};
 ghost use Rattle.front.specs.Numbers.{stateOf};
-ghost use Rattle.line.specs.Asks.{startWith, replaceWith, replaceAsks, Answers};
+ghost use mathlib.Core.Option.{some};
+ghost use Rattle.script.specs.declared.words.Number.the-variants.{Is};
+ghost use Rattle.line.specs.declared.words.Three.the-variants.{Are};
+ghost use Rattle.line.specs.Asks.{argsGiven, startWith, startOf, startAsks, replaceWith, replaceAsks, pushOf, pushAsks, Answers};
 use asked::Taken;
 use line::said::Said;
 use line::said::answered;
@@ -58,7 +61,7 @@ fn start_args(
     line: &[u8],
 ) -> Said
     requires { ⌜ (length (now line) ≤ length (now space)) × (131136 ≤ length (now out)) ⌝ }
-    ensures { λ r. ⌜ r .size ≤ length (now (out .exit)) ⌝ }
+    ensures { λ r. ⌜ Answers (stateOf (now (frames .entry)) (now (book .entry)) procs) (λ l given. startOf (Is number) (some (now (name .entry))) (given 3) (argsGiven l given)) (now (line .entry)) (stateOf (now (frames .exit)) (now (book .exit)) (r .procs)) (now (out .exit)) (r .size) ⌝ }
 {
     let mut bytes = [0u8; 4096];
     let mut lengths = [0u64; 512];
@@ -92,7 +95,7 @@ pub fn start(
     line: &[u8],
 ) -> Said
     requires { ⌜ (length (now line) ≤ length (now space)) × (131136 ≤ length (now out)) ⌝ }
-    ensures { λ r. ⌜ r .size ≤ length (now (out .exit)) ⌝ }
+    ensures { λ r. ⌜ Answers (stateOf (now (frames .entry)) (now (book .entry)) procs) startAsks (now (line .entry)) (stateOf (now (frames .exit)) (now (book .exit)) (r .procs)) (now (out .exit)) (r .size) ⌝ }
 {
     let Number::Is(number) = asked::number(line, 1) else {
         return bad(out, procs);
@@ -176,7 +179,7 @@ fn push_args(
     line: &[u8],
 ) -> Said
     requires { ⌜ (length (now line) ≤ length (now space)) × (131136 ≤ length (now out)) ⌝ }
-    ensures { λ r. ⌜ r .size ≤ length (now (out .exit)) ⌝ }
+    ensures { λ r. ⌜ Answers (stateOf (now (frames .entry)) (now (book .entry)) procs) (λ l given. pushOf (Are number pc top) (argsGiven l given)) (now (line .entry)) (stateOf (now (frames .exit)) (now (book .exit)) (r .procs)) (now (out .exit)) (r .size) ⌝ }
 {
     let mut bytes = [0u8; 4096];
     let mut lengths = [0u64; 512];
@@ -211,7 +214,7 @@ pub fn push(
     line: &[u8],
 ) -> Said
     requires { ⌜ (length (now line) ≤ length (now space)) × (131136 ≤ length (now out)) ⌝ }
-    ensures { λ r. ⌜ r .size ≤ length (now (out .exit)) ⌝ }
+    ensures { λ r. ⌜ Answers (stateOf (now (frames .entry)) (now (book .entry)) procs) pushAsks (now (line .entry)) (stateOf (now (frames .exit)) (now (book .exit)) (r .procs)) (now (out .exit)) (r .size) ⌝ }
 {
     let Three::Are(number, pc, top) = first_three(line) else {
         return bad(out, procs);

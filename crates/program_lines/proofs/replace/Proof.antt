@@ -11,7 +11,8 @@ use Rattle.asked.specs.Several.{nameOf}
 use Rattle.line.specs.Words.{wordOf, numberOf}
 use Rattle.line.specs.Asks.{replaceOf, replaceAsks}
 use Rattle.line.proofs.Asking.{plain, plain-reads, with-word, with-reads, word-short, named-gives, bad-line}
-use Rattle.program_lines.proofs.Naming.{answers-alike, replace-nameless, replace-named}
+use Rattle.program_lines.proofs.Alike.{answers-alike}
+use Rattle.program_lines.proofs.Naming.{replace-nameless, replace-named}
 use borrow.Author.Needs.{needs}
 use Rattle.program_lines.proofs.replace.Statement.{statement}
 use Rattle.program_lines.proofs.replace.Tie as tie
