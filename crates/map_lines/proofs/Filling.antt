@@ -46,3 +46,31 @@ module _ {room : Room} {n : ℕ} (q : room ≡ At n) where
           let f : length (t ++ s) ≡ r = omega (arith, length-append t s, said-length (k .0), p .place) in
           let g : e ≡ (t ++ s) ++ drop (n + length s) d = p .bytes ∙ ap (λ (x : List ℕ). x ++ s ++ drop (n + length s) d) (k .0 .bytes) in
           ap (take r) g ∙ take-at (t ++ s) (drop (n + length s) d) r f
+
+-- a part behind a part
+pub adds-both : {s t : List ℕ} {a b c : Room} {d e f : List ℕ} → Adds s a d b e → Adds t b e c f → Adds (s ++ t) a d c f
+adds-both {s} {t} {a} {b} {c} {d} {e} {f} p q = record { more = λ u h. subst (Holds c f) (append-assoc u s t) (q .more (u ++ s) (p .more u h)) }
+
+-- nothing
+pub adds-none : {s : List ℕ} (a : Room) (d : List ℕ) → s ≡ [] → Adds s a d a d
+adds-none {s} a d q = record { more = λ t h. subst (Holds a d) (sym (append-nil t) ∙ ap (λ (x : List ℕ). t ++ x) (sym q)) h }
+
+-- ---- a loop over parts: those that are done are added, and rest is left of all
+
+pub record Onward (all rest : List ℕ) (a : Room) (d : List ℕ) (b : Room) (e : List ℕ) : Type 0 where
+  pub done : List ℕ
+  pub parts : done ++ rest ≡ all
+  pub added : Adds done a d b e
+
+pub begun : (all : List ℕ) (a : Room) (d : List ℕ) → Onward all all a d a d
+begun all a d = record { done = []; parts = refl; added = adds-none a d refl }
+
+pub another : {all rest s rest′ : List ℕ} {a b c : Room} {d e f : List ℕ} → Onward all rest a d b e → rest ≡ s ++ rest′ → Adds s b e c f → Onward all rest′ a d c f
+another {all} {rest} {s} {rest′} o q p = record { done = o .done ++ s; parts = append-assoc (o .done) s rest′ ∙ ap (λ (x : List ℕ). o .done ++ x) (sym q) ∙ o .parts; added = adds-both (o .added) p }
+
+pub ended : {all rest : List ℕ} {a b : Room} {d e : List ℕ} → rest ≡ [] → Onward all rest a d b e → Adds all a d b e
+ended q o = adds-as (sym (append-nil (o .done)) ∙ ap (λ (x : List ℕ). o .done ++ x) (sym q) ∙ o .parts) (o .added)
+
+-- no need to go on
+pub enough : {all rest : List ℕ} {a b : Room} {d e : List ℕ} → b ≡ Full → Onward all rest a d b e → Adds all a d Full e
+enough {all} {rest} q o = adds-as (o .parts) (adds-both (o .added) (stays-full rest q))
