@@ -1,16 +1,20 @@
--- The pages of a range and the kinds of a segment, as the code goes through them.
+-- Pages, kinds and segments, as the code goes through them.
 -- Assumes nothing.
 use mathlib.Core.Path.{_≡_, refl, sym, ap, _∙_}
 use mathlib.Core.List.{List, [], _∷_, _++_}
 use Prim.Native.Nat.{ℕ, zero, suc, _+_, _-_, _*_, _/_, _^_, _≤_, _<_, min}
 use native.Mathlib.Omega.{arith}
+use native.Mathlib.Numerals.{add-one}
+use lib.ListN.{length, getD, drop, drop-of-length-le}
+use lib.Seq.{drop-cons}
 use borrow.Author.Tests.{eq-eqb, ne-eqb}
 use Rattle.spec.specs.Tests.{ascii}
-use Rattle.spec.specs.Numbers.{uaddrtop, pageUp}
+use Rattle.spec.specs.Numbers.{pageUp}
+use Rattle.spec.specs.Book.{zeroSegment}
 use Rattle.spec.specs.declared.VirtRange.{VirtRange}
 use Rattle.spec.specs.declared.UserSegment.{UserSegment}
 use Rattle.replies.specs.Table.{partText, pageText, firstFrame}
-use Rattle.map_lines.specs.Table.{pagesShown, pageLines, kindLine}
+use Rattle.map_lines.specs.Table.{pagesShown, pageLines, rangeLines, kindLine, segmentsLines, segmentsShown}
 
 -- ---- how many pages
 
@@ -20,10 +24,6 @@ module _ (r : VirtRange) where
 
   pub shown-few : pagesShown r ≤ 2 ^ 35
   shown-few = omega arith
-
-  -- the pages that are shown lie below the top of the address space
-  pub shown-below : (pagesShown r ≡ 0 → ⊥) → pageUp (r .start) + 4096 * pagesShown r ≤ uaddrtop
-  shown-below h = omega arith
 
 -- ---- page by page
 
@@ -49,3 +49,21 @@ module _ (s : UserSegment) where
 
   pub kind-none : (s .perm ≡ 1 → ⊥) → (s .perm ≡ 2 → ⊥) → (s .perm ≡ 3 → ⊥) → kindLine s ≡ []
   kind-none p q r = rw (ne-eqb (s .perm) 1 p, ne-eqb (s .perm) 2 q, ne-eqb (s .perm) 3 r)
+
+-- ---- segment by segment
+
+module _ (ss : List UserSegment) (i : ℕ) where
+  abbrev pub here : UserSegment
+  here = getD ss i zeroSegment
+
+  pub segments-next : (book : List ℕ) (number : ℕ) → i < length ss → segmentsLines book number (drop i ss) ≡ (kindLine here ++ rangeLines book number (here .range)) ++ segmentsLines book number (drop (i + 1) ss)
+  segments-next book number h = rw (add-one i, drop-cons ss i zeroSegment h)
+
+  pub segments-last : (book : List ℕ) (number : ℕ) → length ss ≤ i → segmentsLines book number (drop i ss) ≡ []
+  segments-last book number h = rw drop-of-length-le
+
+  pub shown-next : i < length ss → segmentsShown (drop i ss) ≡ pagesShown (here .range) + segmentsShown (drop (i + 1) ss)
+  shown-next h = rw (add-one i, drop-cons ss i zeroSegment h)
+
+  pub shown-last : length ss ≤ i → segmentsShown (drop i ss) ≡ 0
+  shown-last h = rw drop-of-length-le
