@@ -15,7 +15,7 @@ use Rattle.map_lines.specs.declared.room.Room.the-variants.{At, Full}
 use Rattle.map_lines.specs.Filled.{most, Holds, Adds}
 
 -- a text's length is the place behind it
-said-length : {t d : List ℕ} {n : ℕ} → Says t d n → length t ≡ n
+pub said-length : {t d : List ℕ} {n : ℕ} → Says t d n → length t ≡ n
 said-length {t} {d} {n} s = ap length (sym (s .bytes)) ∙ length-take-le n d (s .room)
 
 -- a text by another name
@@ -54,6 +54,10 @@ adds-both {s} {t} {a} {b} {c} {d} {e} {f} p q = record { more = λ u h. subst (H
 -- nothing
 pub adds-none : {s : List ℕ} (a : Room) (d : List ℕ) → s ≡ [] → Adds s a d a d
 adds-none {s} a d q = record { more = λ t h. subst (Holds a d) (sym (append-nil t) ∙ ap (λ (x : List ℕ). t ++ x) (sym q)) h }
+
+-- a buffer that held nothing
+pub all-held : {s d e : List ℕ} {a : Room} → Adds s (At 0) d a e → Holds a e s
+all-held p = p .more [] (record { bytes = refl; room = omega arith }, omega arith)
 
 -- ---- a loop over parts: those that are done are added, and rest is left of all
 

@@ -1,2 +1,3 @@
 pub mod Filling
 pub mod Paging
+pub mod Mapping

@@ -56,12 +56,15 @@ tableText book number p =
     nameText number (p .text) ++ segmentsLines book number (p .segments) ++ partText (ascii "bss") (p .bss) ++ rangeLines book number (p .bss)
     ++ fieldText (ascii "  pages ") (segmentsShown (p .segments) + pagesShown (p .bss))
 
--- map NUMBER: 3 and 4 as of a call. A table longer than its buffer is not shown; no calls make such a process, since 131,136 bytes
--- hold some 3,600 pages
+-- a text, unless it is longer than its buffer
+abbrev pub orTooLong : List ℕ → List ℕ
+orTooLong text = length text above most ⇒ ascii "too long\n" else text
+
+-- map NUMBER: 3 and 4 as of a call. No calls make a process whose table is too long: 131,136 bytes hold some 3,600 pages, and there
+-- are at most 1,024 frames
 abbrev pub mapLine : Number → Procs → List ℕ → List ℕ
 mapLine (Is n) procs book =
     not (valid n) ⇒ answerText (Refused 3) else
     not (lives (procAt procs n)) ⇒ answerText (Refused 4) else
-    length (tableText book n (procAt procs n)) above most ⇒ ascii "too long\n" else
-    tableText book n (procAt procs n)
+    orTooLong (tableText book n (procAt procs n))
 mapLine Bad procs book = ascii "bad line\n"
