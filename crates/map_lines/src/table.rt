@@ -31,7 +31,7 @@ fn shown(r: VirtRange) -> u64
     mem::pages(mem::range(start, end))
 }
 
-// The lines of `count` pages from an address on. What is too long already is not looked at further.
+// The lines of `count` pages from an address on. Once the text is too long, no further page is looked for.
 fn pages(book: &[u64], out: &mut [u8], room: Room, number: u64, start: u64, count: u64) -> Room
     requires { ⌜ (start + 4096 * count < 2 ^ 64) × (131136 ≤ length (now out)) ⌝ }
     ensures { λ r. ⌜ Adds (pageLines (now (book .entry)) number start count) room (now (out .entry)) r (now (out .exit)) ⌝ }

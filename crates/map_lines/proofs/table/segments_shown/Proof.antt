@@ -1,6 +1,6 @@
 -- `map_lines::table::segments_shown` meets its contract. The invariant: the pages of the segments before the i-th are counted.
 -- Assumes nothing.
-use mathlib.Core.Path.{_≡_, refl}
+use mathlib.Core.Path.{_≡_}
 use Prim.Native.Nat.{_+_, _-_, _*_, _^_, _≤_}
 use native.Mathlib.Omega.{arith}
 use lib.ListN.{length, drop}
