@@ -1,5 +1,5 @@
 // Replays a script of calls from standard input, one call a line, and answers each line: docs/REPLAY.md has the form. What a line
-// leaves and answers is crate lines' business; here lines are read and answers written.
+// leaves and answers is crate lines' business, and map_lines'; here lines are read and answers written.
 ghost use mathlib.Core.Path.{_≡_};
 ghost use Prim.Native.Nat.{_≤_};
 ghost use lib.ListN.{length};
@@ -7,8 +7,6 @@ ghost use Rattle.lent_lines.specs.Lent.{Lends};
 ghost use Rattle.replay.specs.Rooms.{Within};
 
 mod input;
-mod say;
-mod shown;
 
 use input::Input;
 use lent_lines::World;
@@ -39,7 +37,9 @@ fn answer(
 {
     let kind = script::kind(line);
     if let Line::Map = kind {
-        shown::map(book, w, line);
+        let count = w.count;
+        let n = map_lines::map(&book[..count], out, lent_lines::procs_of(w), line);
+        io::write_all(STDOUT_FILENO, &out[..n]);
         return w;
     }
     let step = lines::answer(frames, book, space, out, w, kind, line);
