@@ -2,11 +2,12 @@
 use Prim.Native.Nat.{ℕ, suc, _+_, _≤_}
 use native.Mathlib.Omega.{arith}
 use mathlib.Core.Path.{_≡_, refl, sym, ap, _∙_}
-use mathlib.Core.Bool.{Bool, _||_, or-assoc}
+use mathlib.Core.Bool.{Bool, _||_}
 use mathlib.Core.List.{List, [], _∷_, _++_}
 use lib.ListN.{length, take, drop, length-append, length-drop, take-append-drop}
 use lib.Seq.{length-take-le, take-length, take-append-le, drop-append-le}
-use Rattle.spec.specs.Tests.{any, has, sum}
+use Rattle.spec.specs.Tests.{_is_, any, has, sum}
+use Rattle.spec.proofs.Lists.{any-append}
 use Rattle.spec.specs.Numbers.{leBytes}
 use Rattle.spec.specs.Exec.{argsOf, strings, pointers}
 use Rattle.args.specs.Sizes.{pointersBy}
@@ -31,16 +32,12 @@ cut-size bytes (n ∷ ns) e =
     omega arith
 
 -- a byte stands in one of them if it stands in the bytes
-has-append : (x : ℕ) (s t : List ℕ) → has x (s ++ t) ≡ (has x s || has x t)
-has-append x [] t = refl
-has-append x (y ∷ s) t = rw (has-append x s t, or-assoc)
-
 pub cut-has : (x : ℕ) (bytes lengths : List ℕ) → sum lengths ≡ length bytes → any (has x) (argsOf bytes lengths) ≡ has x bytes
 cut-has x [] [] e = refl
 cut-has x (b ∷ bytes) [] e = absurd (omega arith)
 cut-has x bytes (n ∷ ns) e =
     ap (λ (b : Bool). has x (take n bytes) || b) (cut-has x (drop n bytes) ns (cut-rest bytes n ns e))
-    ∙ sym (has-append x (take n bytes) (drop n bytes)) ∙ ap (has x) (take-append-drop n bytes)
+    ∙ sym (any-append (λ b. b is x) (take n bytes) (drop n bytes)) ∙ ap (has x) (take-append-drop n bytes)
 
 -- their pointers follow from the lengths alone
 pub cut-pointers : (s : ℕ) (bytes lengths : List ℕ) → sum lengths ≡ length bytes → pointers s (argsOf bytes lengths) ≡ pointersBy s lengths
@@ -49,6 +46,10 @@ cut-pointers s bytes (n ∷ ns) e =
     rw (length-take-le n bytes (omega arith)) (ap (λ (x : List ℕ). leBytes 8 s ++ x) (cut-pointers (s + n + 1) (drop n bytes) ns (cut-rest bytes n ns e)))
 
 -- one argument more
+pub sum-snoc : (ns : List ℕ) (n : ℕ) → sum (ns ++ n ∷ []) ≡ sum ns + n
+sum-snoc [] n = omega arith
+sum-snoc (m ∷ ns) n = omega (arith, sum-snoc ns n)
+
 pub cut-snoc : (bytes b lengths : List ℕ) → sum lengths ≡ length bytes → argsOf (bytes ++ b) (lengths ++ length b ∷ []) ≡ argsOf bytes lengths ++ b ∷ []
 cut-snoc [] b [] e = rw (take-length b)
 cut-snoc (x ∷ bytes) b [] e = absurd (omega arith)

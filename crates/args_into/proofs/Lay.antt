@@ -11,7 +11,7 @@ use Rattle.spec.specs.Frames.{put}
 use Rattle.spec.specs.Exec.{argsOf, strings}
 use Rattle.laws.proofs.Lists.{put-nil, put-one, put-append, put-part, length-put}
 use Rattle.args.specs.Sizes.{pointersBy}
-use Rattle.args.proofs.Scan.{next}
+use Rattle.spec.proofs.Lists.{drop-next}
 
 -- ---- strings
 
@@ -35,7 +35,7 @@ strings-turn bytes lengths d from i h l m =
     let ls : length s ≡ n = length-take-le n (drop from bytes) (omega arith) in
     let la = length-append s (0 ∷ []) in
     let e : from + i + length (s ++ 0 ∷ []) ≡ from + n + (i + 1) = omega arith in
-    rw (k, ← e, next lengths i h, drop-drop n from bytes, ← append-snoc s 0 (strings (argsOf (drop (from + n) bytes) (drop (i + 1) lengths))))
+    rw (k, ← e, drop-next lengths i 0 h, drop-drop n from bytes, ← append-snoc s 0 (strings (argsOf (drop (from + n) bytes) (drop (i + 1) lengths))))
     (put-append d (s ++ 0 ∷ []) (strings (argsOf (drop (from + n) bytes) (drop (i + 1) lengths))) (from + i) m)
 
 pub strings-end : (bytes lengths d : List ℕ) (at i : ℕ) → length lengths ≤ i → put d at (strings (argsOf bytes (drop i lengths))) ≡ d
@@ -67,7 +67,7 @@ pub pointers-turn : (lengths d : List ℕ) (s i : ℕ) → i < length lengths �
 pointers-turn lengths d s i h m =
     let e : 8 * (i + 1) ≡ 8 * i + 8 = omega arith in
     let k : s + (getD lengths i 0 + 1) ≡ s + getD lengths i 0 + 1 = omega arith in
-    rw (e, k, next lengths i h) (put-append d (leBytes 8 s) (pointersBy (s + getD lengths i 0 + 1) (drop (i + 1) lengths)) (8 * i) m)
+    rw (e, k, drop-next lengths i 0 h) (put-append d (leBytes 8 s) (pointersBy (s + getD lengths i 0 + 1) (drop (i + 1) lengths)) (8 * i) m)
 
 pub pointers-end : (lengths d : List ℕ) (s at i : ℕ) → length lengths ≤ i → put d at (pointersBy s (drop i lengths)) ≡ put d at (leBytes 8 0)
 pointers-end lengths d s at i h = rw (drop-of-length-le lengths h)

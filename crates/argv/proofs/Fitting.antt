@@ -1,6 +1,6 @@
 -- Arguments that copy_argv has read have no NUL and are within the limit.
 use Prim.Native.Nat.{ℕ, zero, suc, _+_, _*_}
-use mathlib.Core.Path.{_≡_, refl, sym, subst}
+use mathlib.Core.Path.{_≡_, refl, sym, subst, _∙_}
 use mathlib.Core.Bool.{Bool, true, false}
 use mathlib.Core.List.{List, [], _∷_, _++_}
 use lib.ListN.{length, take}
@@ -9,7 +9,7 @@ use Rattle.spec.specs.Numbers.{argLimit, le}
 use Rattle.spec.specs.Frames.{Mem}
 use Rattle.spec.specs.Access.{userRangeOk, bytesAt, Str, copyStr}
 use Rattle.spec.specs.Exec.{strings, stackSize, argsError, Argv, argBuffer, argvFrom, copyArgv}
-use Rattle.spec.proofs.Bools.{neither}
+use Rattle.spec.proofs.Lists.{any-append}
 use Rattle.copy_arg.proofs.Buffered.{str-no-nul}
 use Rattle.spec.proofs.Args.{args-means}
 use Rattle.argv.proofs.Turned.{turn}
@@ -28,12 +28,10 @@ fits-turn false z w f g before more e h = λ x y. absurd (x refl)
 
 -- ---- one argument more
 
-any-snoc : {A : Type 0} (t : A → Bool) (xs : List A) (y : A) → any t xs ≡ false → t y ≡ false → any t (xs ++ y ∷ []) ≡ false
-any-snoc t [] y e f = rw f
-any-snoc t (x ∷ xs) y e f = let b = neither (t x) (any t xs) e in rw (b .0) (any-snoc t xs y (b .1) f)
-
 error-more : (args : List (List ℕ)) (a : List ℕ) → argsError args ≡ 0 → has 0 a ≡ false → (stackSize (length (strings (args ++ a ∷ []))) (length (args ++ a ∷ [])) above argLimit) ≡ false → argsError (args ++ a ∷ []) ≡ 0
-error-more args a e n l = rw (any-snoc (has 0) args a (args-means args e .0) n, l)
+error-more args a e n l =
+    let none : any (has 0) (args ++ a ∷ []) ≡ false = any-append (has 0) args (a ∷ []) ∙ rw (args-means args e .0, n) in
+    rw (none, l)
 
 -- ---- all of them
 

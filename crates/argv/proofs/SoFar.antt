@@ -1,35 +1,33 @@
 -- The loop of copy_argv: what has been read so far, and how it goes on.
 use Prim.Native.Nat.{ℕ, suc, _+_, _*_, _-_, _/_, _≤_, _<_}
 use native.Mathlib.Omega.{arith}
-use native.Mathlib.Numerals.{add-one}
 use mathlib.Core.Path.{_≡_, refl, sym, ap, ap₂, subst, _∙_}
 use mathlib.Core.List.{List, [], _∷_, _++_}
 use lib.ListN.{length, take, drop, set, length-append, length-set}
-use lib.Seq.{length-take-le, take-at, take-suc-set}
+use lib.Seq.{length-take-le, take-at}
 use Rattle.spec.specs.Tests.{sum}
 use Rattle.spec.specs.Numbers.{argLimit}
 use Rattle.spec.specs.Frames.{Mem, put}
 use Rattle.spec.specs.Access.{Str, copyStr}
 use Rattle.spec.specs.Exec.{argsOf, stackSize, Argv, argBuffer, argvFrom, copyArgv}
 use Rattle.laws.proofs.Lists.{length-put}
+use Rattle.spec.proofs.Lists.{take-set}
 use Rattle.args.specs.Sizes.{saturated}
+use Rattle.args.proofs.Cut.{sum-snoc}
 use Rattle.pointers.specs.declared.Pointer.{Pointer}
 use Rattle.pointers.specs.declared.Pointer.the-variants.{Bad, Null, At}
 use Rattle.pointers.specs.Places.{pointerAt}
 use Rattle.pointers.proofs.Pointing.{pointer-saturated}
 use Rattle.copy_arg.specs.Strings.{stringError, Added, withString}
 use Rattle.copy_arg.proofs.Buffered.{str-length}
-use Rattle.argv.proofs.Turned.{sum-snoc, turn-bad, turn-null, turn-stop, turn-next}
+use Rattle.argv.proofs.Turned.{turn-bad, turn-null, turn-stop, turn-next}
 use Rattle.copy_arg.proofs.Adding.{added-error, added-none, error-none}
 
--- a text behind the bytes so far, and a length behind the lengths
+-- a text behind the bytes so far
 take-put : (d s : List ℕ) (at : ℕ) → at ≤ length d → take (at + length s) (put d at s) ≡ take at d ++ s
 take-put d s at h =
     let l : length (take at d ++ s) ≡ at + length s = length-append (take at d) s ∙ ap (λ (n : ℕ). n + length s) (length-take-le at d h) in
     take-at (take at d ++ s) (drop (at + length s) d) (at + length s) l
-
-take-set : (l : List ℕ) (i n : ℕ) → i < length l → take (i + 1) (set l i n) ≡ take i l ++ n ∷ []
-take-set l i n h = rw (add-one i) (take-suc-set l i n h)
 
 -- `used` bytes of `count` arguments are read, they are within the limit, and the definition goes on from them
 pub record SoFar (mem : Mem) (argv : ℕ) (bytes lengths : List ℕ) (used count : ℕ) : Type 0 where

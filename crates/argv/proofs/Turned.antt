@@ -10,7 +10,7 @@ use Rattle.spec.specs.Numbers.{argLimit, le}
 use Rattle.spec.specs.Frames.{Mem}
 use Rattle.spec.specs.Access.{userRangeOk, bytesAt, Str, copyStr}
 use Rattle.spec.specs.Exec.{argsOf, strings, stackSize, Argv, argBuffer, argvFrom}
-use Rattle.args.proofs.Cut.{cut-count, cut-size, cut-snoc}
+use Rattle.args.proofs.Cut.{cut-count, cut-size, sum-snoc, cut-snoc}
 use Rattle.pointers.specs.declared.Pointer.the-variants.{Bad, Null, At}
 use Rattle.pointers.specs.Places.{pointerAt}
 use Rattle.pointers.proofs.Pointing.{was-bad, was-null, was-string}
@@ -42,11 +42,6 @@ turn-goes true true g before more h = absurd (omega arith)
 turn-goes true false true before more h = absurd (omega arith)
 turn-goes true false false before more h = refl
 turn-goes false f g before more h = absurd (omega arith)
-
--- one length more
-pub sum-snoc : (ns : List ℕ) (n : ℕ) → sum (ns ++ n ∷ []) ≡ sum ns + n
-sum-snoc [] n = omega arith
-sum-snoc (m ∷ ns) n = ap (λ (k : ℕ). m + k) (sum-snoc ns n) ∙ omega arith
 
 -- after arguments that are bytes and lengths
 module _ (mem : Mem) (argv turns : ℕ) (bytes lengths : List ℕ) (fit : sum lengths ≡ length bytes) where

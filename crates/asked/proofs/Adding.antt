@@ -1,30 +1,27 @@
 -- One argument more.
 -- Assumes nothing.
-use mathlib.Core.Path.{_≡_, refl, sym, ap, ap₂, _∙_}
-use mathlib.Core.Bool.{Bool, true, false, _||_}
+use mathlib.Core.Path.{_≡_, sym, ap, ap₂, _∙_}
+use mathlib.Core.Bool.{Bool, true, false, _||_, or-false}
 use mathlib.Core.List.{List, [], _∷_, _++_}
-use Prim.Native.Nat.{ℕ, suc, _+_, _-_, _≤_, _<_}
-use native.Mathlib.Numerals.{add-one}
+use Prim.Native.Nat.{ℕ, _+_, _-_, _≤_, _<_}
 use native.Mathlib.Omega.{arith}
 use lib.Dec.{eqb, ltb}
 use lib.ListN.{length, take, set, length-append}
-use lib.Seq.{take-suc-set, length-take-le, take-append-add, take-append-le}
+use lib.Seq.{length-take-le, take-append-add, take-append-le}
 use borrow.Author.Tests.{eqb-true, eqb-false, ltb-true, ltb-false}
 use borrow.Rule.Slice.PartMut.{putMid, postOf}
 use Rattle.spec.specs.Tests.{any, has, sum}
 use Rattle.spec.specs.Numbers.{argLimit}
 use Rattle.spec.specs.Exec.{argsOf, strings, stackSize}
 use Rattle.spec.proofs.Bools.{split, neither, or-fact}
-use Rattle.args.proofs.Cut.{cut-count, cut-size, cut-snoc}
+use Rattle.spec.proofs.Lists.{take-set, any-append}
+use Rattle.spec.proofs.Args.{strings-more}
+use Rattle.args.proofs.Cut.{cut-count, cut-size, sum-snoc, cut-snoc}
 use Rattle.asked.specs.declared.arguments.Args.{Args}
 use Rattle.asked.specs.Fitting.{Fits, Keeps}
 
-sum-more : (xs : List ℕ) (n : ℕ) → sum (xs ++ n ∷ []) ≡ sum xs + n
-sum-more [] n = omega arith
-sum-more (x ∷ xs) n = omega (arith, sum-more xs n)
-
 pub sum-set : (l : List ℕ) (i n : ℕ) → i < length l → sum (take (i + 1) (set l i n)) ≡ sum (take i l) + n
-sum-set l i n h = rw (add-one i, take-suc-set l i n h) (sum-more (take i l) n)
+sum-set l i n h = rw (take-set l i n h) (sum-snoc (take i l) n)
 
 -- there is room
 pub room : (over : Bool) (count most left size : ℕ) → ((over || eqb count most) || ltb left size) ≡ false → count ≤ most → (over ≡ false) × (count < most) × (size ≤ left)
@@ -36,22 +33,8 @@ room over count most left size t h =
 
 -- ---- arguments behind others
 
-or-last : (a b : Bool) → (a || (b || false)) ≡ (a || b)
-or-last true b = refl
-or-last false true = refl
-or-last false false = refl
-
-or-assoc : (a b c : Bool) → (a || (b || c)) ≡ ((a || b) || c)
-or-assoc true b c = refl
-or-assoc false b c = refl
-
 any-more : (args : List (List ℕ)) (b : List ℕ) → any (has 0) (args ++ b ∷ []) ≡ (any (has 0) args || has 0 b)
-any-more [] b = or-last false (has 0 b)
-any-more (a ∷ args) b = ap (λ (t : Bool). has 0 a || t) (any-more args b) ∙ or-assoc (has 0 a) (any (has 0) args) (has 0 b)
-
-strings-more : (args : List (List ℕ)) (b : List ℕ) → length (strings (args ++ b ∷ [])) ≡ length (strings args) + length b + 1
-strings-more [] b = omega (arith, length-append b (0 ∷ []))
-strings-more (a ∷ args) b = omega (arith, strings-more args b, length-append a (0 ∷ strings args), length-append a (0 ∷ strings (args ++ b ∷ [])))
+any-more args b = any-append (has 0) args (b ∷ []) ∙ ap (λ (t : Bool). any (has 0) args || t) (or-false (has 0 b))
 
 module _ (a : Args) (bytes lengths b : List ℕ) (args : List (List ℕ)) (f : Fits a bytes lengths) (k : Keeps a bytes lengths args) where
   fitting : sum (take (a .count) lengths) ≡ length (take (a .size) bytes)
@@ -88,7 +71,7 @@ module _ (a : Args) (bytes lengths b : List ℕ) (args : List (List ℕ)) (f : F
   pub whole-more : (d : List ℕ) (n : ℕ) → n ≡ length b → take (a .size + n) d ≡ take (a .size) bytes ++ b → a .count < length lengths → a .over ≡ false
       → argsOf (take (a .size + n) d) (take (a .count + 1) (set lengths (a .count) n)) ≡ args ++ b ∷ []
   whole-more d n e t h o =
-      ap₂ argsOf t (ap (λ (i : ℕ). take i (set lengths (a .count) n)) (add-one (a .count)) ∙ take-suc-set lengths (a .count) n h ∙ ap (λ (i : ℕ). take (a .count) lengths ++ i ∷ []) e)
+      ap₂ argsOf t (take-set lengths (a .count) n h ∙ ap (λ (i : ℕ). take (a .count) lengths ++ i ∷ []) e)
       ∙ cut-snoc (take (a .size) bytes) b (take (a .count) lengths) fitting ∙ ap (λ (x : List (List ℕ)). x ++ b ∷ []) (k .whole o)
 
 -- bytes put behind the first

@@ -1,16 +1,15 @@
 -- What words gave, one behind the other.
 -- Assumes nothing.
 use mathlib.Core.Path.{_≡_, refl, sym, ap, subst, _∙_}
-use mathlib.Core.Bool.{Bool, true, false}
+use mathlib.Core.Bool.{true}
 use mathlib.Core.Option.{Option, none, some}
 use mathlib.Core.List.{List, [], _∷_, _++_, append-nil, append-assoc}
-use Prim.Native.Nat.{ℕ, zero, suc, _+_, _-_, _≤_, _<_}
-use native.Mathlib.Numerals.{add-one}
+use Prim.Native.Nat.{ℕ, suc, _+_, _-_, _≤_, _<_}
 use native.Mathlib.Omega.{arith}
-use lib.Dec.{eqb}
 use lib.ListN.{length, take, drop, set, length-drop}
-use lib.Seq.{take-all, take-append-le, take-suc-set, length-take-le}
-use Rattle.spec.proofs.Bools.{split}
+use lib.Seq.{take-all, take-append-le, length-take-le}
+use Rattle.spec.proofs.Lists.{take-set}
+use Rattle.script.proofs.Splits.{until-short}
 use Rattle.script.specs.Words.{headOf, tailOf, afterOf, spacesOf, decimalOf}
 use Rattle.script.specs.Bytes.{formOf}
 use Rattle.script.specs.declared.bytes.Form.the-variants.{File}
@@ -77,8 +76,7 @@ so-far-all {words} s =
 
 -- a word is no longer than its line
 pub head-short : (line : List ℕ) → length (headOf line) ≤ length line
-head-short [] = omega arith
-head-short (b ∷ line) = split (eqb b 32) (λ q. rw q (omega arith)) (λ q. rw q (omega (arith, head-short line)))
+head-short line = until-short 32 line
 
 pub word-at-short : (line : List ℕ) (at : ℕ) {w : List ℕ} → w ≡ headOf (drop at line) → length w ≤ length line
 word-at-short line at {w} e = rw e (omega (arith, head-short (drop at line), length-drop at line))
@@ -166,4 +164,4 @@ no-room n x d zs e =
 
 pub one-room : (m n x : ℕ) (d zs : List ℕ) → n < length d → take m (take (n + 1) (set d n x) ++ zs) ≡ take m (take n d ++ x ∷ zs)
 one-room m n x d zs h =
-    ap (λ (t : List ℕ). take m (t ++ zs)) (ap (λ (k : ℕ). take k (set d n x)) (add-one n) ∙ take-suc-set d n x h) ∙ ap (take m) (append-assoc (take n d) (x ∷ []) zs)
+    ap (λ (t : List ℕ). take m (t ++ zs)) (take-set d n x h) ∙ ap (take m) (append-assoc (take n d) (x ∷ []) zs)

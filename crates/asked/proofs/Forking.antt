@@ -1,18 +1,15 @@
 -- Fork with a lent list: what it answers.
 -- Assumes nothing.
-use mathlib.Core.Path.{_≡_, refl, sym, ap, ap₂, _∙_}
+use mathlib.Core.Path.{_≡_, sym, ap}
 use mathlib.Core.Bool.{Bool, true, false, not, _&&_, _||_}
-use mathlib.Core.List.{List, [], _∷_}
+use mathlib.Core.List.{List}
 use Prim.Native.Nat.{ℕ}
-use native.Mathlib.Omega.{arith}
 use Rattle.spec.specs.Tests.{same, _⇒_else_}
-use Rattle.spec.specs.Book.{valid, free, sameSegment, used, procAt}
+use Rattle.spec.specs.Book.{valid, sameSegment, used, procAt}
 use Rattle.spec.specs.Frames.{sized}
-use Rattle.spec.specs.Machine.{Ask, fork, Reply, refuse, judge, weigh}
-use Rattle.spec.specs.World.{State, sound, taken, view, answer, Does}
+use Rattle.spec.specs.Machine.{Ask, fork, Reply, refuse, judge}
+use Rattle.spec.specs.World.{State, sound, answer, Does}
 use Rattle.spec.specs.declared.UserSegment.{UserSegment}
-use Rattle.spec.proofs.Bools.{both}
-use Rattle.laws.proofs.Record.{same-is}
 use Rattle.front.specs.Numbers.{call, numberError}
 use Rattle.front.proofs.First.{Passed, number-none}
 use Rattle.front.proofs.Answers.{does-refused}
@@ -40,10 +37,3 @@ module _ (s : State) (n child : ℕ) (gs : List UserSegment) where
 
     pub list-unlike : numberError s n true ≡ 0 → Does s (call n (fork child gs)) s (refuse 2 (fork child gs))
     list-unlike z = does-refused s n (fork child gs) 2 (judged (number-none s n true z))
-
--- a list that is like another is the other
-pub like-is : (gs hs : List UserSegment) → same sameSegment gs hs ≡ true → gs ≡ hs
-like-is [] [] e = refl
-like-is [] (h ∷ hs) e = let z : _≡_ {A = ℕ} 0 1 = cc in absurd (omega arith)
-like-is (g ∷ gs) [] e = let z : _≡_ {A = ℕ} 0 1 = cc in absurd (omega arith)
-like-is (g ∷ gs) (h ∷ hs) e = let t = both (sameSegment g h) (same sameSegment gs hs) e in ap₂ (λ (x : UserSegment) (xs : List UserSegment). x ∷ xs) (same-is g h (t .0)) (like-is gs hs (t .1))

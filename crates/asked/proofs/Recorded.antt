@@ -3,17 +3,16 @@
 use mathlib.Core.Path.{_≡_, refl, sym, ap, _∙_}
 use mathlib.Core.Bool.{Bool, true, false, not}
 use mathlib.Core.List.{List, [], _∷_}
-use Prim.Native.Nat.{ℕ, suc, _+_, _*_, _/_, _≤_, _<_}
-use native.Mathlib.Numerals.{add-one}
+use Prim.Native.Nat.{ℕ, _+_, _*_, _/_, _≤_, _<_}
 use native.Mathlib.Omega.{arith}
 use lib.Dec.{eqb}
 use lib.ListN.{length, getD, drop, length-drop, drop-of-length-le}
-use lib.Seq.{drop-cons}
 use borrow.Author.Tests.{eqb-true, eqb-false}
 use Rattle.spec.specs.Tests.{same, _⇒_else_}
 use Rattle.spec.specs.Book.{segment, zeroSegment, sameSegment, unused, used}
 use Rattle.spec.specs.declared.UserSegment.{UserSegment}
 use Rattle.spec.proofs.Bools.{split, not-true, un-not}
+use Rattle.spec.proofs.Lists.{drop-next}
 use Rattle.asked.specs.Lists.{listOf}
 
 -- fewer than three numbers are no segment
@@ -35,12 +34,10 @@ module _ (ns : List ℕ) (gs : List UserSegment) (i : ℕ) where
   -- the list has a segment more
   more : i < length ns / 3 → listOf (drop (3 * i) ns) ≡ at ns i ∷ listOf (drop (3 * (i + 1)) ns)
   more h =
-      let e : 3 * (i + 1) ≡ suc (3 * i + 2) = omega arith in
-      ap listOf (drop-cons ns (3 * i) 0 (omega arith) ∙ ap (λ (l : List ℕ). getD ns (3 * i) 0 ∷ l) (ap (λ (k : ℕ). drop k ns) (sym (add-one (3 * i))) ∙ drop-cons ns (3 * i + 1) 0 (omega arith)
-      ∙ ap (λ (l : List ℕ). getD ns (3 * i + 1) 0 ∷ l) (ap (λ (k : ℕ). drop k ns) (two (3 * i)) ∙ drop-cons ns (3 * i + 2) 0 (omega arith) ∙ ap (λ (k : ℕ). getD ns (3 * i + 2) 0 ∷ drop k ns) (sym e))))
-    where
-      two : (k : ℕ) → suc (k + 1) ≡ k + 2
-      two k = omega arith
+      let t : 3 * i + 1 + 1 ≡ 3 * i + 2 = omega arith in
+      let e : 3 * (i + 1) ≡ 3 * i + 2 + 1 = omega arith in
+      ap listOf (drop-next ns (3 * i) 0 (omega arith) ∙ ap (λ (l : List ℕ). getD ns (3 * i) 0 ∷ l) (drop-next ns (3 * i + 1) 0 (omega arith)
+      ∙ ap (λ (l : List ℕ). getD ns (3 * i + 1) 0 ∷ l) (ap (λ (k : ℕ). drop k ns) t ∙ drop-next ns (3 * i + 2) 0 (omega arith) ∙ ap (λ (k : ℕ). getD ns (3 * i + 2) 0 ∷ drop k ns) (sym e))))
 
   less : i ≡ length ns / 3 → listOf (drop (3 * i) ns) ≡ []
   less e = none (drop (3 * i) ns) (omega (arith, length-drop (3 * i) ns))
@@ -48,7 +45,7 @@ module _ (ns : List ℕ) (gs : List UserSegment) (i : ℕ) where
   -- the record has a place more
   module _ (h : i < length gs) where
     place : drop i gs ≡ getD gs i zeroSegment ∷ drop (i + 1) gs
-    place = rw (add-one i) (drop-cons gs i zeroSegment h)
+    place = drop-next gs i zeroSegment h
 
     pub list-ends : i ≡ length ns / 3 → unused (getD gs i zeroSegment) ≡ rest
     list-ends e = rw (less e, place) (ends (unused (getD gs i zeroSegment)) (getD gs i zeroSegment) (used (drop (i + 1) gs)))

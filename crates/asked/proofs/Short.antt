@@ -1,18 +1,19 @@
 -- Of a name's last element 28 bytes are enough.
 -- Assumes nothing.
 use mathlib.Core.Path.{_≡_, refl, sym, ap, ap₂, _∙_}
-use mathlib.Core.Bool.{Bool, true, false, _||_}
+use mathlib.Core.Bool.{false}
 use mathlib.Core.List.{List, [], _∷_, _++_}
 use Prim.Native.Nat.{ℕ, zero, suc, _≤_, _<_, min}
-use native.Mathlib.Nat.{min-eq-left, min-eq-right, le-of-suc-le-suc, not-suc-le-zero}
+use native.Mathlib.Nat.{min-eq-left, min-eq-right}
 use native.Mathlib.Omega.{arith}
 use lib.Dec.{eqb, ltb}
-use lib.ListN.{length, take, getD}
-use lib.Seq.{take-all, length-take-le, getD-take}
+use lib.ListN.{length, take}
+use lib.Seq.{take-all, take-take, length-take-le, getD-take}
 use borrow.Author.Tests.{ltb-true, ltb-false, le-ltb}
 use Rattle.spec.specs.Tests.{_is_, within, has, ascii, _⇒_else_}
 use Rattle.spec.specs.Name.{elem, cut, padded, kstrcpy}
 use Rattle.spec.proofs.Bools.{split, neither}
+use Rattle.laws.proofs.Started.{cut-low}
 use Rattle.kstr.proofs.Names.{elem-whole}
 
 -- a last element has no `/`
@@ -29,17 +30,7 @@ has-take x zero xs h = refl
 has-take x (suc n) [] h = refl
 has-take x (suc n) (y ∷ xs) h = let t = neither (eqb y x) (has x xs) h in rw (t .0, has-take x n xs (t .1))
 
-take-take : (n m : ℕ) (xs : List ℕ) → n ≤ m → take n (take m xs) ≡ take n xs
-take-take zero m xs h = refl
-take-take (suc n) zero xs h = absurd (not-suc-le-zero h)
-take-take (suc n) (suc m) [] h = refl
-take-take (suc n) (suc m) (x ∷ xs) h = ap (λ (l : List ℕ). x ∷ l) (take-take n m xs (le-of-suc-le-suc h))
-
--- the place to cut at lies within, and is the same
-cut-most : (s : List ℕ) (n : ℕ) → cut s n ≤ n
-cut-most s zero = omega arith
-cut-most s (suc n) = split (within 128 192 (getD s (suc n) 0)) (λ q. rw q (omega (arith, cut-most s n))) (λ q. rw q (omega arith))
-
+-- the place to cut at is the same
 cut-same : (s : List ℕ) (m n : ℕ) → n < m → cut (take m s) n ≡ cut s n
 cut-same s m zero h = refl
 cut-same s m (suc n) h =
@@ -51,17 +42,17 @@ short-same e =
     (λ q. let h = ltb-true (length e) 28 q in ap kstrcpy (take-all 28 e (omega arith)))
     (λ q. let h = ltb-false (length e) 28 q in
     let t : ltb (length (take 28 e)) 28 ≡ false = le-ltb (length (take 28 e)) 28 (omega (arith, length-take-le 28 e h)) in
-    rw (t, q) (ap (λ (l : List ℕ). padded (l ++ ascii "...")) (ap (λ (k : ℕ). take k (take 28 e)) (cut-same e 28 24 (omega arith)) ∙ take-take (cut e 24) 28 e (omega (arith, cut-most e 24)))))
+    rw (t, q) (ap (λ (l : List ℕ). padded (l ++ ascii "...")) (ap (λ (k : ℕ). take k (take 28 e)) (cut-same e 28 24 (omega arith)) ∙ take-take (cut e 24) 28 e (omega (arith, cut-low e 24)))))
 
--- as many as there are, up to 28
-take-min : (e : List ℕ) → take (min (length e) 28) e ≡ take 28 e
-take-min e =
-    split (ltb (length e) 28)
-    (λ q. let h = ltb-true (length e) 28 q in let l : length e ≤ 28 = omega arith in rw (min-eq-left l) (take-all (length e) e (omega arith) ∙ sym (take-all 28 e (omega arith))))
-    (λ q. let h = ltb-false (length e) 28 q in rw (min-eq-right h))
+-- as many as there are, up to k
+pub take-min : (e : List ℕ) (k : ℕ) → take (min (length e) k) e ≡ take k e
+take-min e k =
+    split (ltb (length e) k)
+    (λ q. let h = ltb-true (length e) k q in let l : length e ≤ k = omega arith in rw (min-eq-left l) (take-all (length e) e (omega arith) ∙ sym (take-all k e l)))
+    (λ q. let h = ltb-false (length e) k q in rw (min-eq-right h))
 
 pub short-name : (name e d : List ℕ) (r : ℕ) → e ≡ elem name → r ≡ min (length e) 28 → take r d ≡ take r e → kstrcpy (elem (take r d)) ≡ kstrcpy (elem name)
 short-name name e d r p q t =
-    let all : take r d ≡ take 28 e = t ∙ ap (λ (k : ℕ). take k e) q ∙ take-min e in
+    let all : take r d ≡ take 28 e = t ∙ ap (λ (k : ℕ). take k e) q ∙ take-min e 28 in
     let none : has 47 e ≡ false = rw p (elem-none name) in
     ap (λ (l : List ℕ). kstrcpy (elem l)) all ∙ ap kstrcpy (sym (elem-whole (take 28 e) (has-take 47 28 e none))) ∙ short-same e ∙ ap kstrcpy p

@@ -2,18 +2,19 @@
 use Prim.Native.Nat.{ℕ, suc, _+_, _-_, _/_, _%_, _≤_, _<_}
 use native.Mathlib.Omega.{arith}
 use native.Mathlib.Numerals.{add-one}
-use mathlib.Core.Path.{_≡_, refl, ap, _∙_}
+use mathlib.Core.Path.{_≡_, refl, sym, ap, _∙_}
 use mathlib.Core.Bool.{Bool, true, false}
 use mathlib.Core.Option.{Option, none, some}
 use mathlib.Core.List.{List}
 use lib.ListN.{length, getD, drop, drop-of-length-le}
 use lib.Seq.{drop-cons}
 use borrow.Author.Tests.{eq-eqb, ne-eqb}
-use Rattle.spec.specs.Book.{highest, owns, free}
+use Rattle.spec.specs.Book.{highest, owns, frameOf, free}
+use Rattle.spec.specs.declared.Found.{Found}
 use Rattle.spec.specs.declared.Found.the-variants.{At, Nothing}
 use Rattle.book.specs.Lent.{foundOf}
 use Rattle.spec.proofs.Bools.{split}
-use Rattle.laws.proofs.Frame.{owns-means, owns-test}
+use Rattle.laws.proofs.Frame.{owns-means, owns-test, frame-found}
 
 -- ---- free frames
 
@@ -47,6 +48,18 @@ found-at (some j) k e = cc
 pub found-none : (o : Option ℕ) → Nothing ≡ foundOf o → o ≡ none
 found-none none e = refl
 found-none (some j) e = absurd (let z : _≡_ {A = ℕ} 0 1 = cc in omega arith)
+
+-- a page's frame lies in the book, and is used
+pub record Framed (book : List ℕ) (n page k : ℕ) : Type 0 where
+  pub is : frameOf book n page ≡ some k
+  pub there : k < length book
+  pub used : getD book k 0 ≡ 0 → ⊥
+
+pub page-found : (book : List ℕ) (n page k : ℕ) (r : Found) → r ≡ foundOf (frameOf book n page) → r ≡ At k → Framed book n page k
+page-found book n page k r e f =
+    let g = found-at (frameOf book n page) k (sym f ∙ e) in
+    let h = frame-found book n page k g in
+    record { is = g; there = h .0; used = h .1 .used }
 
 -- ---- a word without its permission is owner and page
 

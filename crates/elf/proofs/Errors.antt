@@ -1,12 +1,10 @@
--- No refusal has the number 0; of two numbers the first that is not 0.
+-- No refusal has the number 0.
 -- Assumes nothing.
-use mathlib.Core.Path.{_≡_, refl, _∙_}
-use Prim.Native.Nat.{ℕ}
-use lib.Dec.{eqb}
-use borrow.Author.Tests.{eqb-false, ne-eqb}
-use Rattle.spec.specs.Tests.{_is_, _orElse_}
+use mathlib.Core.Path.{_≡_, refl}
+use borrow.Author.Tests.{eqb-false}
+use Rattle.spec.specs.Tests.{_is_}
 use Rattle.spec.specs.Elf.{errorNumber}
-use mathlib.Core.Bool.{Bool, false}
+use mathlib.Core.Bool.{false}
 use Rattle.spec.specs.declared.ElfError.{ElfError}
 use Rattle.spec.specs.declared.ElfError.the-variants.{Truncated, BadMagic, NotElf64, NotLittleEndian, BadVersion, NotExecutable, NotAarch64, BadPhentsize, MisalignedEntry, PhdrsOutOfRange, FileszOverMemsz, SegmentOutOfRange, Misaligned, Overflow, BadFlags, Unordered, EntryNotInText}
 
@@ -31,10 +29,3 @@ numbered EntryNotInText = refl
 
 pub not-zero : (e : ElfError) → errorNumber e ≡ 0 → ⊥
 not-zero e = eqb-false (errorNumber e) 0 (numbered e)
-
--- a number that is not 0 stands before the next, and 0 gives way to it
-pub first : (a b n : ℕ) → n ≡ a → (n ≡ 0 → ⊥) → n ≡ (a orElse b)
-first a b n e nz = rw (ne-eqb a 0 (λ z. nz (e ∙ z))) e
-
-pub next : (a b n : ℕ) → 0 ≡ a → n ≡ b → n ≡ (a orElse b)
-next a b n e f = rw (← e) f

@@ -16,11 +16,11 @@ use Rattle.spec.specs.Exec.{layoutOk, bssOf, imageSegments, imageBss, imageErro
 use Rattle.spec.specs.declared.VirtRange.{VirtRange}
 use Rattle.spec.specs.declared.UserSegment.{UserSegment}
 use Rattle.laws.proofs.Accepted.{accepted-means, recorded-all}
-use Rattle.laws.proofs.Pieces.{count-append}
 use Rattle.laws.proofs.Headers.{AllLoad, elf-loads}
 use Rattle.spec.proofs.Bools.{split}
+use Rattle.spec.proofs.Free.{count-append}
 use Rattle.recorded.specs.Pages.{recorded}
-use Rattle.exec.specs.Plan.{refusedPlan, planOf}
+use Rattle.exec.specs.Plan.{refusedPlan, acceptedPlan, planOf}
 use Rattle.exec.specs.declared.Plan.{Plan}
 
 module _ (image : List ℕ) where
@@ -38,16 +38,7 @@ module _ (image : List ℕ) where
   unfolding planOf
   plan-many e l m = rw (e, l, lt-ltb 15 (length (imageSegments image)) m)
 
-  pub plan-yes : elfError image ≡ 0 → layoutOk (segmentsOf image) ≡ true → length (imageSegments image) ≤ 15
-      → planOf image ≡ record {
-        number = 0;
-        elf = 0;
-        entry = entry image;
-        segments = imageSegments image ++ stack ∷ replicate (15 - length (imageSegments image)) zeroSegment;
-        count = length (imageSegments image);
-        bss = imageBss image;
-        pages = pageCount (startPieces image);
-      }
+  pub plan-yes : elfError image ≡ 0 → layoutOk (segmentsOf image) ≡ true → length (imageSegments image) ≤ 15 → planOf image ≡ acceptedPlan image
   unfolding planOf
   plan-yes e l m = rw (e, l, le-ltb 15 (length (imageSegments image)) m)
 
@@ -101,14 +92,5 @@ module _ (image : List ℕ) where
       split (imageError image is 0) (λ q. rw (ap not q) (sym (accepted-means image (eqb-true (imageError image) 0 q) .elf))) (λ q. rw (ap not q))
 
   -- and an accepted image's plan is all that it gives
-  pub plan-accepted : imageError image ≡ 0
-      → planOf image ≡ record {
-        number = 0;
-        elf = 0;
-        entry = entry image;
-        segments = imageSegments image ++ stack ∷ replicate (15 - length (imageSegments image)) zeroSegment;
-        count = length (imageSegments image);
-        bss = imageBss image;
-        pages = pageCount (startPieces image);
-      }
+  pub plan-accepted : imageError image ≡ 0 → planOf image ≡ acceptedPlan image
   plan-accepted e = let a = accepted-means image e in plan-yes image (a .elf) (a .layout) (a .few)

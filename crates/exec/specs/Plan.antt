@@ -14,16 +14,18 @@ use Rattle.exec.specs.declared.Plan.{Plan}
 abbrev pub refusedPlan : ℕ → ℕ → Plan
 refusedPlan number elf = record { number = number; elf = elf; entry = 0; segments = replicate 16 zeroSegment; count = 0; bss = range 0 0; pages = 0 }
 
+-- an accepted image answers its entry point, segments, bss and pages
+abbrev pub acceptedPlan : List ℕ → Plan
+acceptedPlan image = record {
+  number = 0;
+  elf = 0;
+  entry = entry image;
+  segments = imageSegments image ++ stack ∷ replicate (15 - length (imageSegments image)) zeroSegment;
+  count = length (imageSegments image);
+  bss = imageBss image;
+  pages = pageCount (startPieces image);
+}
+
 -- what a start needs of an image
 unfoldable pub planOf : List ℕ → Plan
-planOf image =
-    imageError image isnt 0 ⇒ refusedPlan (imageError image) (elfError image) else
-    record {
-      number = 0;
-      elf = 0;
-      entry = entry image;
-      segments = imageSegments image ++ stack ∷ replicate (15 - length (imageSegments image)) zeroSegment;
-      count = length (imageSegments image);
-      bss = imageBss image;
-      pages = pageCount (startPieces image);
-    }
+planOf image = imageError image isnt 0 ⇒ refusedPlan (imageError image) (elfError image) else acceptedPlan image

@@ -10,10 +10,7 @@ use lib.Seq.{ext-getD}
 use lib.ListN.{length, getD}
 use borrow.Author.Tests.{eq-eqb, ne-eqb}
 use Rattle.spec.specs.Tests.{same, _is_}
-
-same-refl : (xs : List ℕ) → same _is_ xs xs ≡ true
-same-refl [] = refl
-same-refl (x ∷ xs) = rw (eq-eqb x x refl) (same-refl xs)
+use Rattle.spec.proofs.Lists.{same-self}
 
 pub differs : (xs ys : List ℕ) (i : ℕ) → i < length ys → (getD xs i 0 ≡ getD ys i 0 → ⊥) → same _is_ xs ys ≡ false
 differs xs [] i h n = absurd (not-suc-le-zero h)
@@ -22,4 +19,4 @@ differs (x ∷ xs) (y ∷ ys) zero h n = rw (ne-eqb x y n)
 differs (x ∷ xs) (y ∷ ys) (suc i) h n = rw (differs xs ys i (le-of-suc-le-suc h) n) (and-false (eqb x y))
 
 pub agrees : (xs ys : List ℕ) → length xs ≡ length ys → ((i : ℕ) → i < length xs → getD xs i 0 ≡ getD ys i 0) → same _is_ xs ys ≡ true
-agrees xs ys l h = rw (ext-getD 0 xs ys l h) (same-refl ys)
+agrees xs ys l h = rw (ext-getD 0 xs ys l h) (same-self _is_ (λ x. eq-eqb x x refl) ys)

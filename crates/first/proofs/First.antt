@@ -4,15 +4,14 @@ use native.Mathlib.Omega.{arith}
 use mathlib.Core.Path.{_≡_, refl, sym, ap, _∙_}
 use mathlib.Core.Bool.{Bool, true, false, not, _&&_}
 use mathlib.Core.List.{List}
-use lib.Dec.{eqb}
 use lib.ListN.{length}
 use borrow.Author.Tests.{eqb-true, le-ltb}
-use Rattle.spec.specs.Tests.{_is_, _below_, _⇒_else_, _orElse_}
+use Rattle.spec.specs.Tests.{_is_, _below_, _⇒_else_}
 use Rattle.spec.specs.Book.{valid}
 use Rattle.spec.specs.Frames.{sized}
 use Rattle.spec.specs.World.{State, sound, taken}
 use Rattle.spec.proofs.Bools.{both, clash, not-true, within-means}
-use Rattle.spec.proofs.Chain.{here, past, is-through, isnt-through, not-holds, not-fails}
+use Rattle.spec.proofs.Chain.{here, past, not-holds, not-fails}
 use Rattle.book.specs.Lent.{store}
 use Rattle.laws.proofs.Checks.{or-else}
 use Rattle.first.specs.Numbers.{numberError, plainError, beginError, forkError}
@@ -24,13 +23,6 @@ given b b′ k e h t = here (not b′) k e k (not-holds b b′ h t) refl
 
 pub further : (b b′ : Bool) (k e r : ℕ) → b ≡ b′ → not b ≡ false → r ≡ e → r ≡ (not b′ ⇒ k else e)
 further b b′ k e r h t g = past (not b′) k e r (not-fails b b′ h t) g
-
--- e is what was found first
-pub number-first : (e a b : ℕ) → e ≡ a → (e ≡ 0 → ⊥) → e ≡ (a orElse b)
-number-first e a b h ne = past (eqb a 0) b a e (isnt-through e a 0 h ne) h
-
-pub number-next : (e a b r : ℕ) → e ≡ a → e ≡ 0 → r ≡ b → r ≡ (a orElse b)
-number-next e a b r h z g = here (eqb a 0) b a r (is-through e a 0 h z) g
 
 -- ---- sizes
 

@@ -1,5 +1,5 @@
 -- A fork: the parent's pages, copied piece after piece, are the pages that the specification places.
-use Prim.Native.Nat.{ℕ, zero, suc, _-_, _%_, _^_, _≤_, _<_}
+use Prim.Native.Nat.{ℕ, _-_, _≤_, _<_}
 use native.Mathlib.Omega.{arith}
 use mathlib.Core.Path.{_≡_, refl, sym, ap, subst, _∙_}
 use mathlib.Core.Bool.{true}
@@ -17,18 +17,19 @@ use Rattle.spec.specs.declared.Proc.{Proc}
 use Rattle.spec.specs.declared.Procs.{Procs}
 use Rattle.spec.specs.declared.Answer.the-variants.{Done, Refused}
 use Rattle.spec.proofs.Bools.{split, within-means, within-test}
-use Rattle.laws.proofs.Lists.{Each, each-map, each-append}
-use Rattle.laws.proofs.Frame.{Fits, frame-perm, perm-same}
+use Rattle.laws.proofs.Lists.{Each, each-map, each-append, each-same}
+use Rattle.laws.proofs.Frame.{Fits, frame-perm}
 use Rattle.laws.proofs.Place.{place-append}
 use Rattle.laws.proofs.Pages.{pages-append, pages-same}
 use Rattle.laws.proofs.Placed.{Whole, fits-placed, mem-placed-other}
 use Rattle.laws.proofs.Contents.{length-frame, frame-same}
 use Rattle.laws.proofs.Record as record-laws
 use Rattle.laws.proofs.Facts.{sound-between}
-use Rattle.laws.proofs.Shape.{Image, shape-image}
+use Rattle.laws.proofs.Shape.{each-image, shape-image}
 use Rattle.laws.proofs.Pieces.{Pieces, perm-tail}
 use Rattle.laws.proofs.OwnPieces.{shape-pieces, own-pieces}
 use Rattle.pagealloc.specs.Lent.{Mapped}
+use Rattle.pagealloc.proofs.Copying.{mapped-same}
 use Rattle.fork.specs.Lent.{Copyable}
 
 -- ---- copies so far
@@ -37,7 +38,7 @@ use Rattle.fork.specs.Lent.{Copyable}
 pub mapped-still : (m t : Store) (n low high : ℕ) → memOf t n ≡ memOf m n → Mapped (m .book) n low high → Mapped (t .book) n low high
 mapped-still m t n low high e h page z l u =
     let k = h page z l u in
-    frame-perm (t .book) n page _ (perm-same t m n e page z ∙ ap (permIn (m .book)) (k .1))
+    mapped-same m t n page (k .0) e z (k .1)
 
 -- what has been placed for the child: copies of the pages of gs, while the parent sees what it saw
 pub record Copied (m₀ m : Store) (parent child : ℕ) (gs : List UserSegment) : Type 0 where
@@ -114,10 +115,6 @@ each-small (g ∷ gs) hs p i h = (
   each-small gs hs (p .1) (i .1) (λ a q e. h a q (perm-tail g (gs ++ hs) a q (p .0) e)),
 )
 
-each-image : (end : ℕ) (image : List UserSegment) → Image end image → Each ImageSegment image
-each-image end [] i = tt
-each-image end (g ∷ image) i = (i .0, each-image (g .range .end) image (i .2))
-
 module _ (book : List ℕ) (ps : Procs) (whole : record-laws.Whole ps) (sound : Sound book ps) (n : ℕ) (v : valid n ≡ true) (image : List UserSegment) (shape : Shape (procAt ps n) image) where
   abbrev p : Proc
   p = procAt ps n
@@ -148,15 +145,14 @@ module _ (book : List ℕ) (ps : Procs) (whole : record-laws.Whole ps) (sound : 
       (each-both (λ g. ImageSegment g × (g .perm < 16)) (Found (image ++ ends)) image
       (each-both ImageSegment (λ g. g .perm < 16) image (each-image utzero image (shape-image p image shape)) small) (found .0))
 
-  of-zeros : (k : ℕ) → Each (Copyable book n) (replicate k zeroSegment)
-  of-zeros zero = tt
-  of-zeros (suc k) = (record { start = refl; end = refl; high = omega arith; perm = omega arith; mapped = λ page z l u. absurd (omega arith) }, of-zeros k)
+  of-zero : Copyable book n zeroSegment
+  of-zero = record { start = refl; end = refl; high = omega arith; perm = omega arith; mapped = λ page z l u. absurd (omega arith) }
 
   pub copyable-segments : Each (Copyable book n) (p .segments)
   copyable-segments =
       subst (Each (Copyable book n)) (sym (shape .segments))
       (each-append (Copyable book n) image (stack ∷ replicate (15 - length image) zeroSegment) of-image
-      (record { start = refl; end = refl; high = omega arith; perm = omega arith; mapped = found-mapped stack (found .1 .0) }, of-zeros (15 - length image)))
+      (record { start = refl; end = refl; high = omega arith; perm = omega arith; mapped = found-mapped stack (found .1 .0) }, each-same (Copyable book n) zeroSegment of-zero (15 - length image)))
 
   pub copyable-bss : Copyable book n bss
   copyable-bss = record { start = omega arith; end = shape .bss-end .0; high = omega (arith, shape .bss-end .1); perm = omega arith; mapped = found-mapped bss (found .1 .1 .0) }

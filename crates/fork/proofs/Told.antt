@@ -7,13 +7,10 @@ use lib.ListN.{length, getD}
 use Rattle.spec.specs.Book.{wordOf, frameOf}
 use Rattle.spec.specs.Frames.{Store, Page, hold}
 use Rattle.spec.specs.declared.Found.{Found}
-use Rattle.spec.specs.declared.Found.the-variants.{At}
 use Rattle.spec.proofs.Words.{unpack}
-use Rattle.laws.proofs.Frame.{frame-found}
 use Rattle.laws.proofs.Place.{frame-else}
 use Rattle.sound.specs.Table.{Ready}
 use Rattle.book.specs.Lent.{foundOf}
-use Rattle.book.proofs.Searches.{found-at}
 use Rattle.fork.specs.Lent.{Tells}
 
 pub tells-first : (book tags bases table : List ℕ) (n : ℕ) → Ready book tags bases table → Tells book tags bases table n
@@ -34,10 +31,3 @@ tells-turn t u tags bases table parent child k p low was other small perm al e h
 -- what a look into the lists answers is the frame that the page has now
 pub told-is : (book tags bases table : List ℕ) (n page : ℕ) (r : Found) → Tells book tags bases table n → ((b : List ℕ) → Ready b tags bases table → r ≡ foundOf (frameOf b n page)) → r ≡ foundOf (frameOf book n page)
 told-is book tags bases table n page r h e = e (h .checked) (h .ready) ∙ ap foundOf (sym (h .same page))
-
--- a page that has a frame is told, and its frame is used
-pub told-at : (book : List ℕ) (n page k : ℕ) (r : Found) → r ≡ foundOf (frameOf book n page) → r ≡ At k → (frameOf book n page ≡ some k) × (k < length book) × (getD book k 0 ≡ 0 → ⊥)
-told-at book n page k r e f =
-    let g = found-at (frameOf book n page) k (sym f ∙ e) in
-    let h = frame-found book n page k g in
-    (g, h .0, h .1 .used)

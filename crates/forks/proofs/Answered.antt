@@ -16,9 +16,10 @@ use Rattle.spec.specs.declared.Answer.{Answer}
 use Rattle.spec.specs.declared.Answer.the-variants.{Done, Refused}
 use Rattle.spec.specs.declared.Proc.{Proc}
 use Rattle.spec.proofs.Bools.{split, clash}
+use Rattle.laws.proofs.Checks.{or-else}
 use Rattle.front.specs.Numbers.{call, numberError, forkError}
 use Rattle.front.specs.declared.left.Left.{Left}
-use Rattle.front.proofs.Answers.{orRefuse, refused-first, goes-on}
+use Rattle.front.proofs.Answers.{orRefuse, in-order, refused-first, goes-on}
 use Rattle.front.proofs.First.{fork-none}
 use Rattle.forks.specs.Fork.{recordOf, listError, forkNumber}
 
@@ -56,17 +57,6 @@ chain-is true true true true true true true q x = refl
 chain-is true true true true true true false q x = refl
 chain-is true true true true true false true q x = refl
 chain-is true true true true true false false q x = refl
-
--- a refusal of two numbers in order
-join : (a b : ℕ) (q : Ask) (r : Reply) → orRefuse a q (orRefuse b q r) ≡ orRefuse (a orElse b) q r
-join a b q r = go (eqb a 0) refl
-  where
-    go : (z : Bool) → eqb a 0 ≡ z → (not z ⇒ refuse a q else orRefuse b q r) ≡ orRefuse (z ⇒ b else a) q r
-    go true e = refl
-    go false e = sym (rw e)
-
-first-zero : (a b : ℕ) → (a orElse b) ≡ 0 → a ≡ 0
-first-zero a b h = split (eqb a 0) (λ q. eqb-true a 0 q) (λ q. rw q at h)
 
 list-zero : (a v : Bool) (e : ℕ) → list-of a v e ≡ 0 → (e ≡ 0) × (v ≡ true → a ≡ true)
 list-zero true v e h = (h, λ t. refl)
@@ -114,13 +104,13 @@ module _ (s : State) (n child : ℕ) (gs : List UserSegment) where
   answer-number =
       answer-chain ∙ ap (λ (e : ℕ). orRefuse e asked (weigh (view s n) (free (s .store .book)) asked)) list-either
       ∙ ap (orRefuse (listError s n child alikeOf) asked) (weighed (own (view s n) above free (s .store .book)))
-      ∙ join (listError s n child alikeOf) (own (view s n) above free (s .store .book) ⇒ 33 else 0) asked (plainly Done)
+      ∙ in-order (listError s n child alikeOf) (own (view s n) above free (s .store .book) ⇒ 33 else 0) asked (plainly Done)
 
   -- where there is no number, the list is the record's
   pub number-none : forkNumber s n child alikeOf ≡ 0 → (forkError s n child ≡ 0) × (alikeAt ≡ true)
   unfolding listError forkNumber
   number-none e =
-      let p = list-zero alikeOf (valid n) (forkError s n child) (first-zero (listError s n child alikeOf) _ e) in
+      let p = list-zero alikeOf (valid n) (forkError s n child) (or-else (listError s n child alikeOf) _ e .0) in
       let v = fork-none s n child (p .0) .passed .number in
       let r : recordOf (s .procs) n ≡ procAt (s .procs) n = rw v in
       (p .0, ap (λ (x : Proc). same sameSegment gs (used (x .segments))) (sym r) ∙ p .1 v)

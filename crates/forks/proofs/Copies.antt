@@ -8,9 +8,9 @@ use lib.Seq.{take-all}
 use Rattle.spec.specs.Book.{frameOf, zeroSegment}
 use Rattle.spec.specs.Frames.{Store, pagesOf, place, frameBytes}
 use Rattle.spec.specs.declared.UserSegment.{UserSegment}
+use Rattle.spec.proofs.Lists.{take-next}
 use Rattle.book.specs.Lent.{store}
 use Rattle.pagealloc.specs.Lent.{Passed, Mapped}
-use Rattle.front.proofs.Own.{take-more}
 use Rattle.fork.specs.Lent.{Copyable, Tells}
 use Rattle.fork.proofs.Forked.{mapped-still, Copied, copied-none, copied-more}
 use Rattle.forks.specs.declared.parent.Parent.{Parent}
@@ -87,7 +87,7 @@ module _ (frames₀ book₀ : List ℕ) (parent : Parent) (child : ℕ) (gs : Li
       within = omega (arith, l);
       same-frames = f ∙ s .same-frames;
       same-book = b ∙ s .same-book;
-      copied = subst (Copied m₀ (store frames book) (parent .number) child) (sym (take-more gs (s .i) l))
+      copied = subst (Copied m₀ (store frames book) (parent .number) child) (sym (take-next gs (s .i) zeroSegment l))
           (copied-more m₀ (store (s .frames) (s .book)) (store frames book) (parent .number) child (take (s .i) gs) segment (numbers .0) (numbers .4) (numbers .5) (s .copied) (can (s .i) l) e);
       passed = p;
       tells = t;

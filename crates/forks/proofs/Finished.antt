@@ -1,11 +1,11 @@
 -- A fork that nothing forbids: its list's pages, then the bss's, are the pages that the specification places.
 use Prim.Native.Nat.{ℕ, zero, suc, _+_, _*_, _-_, _^_, _≤_, _<_}
 use native.Mathlib.Omega.{arith}
-use mathlib.Core.Path.{_≡_, refl, sym, ap, ap₂, subst, _∙_}
-use mathlib.Core.Bool.{true, false}
+use mathlib.Core.Path.{_≡_, refl, sym, ap, subst, _∙_}
+use mathlib.Core.Bool.{true}
 use mathlib.Core.List.{List, [], _∷_, _++_}
 use lib.ListN.{length, getD, take}
-use lib.Seq.{take-all}
+use lib.Seq.{take-all, take-suc}
 use Rattle.spec.specs.Tests.{same}
 use Rattle.spec.specs.Numbers.{pageUp}
 use Rattle.spec.specs.Book.{valid, sameSegment, unused, used, zeroSegment, bssSegment, procAt}
@@ -15,7 +15,8 @@ use Rattle.spec.specs.World.{State, setProc, copy}
 use Rattle.spec.specs.declared.UserSegment.{UserSegment}
 use Rattle.spec.specs.declared.Procs.{Procs}
 use Rattle.spec.specs.declared.Answer.the-variants.{Done}
-use Rattle.spec.proofs.Bools.{both, split, clash, within-means}
+use Rattle.spec.proofs.Bools.{split, within-means}
+use Rattle.spec.proofs.Lists.{same-means}
 use Rattle.laws.proofs.Lists.{Each, each-at}
 use Rattle.laws.proofs.Frame.{Fits}
 use Rattle.laws.proofs.Record.{Whole, same-is}
@@ -26,20 +27,12 @@ use Rattle.front.specs.Numbers.{stateOf, forkError}
 use Rattle.front.specs.declared.left.Left.{Left}
 use Rattle.front.proofs.First.{Forks, fork-none, fork-other, sizes-words}
 use Rattle.front.proofs.Living.{passed-sound, living-shape}
-use Rattle.front.proofs.Own.{take-more}
 use Rattle.front.proofs.States.{state-is}
 use Rattle.fork.proofs.Forked.{mapped-still, Copied, copied-none, copied-more, copyable-segments, copyable-bss}
 use Rattle.fork.specs.Lent.{Copyable}
 use Rattle.fork.proofs.Told.{tells-first}
 use Rattle.forks.specs.declared.parent.Parent.{Parent}
 use Rattle.forks.proofs.Copies.{copiesOf, Told, Asked}
-
--- a list that passes the test is the record's
-pub same-means : (gs hs : List UserSegment) → same sameSegment gs hs ≡ true → gs ≡ hs
-same-means [] [] e = refl
-same-means [] (h ∷ hs) e = absurd (clash false e refl)
-same-means (g ∷ gs) [] e = absurd (clash false e refl)
-same-means (g ∷ gs) (h ∷ hs) e = let b = both (sameSegment g h) (same sameSegment gs hs) e in ap₂ _∷_ (same-is g h (b .0)) (same-means gs hs (b .1))
 
 -- what holds of every place holds of the used ones
 each-used : (P : UserSegment → Type 0) (gs : List UserSegment) → Each P gs → Each P (used gs)
@@ -52,10 +45,9 @@ copied-up-to : (m : Store) (number child : ℕ) (gs : List UserSegment) → Fits
 copied-up-to m number child gs fits small other can zero h = (m, copied-none m number child fits)
 copied-up-to m number child gs fits small other can (suc i) h =
     let r = copied-up-to m number child gs fits small other can i (omega (arith, h)) in
-    let s : i + 1 ≡ suc i = omega arith in
     let t = copiesOf (r .0) number child (getD gs i zeroSegment ∷ []) in (
       t,
-      subst (Copied m t number child) (sym (take-more gs i h) ∙ ap (λ (k : ℕ). take k gs) s)
+      subst (Copied m t number child) (sym (take-suc gs i zeroSegment h))
           (copied-more m (r .0) t number child (take i gs) (getD gs i zeroSegment) fits small other (r .1) (can i h) refl),
     )
 
@@ -93,7 +85,7 @@ module _ (frames book : List ℕ) (procs : Procs) (parent : Parent) (child : ℕ
   shape = living-shape state number _ whole (forks .passed) (forks .parent)
 
   list-is : gs ≡ used (procAt procs number .segments)
-  list-is = same-means gs (used (procAt procs number .segments)) alike
+  list-is = same-means sameSegment same-is gs (used (procAt procs number .segments)) alike
 
   pub copy-numbers : Asked frames book parent child
   copy-numbers =

@@ -1,6 +1,6 @@
 -- The number that a fork with a lent list is refused with, as it is found.
 use Prim.Native.Nat.{ℕ, _≤_, _<_}
-use mathlib.Core.Path.{_≡_, refl, sym, _∙_}
+use mathlib.Core.Path.{_≡_, sym, _∙_}
 use mathlib.Core.Bool.{Bool, true, false, not, _&&_}
 use lib.Dec.{eqb}
 use borrow.Author.Tests.{lt-ltb, le-ltb}
@@ -10,16 +10,12 @@ use Rattle.spec.specs.Machine.{own}
 use Rattle.spec.specs.World.{State, view}
 use Rattle.spec.specs.declared.Proc.{Proc}
 use Rattle.spec.specs.declared.Procs.{Procs}
-use Rattle.spec.proofs.Bools.{not-true}
+use Rattle.spec.proofs.Bools.{not-true, un-not}
 use Rattle.front.specs.Numbers.{forkError}
-use Rattle.front.proofs.First.{number-first, number-next}
+use Rattle.spec.proofs.Chain.{number-first, number-next}
 use Rattle.forks.specs.Fork.{recordOf, listError, forkNumber}
 
 -- ---- the record
-
-pub un-not : (b : Bool) → not b ≡ false → b ≡ true
-un-not true e = refl
-un-not false e = sym e
 
 pub record-none : (ps : Procs) (n : ℕ) (v : Bool) → v ≡ valid n → not v ≡ true → zeroProc ≡ recordOf ps n
 record-none ps n v e t = let f : valid n ≡ false = sym e ∙ not-true v t in rw f

@@ -2,7 +2,7 @@
 use Prim.Native.Nat.{ℕ}
 use mathlib.Core.Path.{_≡_, refl, sym, ap, _∙_}
 use mathlib.Core.Bool.{Bool, true, false, not, _&&_, _||_}
-use mathlib.Core.List.{List, [], _∷_}
+use mathlib.Core.List.{List}
 use lib.Dec.{eqb}
 use Rattle.spec.specs.Tests.{_isnt_, _⇒_else_, _orElse_, same}
 use Rattle.spec.specs.Book.{valid, free, sameSegment, used, procAt}
@@ -10,7 +10,8 @@ use Rattle.spec.specs.Frames.{sized}
 use Rattle.spec.specs.Machine.{Ask, start, fork, plain, kind, Reply, outcome, refuse, lengthsFit, judge, weigh}
 use Rattle.spec.specs.World.{State, sound, taken, view, answer, leave, after, Does}
 use Rattle.spec.specs.declared.UserSegment.{UserSegment}
-use Rattle.spec.proofs.Bools.{and-test, or-test}
+use Rattle.spec.proofs.Bools.{or-test}
+use Rattle.spec.proofs.Lists.{same-self}
 use Rattle.spec.proofs.Chain.{here, past, isnt-holds-through, isnt-fails-through}
 use Rattle.spec.proofs.Taken.{refused-keeps}
 use Rattle.laws.proofs.Record.{is-same}
@@ -37,8 +38,8 @@ again false true e q x r h = refl
 again false false e q x r h = refl
 
 -- two numbers in order
-join : (a b : ℕ) (q : Ask) (r : Reply) → orRefuse a q (orRefuse b q r) ≡ orRefuse (a orElse b) q r
-join a b q r = go (eqb a 0) refl
+pub in-order : (a b : ℕ) (q : Ask) (r : Reply) → orRefuse a q (orRefuse b q r) ≡ orRefuse (a orElse b) q r
+in-order a b q r = go (eqb a 0) refl
   where
     go : (z : Bool) → eqb a 0 ≡ z → (not z ⇒ refuse a q else orRefuse b q r) ≡ orRefuse (z ⇒ b else a) q r
     go true e = refl
@@ -53,7 +54,7 @@ answer-plain s n q k =
     again (sized (s .store)) (lengthsFit q) _ q _ x
     (λ f. step (sound s) 2 _ q _ x refl (skip (lengthsFit q) _ (refuse 1 q) f ∙ rw k (step (valid n) 3 0 q _ x refl refl)))
     ∙ ap (orRefuse (numberError s n (lengthsFit q)) q) (step (taken s n) 4 0 q w w refl refl)
-    ∙ join (numberError s n (lengthsFit q)) (not (taken s n) ⇒ 4 else 0) q w
+    ∙ in-order (numberError s n (lengthsFit q)) (not (taken s n) ⇒ 4 else 0) q w
 
 pub answer-start : (s : State) (n : ℕ) (image name bytes lengths : List ℕ)
     → let q : Ask = start image name bytes lengths in
@@ -66,17 +67,12 @@ answer-start s n image name bytes lengths =
     again (sized (s .store)) (lengthsFit q) _ q _ x
     (λ f. step (sound s) 2 _ q _ x refl (skip (lengthsFit q) _ (refuse 1 q) f ∙ step (valid n) 3 0 q _ x refl refl))
     ∙ ap (orRefuse (numberError s n (lengthsFit q)) q) (step (not (taken s n)) 5 0 q w w refl refl)
-    ∙ join (numberError s n (lengthsFit q)) (not (not (taken s n)) ⇒ 5 else 0) q w
+    ∙ in-order (numberError s n (lengthsFit q)) (not (not (taken s n)) ⇒ 5 else 0) q w
 
 -- 3 of two numbers
 two : (a b : Bool) (q : Ask) (x : Reply) → (not (a && b) ⇒ refuse 3 q else x) ≡ (not a ⇒ refuse 3 q else not b ⇒ refuse 3 q else x)
 two true b q x = refl
 two false b q x = refl
-
--- a list is itself
-same-self : (gs : List UserSegment) → same sameSegment gs gs ≡ true
-same-self [] = refl
-same-self (g ∷ gs) = and-test (sameSegment g g) (same sameSegment gs gs) (is-same g) (same-self gs)
 
 pub answer-fork : (s : State) (n child : ℕ)
     → let q : Ask = fork child (used (procAt (s .procs) n .segments)) in
@@ -91,9 +87,9 @@ answer-fork s n child =
     let x₃ : Reply = not (valid child) ⇒ refuse 3 q else x₄ in
     again (sized (s .store)) true _ q _ x₃
     (λ f. step (sound s) 2 _ q _ x₃ refl
-    (skip (not (valid n) || same sameSegment gs gs) _ (refuse 2 q) (or-test (not (valid n)) _ (λ _. same-self gs)) ∙ two (valid n) (valid child) q x₄ ∙ step (valid n) 3 0 q _ x₃ refl refl))
+    (skip (not (valid n) || same sameSegment gs gs) _ (refuse 2 q) (or-test (not (valid n)) _ (λ _. same-self sameSegment is-same gs)) ∙ two (valid n) (valid child) q x₄ ∙ step (valid n) 3 0 q _ x₃ refl refl))
     ∙ ap (orRefuse (numberError s n true) q) (step (valid child) 3 _ q _ w refl (step (taken s n) 4 _ q _ w refl (step (not (taken s child)) 5 0 q w w refl refl)))
-    ∙ join (numberError s n true) _ q w
+    ∙ in-order (numberError s n true) _ q w
 
 -- ---- what a call does, from what was found first
 

@@ -1,2 +1,2 @@
 -- The numbers that come first (crate first).
-pub use Rattle.first.proofs.First.{given, further, number-first, number-next, sizes-many, sizes-words, Passed, number-none, plain-none, begin-none, Forks, fork-none, fork-other}
+pub use Rattle.first.proofs.First.{given, further, sizes-many, sizes-words, Passed, number-none, plain-none, begin-none, Forks, fork-none, fork-other}

@@ -1,2 +1,2 @@
 -- The pages of a record (crate procs).
-pub use Rattle.procs.proofs.Own.{take-more, count-last, pages-used, pages-own, count-own}
+pub use Rattle.procs.proofs.Own.{pages-own, count-own}

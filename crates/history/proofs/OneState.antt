@@ -1,18 +1,19 @@
 -- Laws of one state: what its test says, what a dead number sees, which numbers are taken, which pages and bytes are seen.
-use Prim.Native.Nat.{ℕ, suc, _+_, _-_, _/_}
+use Prim.Native.Nat.{ℕ, suc, _+_, _-_}
 use native.Mathlib.Omega.{arith}
 use mathlib.Core.Path.{_≡_, refl, sym, ap, _∙_}
-use mathlib.Core.Bool.{Bool, true, false, not, _&&_}
+use mathlib.Core.Bool.{Bool, true, false, not}
 use mathlib.Core.Option.{Option, none, some}
 use mathlib.Core.List.{List, [], _∷_, _++_}
 use lib.ListN.{length}
-use borrow.Author.Tests.{ne-eqb}
-use Rattle.spec.proofs.Bools.{split, not-above}
+use borrow.Author.Tests.{ltb-false, ne-eqb}
+use Rattle.spec.proofs.Bools.{split}
+use Rattle.spec.proofs.Ranges.{range-one}
 use Rattle.spec.specs.Tests.{_is_, _above_, _⇒_else_}
-use Rattle.spec.specs.Numbers.{uaddrtop, pageDown, pageUp}
+use Rattle.spec.specs.Numbers.{uaddrtop, pageDown}
 use Rattle.spec.specs.Book.{valid, frameOf, lives, used, permAt, pieces, procAt}
 use Rattle.spec.specs.Sound.{Sound}
-use Rattle.spec.specs.Frames.{Mem, cellIn}
+use Rattle.spec.specs.Frames.{cellIn}
 use Rattle.spec.specs.Access.{cellOk, userRangeOk, byteOf, bytesAt}
 use Rattle.spec.specs.Machine.{copy-from-user, Call, Reply, outcome, refuse, judge, Machine, off}
 use Rattle.spec.specs.World.{State, taken, view, given, readable}
@@ -82,26 +83,23 @@ pages s g n a v = let k = known s g in mem-perm (s .store) n a ∙ sound-perm (s
 
 -- ---- readable
 
-range-one : (mem : Mem) (a : ℕ) (x : Bool) → (a + 1 above uaddrtop) ≡ x → userRangeOk mem false a 1 ≡ (x ⇒ false else cellOk false (mem (pageDown a)) && true)
-range-one mem a x e = let one : (pageUp (a + 1) - pageDown a) / 4096 ≡ 1 = omega arith in rw (e, one)
-
 -- one byte may be read exactly where a page is found
 cell-range : (s : State) → Good s → (n a : ℕ) (o : Option ℕ) → frameOf (s .store .book) n (pageDown a) ≡ o → userRangeOk (view s n .mem) false a 1 ≡ cellOk false (cellIn (s .store) a o)
 cell-range s g n a o e = go o e
   where
-    page : (o : Option ℕ) → frameOf (s .store .book) n (pageDown a) ≡ o → (cellOk false (view s n .mem (pageDown a)) && true) ≡ (cellOk false (cellIn (s .store) (pageDown a) o) && true)
+    page : (o : Option ℕ) → frameOf (s .store .book) n (pageDown a) ≡ o → cellOk false (view s n .mem (pageDown a)) ≡ cellOk false (cellIn (s .store) (pageDown a) o)
     page o e =
         let d : pageDown (pageDown a) ≡ pageDown a = omega arith in
-        ap (λ (x : Option ℕ). cellOk false (cellIn (s .store) (pageDown a) x) && true) (ap (frameOf (s .store .book) n) d ∙ e)
+        ap (λ (x : Option ℕ). cellOk false (cellIn (s .store) (pageDown a) x)) (ap (frameOf (s .store .book) n) d ∙ e)
 
     go : (o : Option ℕ) → frameOf (s .store .book) n (pageDown a) ≡ o → userRangeOk (view s n .mem) false a 1 ≡ cellOk false (cellIn (s .store) a o)
     go none e =
         split (a + 1 above uaddrtop)
-        (λ q. range-one (view s n .mem) a true q)
-        (λ q. range-one (view s n .mem) a false q ∙ page none e)
+        (λ q. rw q)
+        (λ q. range-one (view s n .mem) a (ltb-false uaddrtop (a + 1) q) ∙ page none e)
     go (some k) e =
         let low = found-between (s .store .book) (s .procs) (known s g .facts) n a k e .1 in
-        range-one (view s n .mem) a false (not-above (a + 1) uaddrtop (omega (arith, low))) ∙ page (some k) e
+        range-one (view s n .mem) a (omega (arith, low)) ∙ page (some k) e
 
 abbrev oneByte : ℕ → ℕ → Call
 oneByte n a = record { number = n; ask = copy-from-user (0 ∷ []) a }

@@ -5,9 +5,8 @@ use mathlib.Core.Path.{_≡_, ap, _∙_}
 use mathlib.Core.Bool.{true}
 use mathlib.Core.Option.{Option, some}
 use mathlib.Core.List.{List, [], _∷_, _++_}
-use lib.ListN.{length, replicate}
 use Rattle.spec.specs.Numbers.{ustktop, ustksize, pageBytes}
-use Rattle.spec.specs.Book.{bookPerm, zeroSegment, stack, bssSegment, inSegment, permAt, pageCount}
+use Rattle.spec.specs.Book.{bookPerm, stack, bssSegment, inSegment, permAt}
 use Rattle.spec.specs.Frames.{Store, pagesOf, place}
 use Rattle.spec.specs.Elf.{entry, segmentsOf}
 use Rattle.spec.specs.Exec.{imageSegments, imageBss, startPieces, fileByte}
@@ -22,6 +21,7 @@ use Rattle.laws.proofs.Placed.{Whole, Room, perm-placed}
 use Rattle.laws.proofs.Started.{start-perm, start-apart}
 use Rattle.laws.proofs.Pieces.{orPerm}
 use Rattle.pagealloc.specs.Lent.{Mapped}
+use Rattle.exec.specs.Plan.{acceptedPlan}
 use Rattle.exec.specs.declared.Plan.{Plan}
 use Rattle.exec.proofs.Planned.{plan-accepted}
 use Rattle.install.specs.Installing.{Installable, recordOf}
@@ -59,15 +59,7 @@ module _ (m : Store) (n : ℕ) (image : List ℕ) (plan : Plan) (bytes lengths :
       frame-perm (placed .book) n a (r .0) (perm-placed m n page (startPieces image) (i .sizes) whole room a z ∙ ap (λ (o : Option ℕ). orPerm o (bookPerm (m .book) n a)) (r .1))
 
   -- the plan is the image's
-  plan-is : plan ≡ record {
-    number = 0;
-    elf = 0;
-    entry = entry image;
-    segments = imageSegments image ++ stack ∷ replicate (15 - length (imageSegments image)) zeroSegment;
-    count = length (imageSegments image);
-    bss = imageBss image;
-    pages = pageCount (startPieces image);
-  }
+  plan-is : plan ≡ acceptedPlan image
   plan-is = i .planned ∙ plan-accepted image (i .accepted)
 
   pub plan-bss : plan .bss ≡ imageBss image

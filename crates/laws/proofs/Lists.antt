@@ -35,6 +35,10 @@ each-at P d [] e i h = absurd (not-suc-le-zero h)
 each-at P d (x ∷ xs) e zero h = e .0
 each-at P d (x ∷ xs) e (suc i) h = each-at P d xs (e .1) i (le-of-suc-le-suc h)
 
+pub each-same : {A : Type 0} (P : A → Type 0) (x : A) → P x → (k : ℕ) → Each P (replicate k x)
+each-same P x e zero = tt
+each-same P x e (suc k) = (e, each-same P x e k)
+
 -- a list of one element has it at each place, and is read as it past its end
 pub getD-same : {A : Type 0} (n k : ℕ) (d : A) → getD (replicate n d) k d ≡ d
 getD-same zero k d = refl

@@ -8,12 +8,12 @@ use mathlib.Core.List.{List, [], _∷_, _++_, append-assoc}
 use Rattle.spec.proofs.Bools.{split, within-means}
 use Rattle.spec.specs.Numbers.{utzero, uaddrtop, pageUp}
 use Rattle.spec.specs.Book.{stack, bssSegment, inSegment, permAt, zeroProc, piecesOf}
-use Rattle.spec.specs.Sound.{Shape}
+use Rattle.spec.specs.Sound.{ImageSegment, Shape}
 use Rattle.spec.specs.declared.VirtRange.{VirtRange}
 use Rattle.spec.specs.declared.UserSegment.{UserSegment}
 use Rattle.spec.specs.declared.Proc.{Proc}
-use Rattle.laws.proofs.Lists.{Each, each-append}
-use Rattle.laws.proofs.Shape.{Image, imageEnd, Bss, image-top, shape-image, shape-bss, shape-used}
+use Rattle.laws.proofs.Lists.{Each, each-map, each-append}
+use Rattle.laws.proofs.Shape.{Image, imageEnd, Bss, each-image, image-top, shape-image, shape-bss, shape-used}
 use Rattle.laws.proofs.Pieces.{Piece, Pieces, outside-low, outside-high, perm-here, perm-there, perm-past, perm-between}
 
 -- ---- the image
@@ -104,11 +104,10 @@ zero-pieces a = perm-there (bssSegment (zeroProc .bss)) [] a (outside-high (bssS
 image-between : (end : ℕ) (image : List UserSegment) (bss : VirtRange) → Image end image → Bss (imageEnd end image) bss
     → (a q : ℕ) → permAt (image ++ stack ∷ bssSegment bss ∷ []) a ≡ some q → (utzero ≤ a) × (a < uaddrtop)
 image-between end image bss i h =
-    perm-between utzero uaddrtop (image ++ stack ∷ bssSegment bss ∷ []) (each-append _ image (stack ∷ bssSegment bss ∷ []) (each end image i) ((omega arith, omega arith), ((omega (arith, h .start), omega (arith, h .low)), tt)))
+    perm-between utzero uaddrtop (image ++ stack ∷ bssSegment bss ∷ []) (each-append _ image (stack ∷ bssSegment bss ∷ []) each ((omega arith, omega arith), ((omega (arith, h .start), omega (arith, h .low)), tt)))
   where
-    each : (end : ℕ) (image : List UserSegment) → Image end image → Each (λ g. (utzero ≤ g .range .start) × (g .range .end ≤ uaddrtop)) image
-    each end [] i = tt
-    each end (g ∷ image) i = ((i .0 .between .0, omega (arith, i .0 .between .1)), each (g .range .end) image (i .2))
+    each : Each (λ g. (utzero ≤ g .range .start) × (g .range .end ≤ uaddrtop)) image
+    each = each-map ImageSegment (λ g. (utzero ≤ g .range .start) × (g .range .end ≤ uaddrtop)) (λ g s. (s .between .0, omega (arith, s .between .1))) image (each-image end image i)
 
 pub shape-between : (p : Proc) (image : List UserSegment) → Shape p image → (a q : ℕ) → permAt (piecesOf p) a ≡ some q → (utzero ≤ a) × (a < uaddrtop)
 shape-between p image h a q e = image-between utzero image (p .bss) (shape-image p image h) (shape-bss p image h) a q (ap (λ (x : List UserSegment). permAt x a) (sym (shape-pieces p image h)) ∙ e)

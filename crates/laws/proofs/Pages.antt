@@ -4,7 +4,7 @@ use native.Mathlib.Omega.{arith}
 use mathlib.Core.Path.{_≡_, refl, sym, ap, ap₂, _∙_}
 use mathlib.Core.Bool.{Bool, true}
 use mathlib.Core.Option.{Option, none, some}
-use mathlib.Core.List.{List, [], _∷_, _++_, append-assoc}
+use mathlib.Core.List.{List, [], _∷_, _++_}
 use lib.Dec.{eqb}
 use lib.ListN.{getD}
 use borrow.Author.Tests.{eqb-true, eqb-false}
@@ -14,6 +14,7 @@ use Rattle.spec.specs.Book.{inSegment, permAt}
 use Rattle.spec.specs.Frames.{Cell, Page, pagesFrom, pagesOf}
 use Rattle.spec.specs.declared.UserSegment.{UserSegment}
 use Rattle.spec.proofs.Bools.{split, clash, within-means, within-test, within-not}
+use Rattle.spec.proofs.Lists.{flat-append}
 use Rattle.laws.proofs.Lists.{Each, each-append}
 use Rattle.laws.proofs.Place.{Distinct, over}
 use Rattle.laws.proofs.Pieces.{Piece, Pieces, perm-tail}
@@ -37,10 +38,7 @@ from-append f perm a (suc j) k =
     (from-append f perm (a + 4096) j k ∙ ap (λ (x : ℕ). pagesFrom f perm (a + 4096) j ++ pagesFrom f perm x k) z)
 
 pub pages-append : (f : ℕ → List ℕ) (gs hs : List UserSegment) → pagesOf f (gs ++ hs) ≡ pagesOf f gs ++ pagesOf f hs
-pages-append f [] hs = refl
-pages-append f (g ∷ gs) hs =
-    ap (λ (ps : List Page). pagesFrom f (g .perm) (g .range .start) (pages g) ++ ps) (pages-append f gs hs)
-    ∙ sym (append-assoc (pagesFrom f (g .perm) (g .range .start) (pages g)) (pagesOf f gs) (pagesOf f hs))
+pages-append f gs hs = flat-append (λ g. pagesFrom f (g .perm) (g .range .start) (pages g)) (pagesOf f) refl (λ g gs. refl) gs hs
 
 -- ---- what holds of each page
 

@@ -1,17 +1,13 @@
 -- Pieces of memory: whole pages, no two of them with an address in common; the permission that they give an address.
-use Prim.Native.Nat.{ℕ, _+_, _-_, _/_, _%_, _≤_, _<_}
+use Prim.Native.Nat.{ℕ, _%_, _≤_, _<_}
 use native.Mathlib.Omega.{arith}
-use native.Mathlib.Nat.{add-assoc}
-use native.Mathlib.Numerals.{add-one}
 use mathlib.Core.Path.{_≡_, refl, sym, ap, ap₂, _∙_}
 use mathlib.Core.Bool.{Bool, true, false}
 use mathlib.Core.Option.{Option, none, some}
 use mathlib.Core.List.{List, [], _∷_, _++_}
-use lib.ListN.{length, take, getD}
-use lib.Seq.{take-suc}
 use Rattle.spec.specs.Tests.{within, _⇒_else_}
 use Rattle.spec.specs.Numbers.{pageDown}
-use Rattle.spec.specs.Book.{inSegment, permAt, pageCount}
+use Rattle.spec.specs.Book.{inSegment, permAt}
 use Rattle.spec.specs.declared.UserSegment.{UserSegment}
 use Rattle.spec.proofs.Bools.{split, clash, within-means, within-test, within-not}
 use Rattle.laws.proofs.Lists.{Each}
@@ -91,19 +87,3 @@ perm-each P (g ∷ gs) h a q e =
     split (inSegment a g)
     (λ i. let w : some (g .perm) ≡ some q = rw i at e in let same : g .perm ≡ q = cc in rw (← same) (h .0))
     (λ i. perm-each P gs (h .1) a q (rw i at e))
-
--- ---- how many pages they have
-
-pub count-append : (gs hs : List UserSegment) → pageCount (gs ++ hs) ≡ pageCount gs + pageCount hs
-count-append [] hs = omega arith
-count-append (g ∷ gs) hs = ap (λ (k : ℕ). (g .range .end - g .range .start) / 4096 + k) (count-append gs hs) ∙ sym (add-assoc ((g .range .end - g .range .start) / 4096) (pageCount gs) (pageCount hs))
-
--- place by place
-pub count-next : (us : List UserSegment) (d : UserSegment) (i : ℕ) → i < length us
-    → pageCount (take (i + 1) us) ≡ pageCount (take i us) + (getD us i d .range .end - getD us i d .range .start) / 4096
-count-next us d i h =
-    let u = getD us i d in
-    rw (add-one i) (ap pageCount (take-suc us i d h) ∙ (count-append (take i us) (u ∷ []) ∙ last (pageCount (take i us)) ((u .range .end - u .range .start) / 4096)))
-  where
-    last : (a b : ℕ) → a + (b + 0) ≡ a + b
-    last a b = omega arith

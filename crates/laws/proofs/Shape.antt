@@ -15,6 +15,7 @@ use Rattle.spec.specs.Sound.{bssOk, segmentsOk, ImageSegment, Shape}
 use Rattle.spec.specs.declared.VirtRange.{VirtRange}
 use Rattle.spec.specs.declared.UserSegment.{UserSegment}
 use Rattle.spec.specs.declared.Proc.{Proc}
+use Rattle.laws.proofs.Lists.{Each, each-at}
 use Rattle.laws.proofs.Record.{same-is, all-are, all-same}
 
 -- ---- a living record's segments
@@ -104,10 +105,12 @@ layout-test end bss (g ∷ image) zeros i b =
 
 -- ---- the shape that soundness states, by places in the list
 
+pub each-image : (end : ℕ) (image : List UserSegment) → Image end image → Each ImageSegment image
+each-image end [] h = tt
+each-image end (g ∷ image) h = (h .0, each-image (g .range .end) image (h .2))
+
 image-each : (end : ℕ) (image : List UserSegment) → Image end image → (i : ℕ) → i < length image → ImageSegment (getD image i zeroSegment)
-image-each end [] h i l = absurd (not-suc-le-zero l)
-image-each end (g ∷ image) h zero l = h .0
-image-each end (g ∷ image) h (suc i) l = image-each (g .range .end) image (h .2) i (le-of-suc-le-suc l)
+image-each end image h i l = each-at ImageSegment zeroSegment image (each-image end image h) i l
 
 image-ascends : (end : ℕ) (image : List UserSegment) → Image end image → (i : ℕ) → i + 1 < length image → getD image i zeroSegment .range .end ≤ getD image (i + 1) zeroSegment .range .start
 image-ascends end [] h i l = absurd (not-suc-le-zero l)

@@ -28,7 +28,7 @@ use Rattle.laws.proofs.Headers.{AllLoad, elf-loads}
 padded-long : (s : List ℕ) → length s ≤ 28 → length (padded s) ≡ 28
 padded-long s l = omega (arith, length-append s (replicate (28 - length s) 0), length-replicate {A = ℕ} (28 - length s) 0)
 
-cut-low : (s : List ℕ) (n : ℕ) → cut s n ≤ n
+pub cut-low : (s : List ℕ) (n : ℕ) → cut s n ≤ n
 cut-low s zero = omega arith
 cut-low s (suc n) = let h = cut-low s n in split (within 128 192 (getD s (suc n) 0)) (λ q. rw q (omega arith)) (λ q. rw q (omega arith))
 

@@ -1,7 +1,7 @@
 -- What a line's answer comes to, from what its parts ensure.
 -- Assumes nothing.
 use mathlib.Core.Path.{_≡_, refl, sym, ap, ap₂, subst, _∙_}
-use mathlib.Core.Bool.{Bool, true, false}
+use mathlib.Core.Bool.{true, false}
 use mathlib.Core.Option.{Option, none, some}
 use mathlib.Core.List.{List, [], _∷_}
 use Prim.Native.Nat.{ℕ, zero, suc, _≤_, _<_}
@@ -19,6 +19,7 @@ use Rattle.front.specs.Numbers.{stateOf, call}
 use Rattle.script.specs.Words.{headOf, tailOf, afterOf, sameBytes}
 use Rattle.script.specs.Bytes.{formOf}
 use Rattle.script.specs.declared.bytes.Form.the-variants.{File}
+use Rattle.script.proofs.Splits.{beyond-short}
 use Rattle.asked.specs.Given.{bytesOf, Gives}
 use Rattle.asked.specs.Lists.{listOf}
 use Rattle.asked.specs.Several.{wordsOf, Gave, nothing, one}
@@ -56,13 +57,9 @@ pub reading-reads : (line : List ℕ) (j : ℕ) {o : Option (List ℕ)} → Give
 reading-reads line j g = with-reads line (plain line) j (plain-reads line) g
 
 -- a word is no longer than its line
-tail-short : (line : List ℕ) → length (tailOf line) ≤ length line
-tail-short [] = omega arith
-tail-short (b ∷ line) = split (eqb b 32) (λ q. rw q (omega arith)) (λ q. rw q (omega (arith, tail-short line)))
-
 after-short : (k : ℕ) (line : List ℕ) → length (afterOf k line) ≤ length line
 after-short zero line = omega arith
-after-short (suc k) line = omega (arith, after-short k (tailOf line), tail-short line)
+after-short (suc k) line = omega (arith, after-short k (tailOf line), beyond-short 32 line)
 
 pub word-short : (k : ℕ) (line : List ℕ) → length (wordOf k line) ≤ length line
 word-short k line = omega (arith, head-short (afterOf k line), after-short k line)

@@ -1,7 +1,7 @@
 -- Bytes of a process written page by page.
 use Prim.Native.Nat.{ℕ, _+_, _-_, _*_, _%_, _≤_, _<_}
 use native.Mathlib.Omega.{arith}
-use mathlib.Core.Path.{_≡_, refl, sym, ap, _∙_}
+use mathlib.Core.Path.{_≡_, refl, sym, ap, subst, _∙_}
 use mathlib.Core.Option.{some}
 use mathlib.Core.List.{List}
 use lib.ListN.{length, take, drop, length-drop}
@@ -9,19 +9,17 @@ use lib.Seq.{length-take-le, take-add, take-length}
 use Rattle.spec.specs.Numbers.{pageDown}
 use Rattle.spec.specs.Book.{frameOf}
 use Rattle.spec.specs.Frames.{Store, put, pokes}
-use Rattle.laws.proofs.Frame.{Fits, frame-found}
+use Rattle.laws.proofs.Frame.{Fits}
 use Rattle.laws.proofs.Pokes.{pokes-append, pokes-page}
 use Rattle.spec.specs.declared.Found.the-variants.{At, Nothing}
 use Rattle.book.specs.Lent.{store, foundOf}
 use Rattle.pagealloc.specs.Lent.{Mapped}
-use Rattle.book.proofs.Searches.{found-at}
+use Rattle.book.proofs.Searches.{Framed, page-found}
 use Rattle.pagealloc.proofs.Copying.{not-missing}
 
 -- the frame of an address's page
-pub frame-at : (book : List ℕ) (n a page k : ℕ) → page ≡ pageDown a → At k ≡ foundOf (frameOf book n page) → (k < length book) × (frameOf book n (pageDown a) ≡ some k)
-frame-at book n a page k e h =
-    let f : frameOf book n page ≡ some k = found-at (frameOf book n page) k h in
-    (frame-found book n page k f .0, ap (frameOf book n) (sym e) ∙ f)
+pub frame-at : (book : List ℕ) (n a page k : ℕ) → page ≡ pageDown a → At k ≡ foundOf (frameOf book n page) → Framed book n (pageDown a) k
+frame-at book n a page k e h = subst (λ (p : ℕ). Framed book n p k) e (page-found book n page k (At k) h refl)
 
 -- in a range that a process has, it is found
 pub not-missed : {P : Type 0} (book : List ℕ) (n addr size i page : ℕ) → Mapped book n (pageDown addr) (addr + size) → i < size → page ≡ pageDown (addr + i) → Nothing ≡ foundOf (frameOf book n page) → P

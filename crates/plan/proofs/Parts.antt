@@ -17,9 +17,9 @@ use Rattle.spec.specs.Sound.{ImageSegment, Shape}
 use Rattle.spec.specs.declared.UserSegment.{UserSegment}
 use Rattle.spec.specs.declared.Proc.{Proc}
 use Rattle.spec.proofs.Bools.{split, clash, within-means}
-use Rattle.laws.proofs.Lists.{by-order, Each, each-append, each-at}
+use Rattle.laws.proofs.Lists.{by-order, Each, each-map, each-append, each-at, each-same}
 use Rattle.laws.proofs.Record.{WholeProc, dead-zero}
-use Rattle.laws.proofs.Shape.{Image, imageEnd, Bss, shape-image, shape-bss}
+use Rattle.laws.proofs.Shape.{Image, imageEnd, Bss, each-image, shape-image, shape-bss}
 use Rattle.laws.proofs.Pieces.{outside-low, outside-high, perm-here, perm-there, Pieces, tail-same}
 use Rattle.laws.proofs.Exact.{some-none}
 use Rattle.laws.proofs.Facts.{Shaped}
@@ -32,10 +32,6 @@ use Rattle.laws.proofs.OwnPieces.{zero-apart, image-apart, stack-bss-apart, sta
 pub each-made : (P : UserSegment → Type 0) (gs : List UserSegment) → ((j : ℕ) → j < length gs → P (getD gs j zeroSegment)) → Each P gs
 each-made P [] f = tt
 each-made P (g ∷ gs) f = (f 0 (omega arith), each-made P gs (λ j h. f (suc j) (omega arith)))
-
-pub each-same : (P : UserSegment → Type 0) (g : UserSegment) → P g → (k : ℕ) → Each P (replicate k g)
-each-same P g e zero = tt
-each-same P g e (suc k) = (e, each-same P g e k)
 
 -- ---- addresses in disjoint segments
 
@@ -95,8 +91,7 @@ image-part : (g : UserSegment) → ImageSegment g → Part g
 image-part g h = record { ordered = omega (arith, h .some-page); high = omega (arith, h .between .1); start-page = h .aligned .0; end-page = h .aligned .1; low = λ q. h .between .0 }
 
 image-parts : (end : ℕ) (image : List UserSegment) → Image end image → Each Part image
-image-parts end [] h = tt
-image-parts end (g ∷ image) h = (image-part g (h .0), image-parts (g .range .end) image (h .2))
+image-parts end image h = each-map ImageSegment Part image-part image (each-image end image h)
 
 -- its places, and the bss
 abbrev pub parts : Proc → List UserSegment

@@ -1,27 +1,26 @@
 -- The check's test of a record and the specification's: they differ in the segments' permissions alone.
-use Prim.Native.Nat.{ℕ, zero, suc, _+_, _-_, _%_, _<_, _≤_}
+use Prim.Native.Nat.{ℕ, _-_, _%_, _<_, _≤_}
 use native.Mathlib.Omega.{arith}
-use native.Mathlib.Nat.{not-suc-le-zero, le-of-suc-le-suc}
-use mathlib.Core.Path.{_≡_, refl, sym, ap, _∙_}
-use mathlib.Core.Bool.{Bool, true, false, not, _&&_, _||_}
-use mathlib.Core.List.{List, [], _∷_, _++_}
-use lib.ListN.{length, getD, replicate}
-use borrow.Author.Tests.{eqb-true, ltb-true, le-ltb}
-use Rattle.spec.specs.Tests.{_is_, _below_, _above_, _⇒_else_, all}
+use mathlib.Core.Path.{_≡_, refl}
+use mathlib.Core.Bool.{true, false, not, _&&_}
+use mathlib.Core.List.{List, [], _∷_}
+use lib.ListN.{length}
+use borrow.Author.Tests.{ltb-true, le-ltb}
+use Rattle.spec.specs.Tests.{_is_, _below_, _above_, all}
 use Rattle.spec.specs.Numbers.{utzero, limit}
-use Rattle.spec.specs.Book.{sameSegment, zeroSegment, zeroProc, unused, lives, stack, bssSegment}
+use Rattle.spec.specs.Book.{sameSegment, zeroSegment, unused, lives, stack, bssSegment}
 use Rattle.spec.specs.Sound.{bssOk, segmentsOk}
 use Rattle.spec.specs.declared.VirtRange.{VirtRange}
 use Rattle.spec.specs.declared.UserSegment.{UserSegment}
 use Rattle.spec.specs.declared.Proc.{Proc}
 use Rattle.spec.proofs.Bools.{split, clash, both, and-test, not-true, or-fact, or-test, not-false, not-below}
-use Rattle.laws.proofs.Lists.{Each, each-append}
+use Rattle.laws.proofs.Lists.{Each, each-append, each-same}
 use Rattle.laws.proofs.Record.{WholeProc, same-is, all-are, dead-zero}
 use Rattle.laws.proofs.Shape.{segments-shape, shape-segments}
 use Rattle.laws.proofs.Facts.{Shaped}
 use Rattle.records.specs.Records.{imageOk, imageTest, shaped, passes}
 use Rattle.plan.specs.Plan.{part, Small, SmallParts}
-use Rattle.plan.proofs.Parts.{each-same, each-part, top, Part, Perm, parts, Parts, parts-of}
+use Rattle.plan.proofs.Parts.{each-part, top, Part, Perm, parts, Parts, parts-of}
 use Rattle.plan.proofs.Laying.{part-segment, part-bss}
 
 -- what soundness says of it

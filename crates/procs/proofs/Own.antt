@@ -1,24 +1,18 @@
 -- The pages of a record: those of its places and of its bss, and those of all sixteen places are those of the recorded segments.
-use Prim.Native.Nat.{ℕ, zero, suc, _+_, _-_, _/_, _<_, _≤_}
+use Prim.Native.Nat.{ℕ, zero, suc, _+_, _-_, _/_, _≤_}
 use native.Mathlib.Omega.{arith}
-use native.Mathlib.Numerals.{add-one}
 use mathlib.Core.Path.{_≡_, refl, sym, ap, ap₂, _∙_}
-use mathlib.Core.List.{List, [], _∷_, _++_, append-assoc}
-use lib.ListN.{length, getD, take, replicate}
-use lib.Seq.{take-suc, take-all}
+use mathlib.Core.List.{List, [], _∷_, _++_, append-assoc, append-nil}
+use lib.ListN.{length, take, replicate}
+use lib.Seq.{take-all}
 use Rattle.spec.specs.Book.{zeroSegment, stack, bssSegment, pageCount, used, piecesOf}
 use Rattle.spec.specs.Sound.{Shape}
 use Rattle.spec.specs.Frames.{Page, pagesOf}
 use Rattle.spec.specs.declared.UserSegment.{UserSegment}
 use Rattle.spec.specs.declared.Proc.{Proc}
-use Rattle.spec.proofs.Free.{length-pages}
+use Rattle.spec.proofs.Free.{length-pages, count-append}
 use Rattle.laws.proofs.Pages.{pages-append}
 use Rattle.laws.proofs.Shape.{shape-used}
-use Rattle.laws.proofs.Pieces.{count-append}
-
--- one place more
-pub take-more : (gs : List UserSegment) (i : ℕ) → i < length gs → take (i + 1) gs ≡ take i gs ++ getD gs i zeroSegment ∷ []
-take-more gs i h = rw (add-one, take-suc gs i zeroSegment)
 
 -- all places, and a piece behind them
 pub count-last : (gs : List UserSegment) (i n k : ℕ) (g g′ : UserSegment) → length gs ≤ i → n ≡ pageCount (take i gs) → g ≡ g′ → k ≡ (g .range .end - g .range .start) / 4096 → n + k ≡ pageCount (gs ++ g′ ∷ [])
@@ -39,12 +33,8 @@ module _ (p : Proc) (image : List UserSegment) (shape : Shape p image) where
       ap (pagesOf f) (shape .segments ∙ sym (append-assoc image (stack ∷ []) zeros))
       ∙ pages-append f (image ++ stack ∷ []) zeros
       ∙ ap (λ (ps : List Page). pagesOf f (image ++ stack ∷ []) ++ ps) (none-unused f (15 - length image))
-      ∙ none-after (pagesOf f (image ++ stack ∷ []))
+      ∙ append-nil (pagesOf f (image ++ stack ∷ []))
       ∙ ap (pagesOf f) (sym (shape-used p image shape))
-    where
-      none-after : (ps : List Page) → ps ++ [] ≡ ps
-      none-after [] = refl
-      none-after (x ∷ ps) = ap (_∷_ x) (none-after ps)
 
   pub pages-own : (f : ℕ → List ℕ) → pagesOf f (p .segments ++ bssSegment (p .bss) ∷ []) ≡ pagesOf f (piecesOf p)
   pages-own f =

@@ -1,28 +1,23 @@
 -- A page's frame by the table, and what may be done with the page.
-use Prim.Native.Nat.{ℕ, _<_}
-use native.Mathlib.Omega.{arith}
-use mathlib.Core.Path.{_≡_, refl, sym, _∙_}
+use Prim.Native.Nat.{ℕ}
+use mathlib.Core.Path.{_≡_, sym, _∙_}
 use mathlib.Core.Bool.{Bool, true, false, not, _||_}
-use mathlib.Core.Option.{Option, none, some}
+use mathlib.Core.Option.{none, some}
 use mathlib.Core.List.{List}
-use lib.ListN.{length, getD}
+use lib.ListN.{getD}
 use Rattle.spec.specs.Tests.{_is_}
 use Rattle.spec.specs.Numbers.{pageDown}
 use Rattle.spec.specs.Book.{permOf, frameOf}
 use Rattle.spec.specs.Frames.{memOf}
 use Rattle.spec.specs.Access.{cellOk}
 use Rattle.spec.specs.declared.Found.{Found}
-use Rattle.spec.specs.declared.Found.the-variants.{At, Nothing}
-use Rattle.laws.proofs.Frame.{frame-found}
+use Rattle.spec.specs.declared.Found.the-variants.{Nothing}
 use Rattle.book.specs.Lent.{store, foundOf}
-use Rattle.book.proofs.Searches.{found-at as option-at, found-none as option-none}
+use Rattle.book.proofs.Searches.{found-none}
 
--- what an answer says of a page
-pub found-at : (book : List ℕ) (n page k : ℕ) (r : Found) → r ≡ foundOf (frameOf book n page) → r ≡ At k → (frameOf book n page ≡ some k) × (k < length book)
-found-at book n page k r e f = let g = option-at (frameOf book n page) k (sym f ∙ e) in (g, frame-found book n page k g .0)
-
+-- a page of which nothing is found has no frame
 pub found-nothing : (book : List ℕ) (n page : ℕ) (r : Found) → r ≡ foundOf (frameOf book n page) → r ≡ Nothing → frameOf book n page ≡ none
-found-nothing book n page r e f = option-none (frameOf book n page) (sym f ∙ e)
+found-nothing book n page r e f = found-none (frameOf book n page) (sym f ∙ e)
 
 -- a page without a frame is not mapped, and one with a frame is writable if its word says data
 pub page-none : (write : Bool) (frames book : List ℕ) (n va : ℕ) → frameOf book n (pageDown va) ≡ none → false ≡ cellOk write (memOf (store frames book) n va)

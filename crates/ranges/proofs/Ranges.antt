@@ -2,13 +2,13 @@
 use Prim.Native.Nat.{ℕ, suc, _+_, _-_, _/_, _%_, _≤_, _<_}
 use native.Mathlib.Omega.{arith}
 use mathlib.Core.Path.{_≡_, sym, ap, _∙_}
-use mathlib.Core.Bool.{Bool, true, false, and-true}
+use mathlib.Core.Bool.{Bool, true, false}
 use mathlib.Core.List.{List}
 use borrow.Author.Tests.{lt-ltb, le-ltb, eq-eqb, ne-eqb}
 use Rattle.spec.specs.Numbers.{uaddrtop, pageDown, pageUp}
 use Rattle.spec.specs.Frames.{Mem, memOf}
 use Rattle.spec.specs.Access.{cellOk, pagesOk, userRangeOk}
-use Rattle.spec.proofs.Ranges.{range-means}
+use Rattle.spec.proofs.Ranges.{range-means, range-one}
 use Rattle.laws.proofs.Allowed.{cell-allowed, cell-page}
 use Rattle.book.specs.Lent.{store}
 
@@ -53,11 +53,6 @@ range-cell f g book n write addr len a e l h =
     cell-allowed (store g book) n a write ∙ sym (cell-allowed (store f book) n a write) ∙ cell-page (store f book) n a write ∙ range-means (memOf (store f book) n) write addr len e .each a l h
 
 -- ---- one byte
-
-range-one : (mem : Mem) (a : ℕ) → a + 1 ≤ uaddrtop → userRangeOk mem false a 1 ≡ cellOk false (mem (pageDown a))
-range-one mem a h =
-    let k : (pageUp (a + 1) - pageDown a) / 4096 ≡ 1 = omega arith in
-    range-pages mem false a 1 h (λ z. omega arith) ∙ ap (pagesOk mem false (pageDown a)) k ∙ and-true (cellOk false (mem (pageDown a)))
 
 -- where one byte of a page can be read, each further one can
 pub range-along : (mem : Mem) (a i : ℕ) → userRangeOk mem false a 1 ≡ true → a % 4096 + i < 4096 → userRangeOk mem false (a + i) 1 ≡ true

@@ -11,6 +11,7 @@ use lib.Seq.{take-suc, drop-cons, length-take-le}
 use borrow.Author.Tests.{ne-eqb}
 use Rattle.spec.specs.Tests.{_is_, ascii}
 use Rattle.spec.specs.Book.{pageOf, ownerOf}
+use Rattle.spec.proofs.Lists.{flat-next}
 use Rattle.spec.specs.declared.Found.the-variants.{At, Nothing}
 use Rattle.replies.specs.Table.{keep, stripped, signOf, signsText, shownText, firstFrame}
 
@@ -18,12 +19,9 @@ use Rattle.replies.specs.Table.{keep, stripped, signOf, signsText, shown
 last : (xs : List ℕ) (n : ℕ) → 0 < n → n ≤ length xs → take n xs ≡ take (n - 1) xs ++ getD xs (n - 1) 0 ∷ []
 last xs n p h = let e : n ≡ suc (n - 1) = omega arith in ap (λ (k : ℕ). take k xs) e ∙ take-suc xs (n - 1) 0 (omega arith)
 
-signs-append : (xs ys : List ℕ) → signsText (xs ++ ys) ≡ signsText xs ++ signsText ys
-signs-append [] ys = refl
-signs-append (x ∷ xs) ys = ap (λ (s : List ℕ). signOf x ∷ s) (signs-append xs ys)
-
+-- one more byte
 pub signs-next : (bs : List ℕ) (i : ℕ) → i < length bs → signsText (take i bs) ++ (signOf (getD bs i 0) ∷ []) ≡ signsText (take (i + 1) bs)
-signs-next bs i h = rw (add-one i) (sym (ap signsText (take-suc bs i 0 h) ∙ signs-append (take i bs) (getD bs i 0 ∷ [])))
+signs-next bs i h = flat-next (λ b. signOf b ∷ []) signsText refl (λ x xs. refl) bs i 0 h
 
 -- ---- names
 

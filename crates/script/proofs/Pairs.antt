@@ -1,17 +1,17 @@
 -- Pairs of hex digits, one pair after the other.
-use mathlib.Core.Path.{_≡_, refl, sym, ap, _∙_}
-use Prim.Native.Nat.{ℕ, zero, suc, _+_, _*_, _-_, _/_, _%_, _≤_, _<_}
-use native.Mathlib.Numerals.{add-one}
+use mathlib.Core.Path.{_≡_, refl, sym, ap}
+use Prim.Native.Nat.{ℕ, suc, _+_, _*_, _-_, _/_, _%_, _≤_, _<_}
 use native.Mathlib.Omega.{arith}
 use mathlib.Core.Bool.{Bool, true, false, _&&_}
 use mathlib.Core.Option.{Option, none, some}
 use mathlib.Core.List.{List, [], _∷_, _++_, append-assoc, append-nil}
 use lib.Dec.{leb}
 use lib.ListN.{length, getD, take, drop, set, drop-of-length-le}
-use lib.Seq.{drop-cons, take-suc-set}
+use lib.Seq.{drop-cons}
 use borrow.Author.Tests.{lt-ltb, le-ltb, leb-true}
 use Rattle.spec.specs.Tests.{_below_, _⇒_else_}
 use Rattle.spec.proofs.Bools.{both, split}
+use Rattle.spec.proofs.Lists.{take-set}
 use Rattle.script.specs.Words.{between}
 use Rattle.script.specs.Bytes.{digitOf, front, pairsOf}
 
@@ -46,8 +46,7 @@ pair w i h =
 pub pairs-more : (w d : List ℕ) (i x y : ℕ) → 2 * i + 1 < length w → i < length d → x ≡ digitOf (getD w (2 * i) 0) → y ≡ digitOf (getD w (2 * i + 1) 0)
     → x ≤ 15 → y ≤ 15 → behind (take i d) (pairsOf (drop (2 * i) w)) ≡ behind (take (i + 1) (set d i (x * 16 + y))) (pairsOf (drop (2 * (i + 1)) w))
 pairs-more w d i x y h k ex ey a b =
-    let t : take (i + 1) (set d i (x * 16 + y)) ≡ take i d ++ ((x * 16 + y) ∷ []) = rw add-one (take-suc-set d i (x * 16 + y) k) in
-    rw (t, pair w i h, ← ex, ← ey, lt-ltb x 16 (omega arith), lt-ltb y 16 (omega arith))
+    rw (take-set d i (x * 16 + y) k, pair w i h, ← ex, ← ey, lt-ltb x 16 (omega arith), lt-ltb y 16 (omega arith))
     (front-behind (take i d) (x * 16 + y) (pairsOf (drop (2 * (i + 1)) w)))
 
 -- the last pair was passed

@@ -9,33 +9,55 @@ use lib.Dec.{eqb}
 use lib.ListN.{length, getD, take, drop, length-drop, drop-of-length-le}
 use lib.Seq.{drop-cons, drop-drop, drop-length, take-all}
 use borrow.Author.Tests.{eq-eqb, ne-eqb}
-use Rattle.spec.specs.Tests.{_is_, same}
+use Rattle.spec.specs.Tests.{_is_, has}
 use Rattle.spec.proofs.Bools.{split}
-use Rattle.script.specs.Words.{headOf, tailOf, afterOf, spacesOf, sameBytes}
+use Rattle.script.specs.Words.{until, beyond, headOf, tailOf, afterOf, spacesOf, sameBytes}
 
--- a word ends at a space, goes on at any other byte, and ends with the line
-pub head-space : (l : List ℕ) (i : ℕ) → i < length l → getD l i 0 ≡ 32 → length (headOf (drop i l)) ≡ 0
-head-space l i h e = rw (drop-cons l i 0, e)
+-- ---- the bytes before the first x, and what follows it
 
-pub head-more : (l : List ℕ) (i : ℕ) → i < length l → (getD l i 0 ≡ 32 → ⊥) → length (headOf (drop i l)) ≡ length (headOf (drop (i + 1) l)) + 1
-head-more l i h e = rw (add-one i, drop-cons l i 0, ne-eqb (getD l i 0) 32 e, add-one)
+module _ (x : ℕ) where
+  -- at an x there are none, at any other byte there is one more, and at the end there are none
+  pub until-here : (l : List ℕ) (i : ℕ) → i < length l → getD l i 0 ≡ x → length (until x (drop i l)) ≡ 0
+  until-here l i h e = rw (drop-cons l i 0, eq-eqb (getD l i 0) x e)
 
-pub head-end : (l : List ℕ) (i : ℕ) → length l ≤ i → length (headOf (drop i l)) ≡ 0
-head-end l i h = rw (drop-of-length-le l h)
+  pub until-more : (l : List ℕ) (i : ℕ) → i < length l → (getD l i 0 ≡ x → ⊥) → length (until x (drop i l)) ≡ length (until x (drop (i + 1) l)) + 1
+  until-more l i h e = rw (add-one i, drop-cons l i 0, ne-eqb (getD l i 0) x e, add-one)
 
--- a word is that many bytes of its line, and what follows the word and a space is the rest
-pub head-take : (l : List ℕ) → take (length (headOf l)) l ≡ headOf l
-head-take [] = refl
-head-take (b ∷ l) = split (eqb b 32) (λ q. rw q) (λ q. rw (q, head-take l))
+  pub until-end : (l : List ℕ) (i : ℕ) → length l ≤ i → length (until x (drop i l)) ≡ 0
+  until-end l i h = rw (drop-of-length-le l h)
 
-pub tail-drop : (l : List ℕ) → drop (suc (length (headOf l))) l ≡ tailOf l
-tail-drop [] = refl
-tail-drop (b ∷ l) = split (eqb b 32) (λ q. rw q) (λ q. rw q (tail-drop l))
+  -- they begin the list, and what follows them and an x is the rest
+  pub until-short : (l : List ℕ) → length (until x l) ≤ length l
+  until-short [] = omega arith
+  until-short (b ∷ l) = split (eqb b x) (λ q. rw q (omega arith)) (λ q. rw q (omega (arith, until-short l)))
 
--- a word that is all of its line has nothing after it
-pub tail-none : (l : List ℕ) → length (headOf l) ≡ length l → tailOf l ≡ []
-tail-none [] h = refl
-tail-none (b ∷ l) h = split (eqb b 32) (λ q. absurd (let z = rw q at h in omega arith)) (λ q. rw q (tail-none l (let z = rw q at h in omega arith)))
+  pub until-take : (l : List ℕ) → take (length (until x l)) l ≡ until x l
+  until-take [] = refl
+  until-take (b ∷ l) = split (eqb b x) (λ q. rw q) (λ q. rw (q, until-take l))
+
+  pub beyond-short : (l : List ℕ) → length (beyond x l) ≤ length l
+  beyond-short [] = omega arith
+  beyond-short (b ∷ l) = split (eqb b x) (λ q. rw q (omega arith)) (λ q. rw q (omega (arith, beyond-short l)))
+
+  pub beyond-drop : (l : List ℕ) → drop (suc (length (until x l))) l ≡ beyond x l
+  beyond-drop [] = refl
+  beyond-drop (b ∷ l) = split (eqb b x) (λ q. rw q) (λ q. rw q (beyond-drop l))
+
+  -- a list without an x has nothing behind one
+  pub beyond-none : (l : List ℕ) → length (until x l) ≡ length l → beyond x l ≡ []
+  beyond-none [] h = refl
+  beyond-none (b ∷ l) h = split (eqb b x) (λ q. absurd (let z = rw q at h in omega arith)) (λ q. rw q (beyond-none l (let z = rw q at h in omega arith)))
+
+  -- an x stands behind them, unless they are all of the list
+  pub until-some : (l : List ℕ) → length (until x l) < length l → has x l ≡ true
+  until-some [] h = absurd (omega arith)
+  until-some (b ∷ l) h = split (eqb b x) (λ q. rw q) (λ q. rw q (until-some l (let z = rw q at h in omega arith)))
+
+  pub until-all : (l : List ℕ) → length (until x l) ≡ length l → has x l ≡ false
+  until-all [] h = refl
+  until-all (b ∷ l) h = split (eqb b x) (λ q. absurd (let z = rw q at h in omega arith)) (λ q. rw q (until-all l (let z = rw q at h in omega arith)))
+
+-- ---- words
 
 -- the part of a line from a place on, as it is lent
 pub from : (l : List ℕ) (at : ℕ) → take (length l - at) (drop at l) ≡ drop at l
@@ -50,16 +72,16 @@ past-end l at h = drop-of-length-le l {i = at} (omega arith)
 
 -- the word at a place, of n bytes, and where the next one starts
 pub word-here : (l : List ℕ) (at n : ℕ) → n ≡ length (headOf (take (length l - at) (drop at l))) → take n (take (length l - at) (drop at l)) ≡ headOf (drop at l)
-word-here l at n e = rw (e, from l at) (head-take (drop at l))
+word-here l at n e = rw (e, from l at) (until-take 32 (drop at l))
 
 pub next-here : (l : List ℕ) (at n : ℕ) → n ≡ length (headOf (take (length l - at) (drop at l))) → drop (at + n + 1) l ≡ tailOf (drop at l)
 next-here l at n e =
     let k : at + n + 1 ≡ at + suc n = omega arith in
-    rw (k, ← drop-drop (suc n) at l, e, from l at) (tail-drop (drop at l))
+    rw (k, ← drop-drop (suc n) at l, e, from l at) (beyond-drop 32 (drop at l))
 
 pub next-none : (l : List ℕ) (at n : ℕ) → n ≡ length (take (length l - at) (drop at l)) → n ≡ length (headOf (take (length l - at) (drop at l)))
     → drop (length l) l ≡ tailOf (drop at l)
-next-none l at n p e = rw drop-length (sym (tail-none (drop at l) (rw from at (sym e ∙ p))))
+next-none l at n p e = rw drop-length (sym (beyond-none 32 (drop at l) (rw from at (sym e ∙ p))))
 
 -- one word less to pass, and none
 pub after-one : (left : ℕ) (l m : List ℕ) → 0 < left → m ≡ tailOf l → afterOf (left - 1) m ≡ afterOf left l

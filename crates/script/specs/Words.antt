@@ -8,14 +8,21 @@ use Rattle.spec.specs.Tests.{_is_, _below_, _⇒_else_, all, same}
 use Rattle.script.specs.declared.words.Number.{Number}
 use Rattle.script.specs.declared.words.Number.the-variants.{Is, Bad}
 
+-- the bytes before the first x, and what follows it
+abbrev pub until : ℕ → List ℕ → List ℕ
+until x [] = []
+until x (b ∷ bs) = b is x ⇒ [] else b ∷ until x bs
+
+abbrev pub beyond : ℕ → List ℕ → List ℕ
+beyond x [] = []
+beyond x (b ∷ bs) = b is x ⇒ bs else beyond x bs
+
 -- the bytes before the first space, and what follows it
 abbrev pub headOf : List ℕ → List ℕ
-headOf [] = []
-headOf (b ∷ bs) = b is 32 ⇒ [] else b ∷ headOf bs
+headOf line = until 32 line
 
 abbrev pub tailOf : List ℕ → List ℕ
-tailOf [] = []
-tailOf (b ∷ bs) = b is 32 ⇒ bs else tailOf bs
+tailOf line = beyond 32 line
 
 -- what follows the first k words
 abbrev pub afterOf : ℕ → List ℕ → List ℕ

@@ -5,7 +5,7 @@ use Prim.Native.Nat.{ℕ, _+_, _-_, _<_, _≤_}
 use native.Mathlib.Omega.{arith}
 use lib.Dec.{eqb, ltb}
 use borrow.Author.Tests.{lt-ltb, le-ltb, eq-eqb, ne-eqb}
-use Rattle.spec.specs.Tests.{_⇒_else_}
+use Rattle.spec.specs.Tests.{_⇒_else_, _orElse_}
 
 pub here : {A : Type 0} (t : Bool) (a b r : A) → t ≡ true → r ≡ a → r ≡ (t ⇒ a else b)
 here true a b r e h = h
@@ -55,6 +55,13 @@ sum-above-2 a b n g h = lt-ltb n (a + b) (omega arith)
 
 pub sum-within : (a b n : ℕ) → a ≤ n → b ≤ n - a → ltb n (a + b) ≡ false
 sum-within a b n g h = le-ltb n (a + b) (omega arith)
+
+-- of two numbers the first that isn't 0; e is what was found for the first
+pub number-first : (e a b : ℕ) → e ≡ a → (e ≡ 0 → ⊥) → e ≡ (a orElse b)
+number-first e a b h ne = past (eqb a 0) b a e (isnt-through e a 0 h ne) h
+
+pub number-next : (e a b r : ℕ) → e ≡ a → e ≡ 0 → r ≡ b → r ≡ (a orElse b)
+number-next e a b r h z g = here (eqb a 0) b a r (is-through e a 0 h z) g
 
 -- for tests of the function's own numbers
 pub ruleset chain = (here, past, isnt-holds, isnt-fails, eq-eqb, ne-eqb, lt-ltb, le-ltb, sum-above-1, sum-above-2, sum-within)

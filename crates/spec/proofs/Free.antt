@@ -1,15 +1,16 @@
--- Each placed page takes a free frame; bytes written take none.
+-- Each placed page takes a free frame; bytes written take none. How many pages pieces have.
 use Prim.Native.Nat.{ℕ, zero, suc, _+_, _-_, _/_, _≤_, _<_}
 use native.Mathlib.Omega.{arith}
-use native.Mathlib.Nat.{not-suc-le-zero, le-of-suc-le-suc}
-use mathlib.Core.Path.{_≡_, refl, ap, ap₂, _∙_}
+use native.Mathlib.Nat.{not-suc-le-zero, le-of-suc-le-suc, add-assoc, add-zero}
+use mathlib.Core.Path.{_≡_, refl, sym, ap, ap₂, _∙_}
 use mathlib.Core.Bool.{false}
 use mathlib.Core.Option.{Option, none, some}
-use mathlib.Core.List.{List, [], _∷_}
+use mathlib.Core.List.{List, [], _∷_, _++_}
 use lib.Dec.{eqb}
-use lib.ListN.{length, getD, set, length-append}
+use lib.ListN.{length, getD, set, take, length-append}
 use borrow.Author.Tests.{eqb-true, ne-eqb, eq-eqb}
 use Rattle.spec.proofs.Bools.{split}
+use Rattle.spec.proofs.Lists.{take-next}
 use Rattle.spec.proofs.Search.{hit, miss}
 use Rattle.spec.proofs.Words.{used-word}
 use Rattle.spec.specs.Tests.{_is_}
@@ -62,6 +63,17 @@ length-pages f [] = refl
 length-pages f (g ∷ gs) =
     let k : ℕ = (g .range .end - g .range .start) / 4096 in
     length-append (pagesFrom f (g .perm) (g .range .start) k) (pagesOf f gs) ∙ ap₂ _+_ (length-from f (g .perm) (g .range .start) k) (length-pages f gs)
+
+-- pieces behind others, and one piece more
+pub count-append : (gs hs : List UserSegment) → pageCount (gs ++ hs) ≡ pageCount gs + pageCount hs
+count-append [] hs = omega arith
+count-append (g ∷ gs) hs = ap (λ (k : ℕ). (g .range .end - g .range .start) / 4096 + k) (count-append gs hs) ∙ sym (add-assoc ((g .range .end - g .range .start) / 4096) (pageCount gs) (pageCount hs))
+
+pub count-next : (us : List UserSegment) (d : UserSegment) (i : ℕ) → i < length us
+    → pageCount (take (i + 1) us) ≡ pageCount (take i us) + (getD us i d .range .end - getD us i d .range .start) / 4096
+count-next us d i h =
+    let u = getD us i d in
+    ap pageCount (take-next us i d h) ∙ count-append (take i us) (u ∷ []) ∙ ap (λ (k : ℕ). pageCount (take i us) + k) (add-zero ((u .range .end - u .range .start) / 4096))
 
 -- bytes written over change no word
 pub poke-book : (m : Store) (a b : ℕ) (o : Option ℕ) → poke m a b o .book ≡ m .book

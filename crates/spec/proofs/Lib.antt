@@ -1,5 +1,6 @@
 -- Laws of the definitions, which every crate's proofs cite, and the theorems that a reader wants of the definitions alone.
 pub mod Bools
+pub mod Lists
 pub mod Search
 pub mod Words
 pub mod Chain

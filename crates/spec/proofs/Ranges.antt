@@ -3,7 +3,7 @@ use Prim.Native.Nat.{ℕ, zero, suc, _+_, _*_, _-_, _/_, _≤_, _<_}
 use native.Mathlib.Omega.{arith}
 use native.Mathlib.Nat.{not-suc-le-zero, le-of-suc-le-suc, add-zero}
 use mathlib.Core.Path.{_≡_, refl}
-use mathlib.Core.Bool.{Bool, true, false}
+use mathlib.Core.Bool.{Bool, true, false, and-true}
 use borrow.Author.Tests.{ltb-false, ne-eqb}
 use Rattle.spec.proofs.Bools.{both, not-above}
 use Rattle.spec.specs.Tests.{_is_, _above_, _⇒_else_}
@@ -59,3 +59,7 @@ range-all mem w addr len h r =
         let a : ℕ = pageDown addr + 4096 * suc i in
         let q : pageDown a ≡ pageDown addr + 4096 * suc i = omega arith in
         rw q at (r .each a (omega arith) (omega arith))
+
+-- one byte
+pub range-one : (mem : Mem) (a : ℕ) → a + 1 ≤ uaddrtop → userRangeOk mem false a 1 ≡ cellOk false (mem (pageDown a))
+range-one mem a h = let one : (pageUp (a + 1) - pageDown a) / 4096 ≡ 1 = omega arith in rw (not-above (a + 1) uaddrtop h, one) (and-true (cellOk false (mem (pageDown a))))

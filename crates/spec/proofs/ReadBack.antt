@@ -12,7 +12,8 @@ use lib.Seq.{getD-append-add, take-at}
 use borrow.Author.Tests.{ltb-false, ne-eqb, eq-eqb}
 use Rattle.spec.proofs.Bools.{both, neither, not-true, not-above, within-test, within-not}
 use Rattle.spec.proofs.Ranges.{InRange, range-means, range-all}
-use Rattle.spec.proofs.Args.{args-means, length-string, length-pointers}
+use Rattle.spec.proofs.Args.{args-means, length-string, strings-append, strings-more, length-pointers}
+use Rattle.spec.proofs.Lists.{any-append}
 use Rattle.spec.specs.Tests.{_is_, _above_, within, _⇒_else_, any, has}
 use Rattle.spec.specs.Numbers.{argLimit, pageDown, le, leBytes, bytesFrom}
 use Rattle.spec.specs.Frames.{Cell, Mem}
@@ -108,10 +109,6 @@ abbrev nextPtr : ℕ → List (List ℕ) → ℕ
 nextPtr p [] = 0
 nextPtr p (a ∷ args) = p
 
-strings-append : (x y : List (List ℕ)) → strings (x ++ y) ≡ strings x ++ strings y
-strings-append [] y = refl
-strings-append (a ∷ x) y = rw (strings-append x y, append-assoc a (0 ∷ strings x) (strings y)) refl
-
 turn-end : (t z w f g : Bool) (u v x y q r : Argv) → t ≡ true → z ≡ true → (not t ⇒ u else z ⇒ v else not w ⇒ x else f ⇒ y else g ⇒ q else r) ≡ v
 turn-end t z w f g u v x y q r e₁ e₂ = rw (e₁, e₂)
 
@@ -149,8 +146,7 @@ module _ (mem : Mem) (A S : ℕ) (args : List (List ℕ))
       ap (λ (q : Str). take (q .size) (q .buffer)) st ∙ take-at a (drop (length a) argBuffer) (length a) refl in
       let l₁ : length (strings args) ≡ length (strings (before ++ a ∷ [])) + length (strings ys) = ap (λ (x : List (List ℕ)). length (strings x)) n ∙ ap length (strings-append (before ++ a ∷ []) ys) ∙ length-append (strings (before ++ a ∷ [])) (strings ys) in
       let l₂ : length (before ++ a ∷ []) ≡ length before + 1 = length-append before (a ∷ []) in
-      let l₃ : length (strings (before ++ a ∷ [])) ≡ length (strings before) + length (strings (a ∷ [])) = ap length (strings-append before (a ∷ [])) ∙ length-append (strings before) (strings (a ∷ [])) in
-      let l₄ : length (strings (a ∷ [])) ≡ length a + 1 + 0 = length-string a [] in
+      let l₃ = strings-more before a in
       let args′ : List (List ℕ) = before ++ take (copyStr mem argBuffer s .size) (copyStr mem argBuffer s .buffer) ∷ [] in
       let ea : args′ ≡ before ++ a ∷ [] = ap (λ (x : List ℕ). before ++ x ∷ []) ta in
       let big : (stackSize (length (strings (before ++ a ∷ []))) (length (before ++ a ∷ [])) above argLimit) ≡ false = not-above (stackSize (length (strings (before ++ a ∷ []))) (length (before ++ a ∷ []))) argLimit (omega arith) in
@@ -186,8 +182,7 @@ string-at : (before : List (List ℕ)) (a : List ℕ) (ys : List (List ℕ)) (j 
 string-at before a ys j = ap (λ (x : List ℕ). getD x (length (strings before) + j) 0) (strings-append before (a ∷ ys)) ∙ getD-append-add (strings before) (strings (a ∷ ys)) j 0
 
 no-nul : (before : List (List ℕ)) (a : List ℕ) (ys : List (List ℕ)) → any (has 0) (before ++ a ∷ ys) ≡ false → has 0 a ≡ false
-no-nul [] a ys e = neither (has 0 a) (any (has 0) ys) e .0
-no-nul (b ∷ before) a ys e = no-nul before a ys (neither (has 0 b) (any (has 0) (before ++ a ∷ ys)) e .1)
+no-nul before a ys e = neither (has 0 a) (any (has 0) ys) (neither (any (has 0) before) (any (has 0) (a ∷ ys)) (sym (any-append (has 0) before (a ∷ ys)) ∙ e) .1) .0
 
 -- ---- all together
 

@@ -9,6 +9,7 @@ use lib.ListN.{length, getD, take, drop, length-append, length-drop}
 use lib.Seq.{take-add, length-take-le}
 use Rattle.spec.specs.Tests.{_is_, _isnt_, has}
 use Rattle.spec.proofs.Bools.{neither}
+use Rattle.spec.proofs.Lists.{any-append}
 use Rattle.strings.specs.Nul.{toNul}
 use Rattle.laws.proofs.Overwrite.{mix}
 
@@ -39,13 +40,8 @@ none-next s i h = rw (add-one i) (along s i h)
 pub none-block : (s : List ℕ) (k n : ℕ) → has 0 (take k s) ≡ false → has 0 (take (k + n - k) (drop k s)) ≡ false → has 0 (take (k + n) s) ≡ false
 none-block s k n a b =
     let e : k + n - k ≡ n = omega arith in
-    rw (take-add k n s) (joined (take k s) (take n (drop k s)) a (rw e at b))
-  where
-    joined : (x y : List ℕ) → has 0 x ≡ false → has 0 y ≡ false → has 0 (x ++ y) ≡ false
-    joined [] y a b = b
-    joined (v ∷ x) y a b =
-        let f = neither (v is 0) (has 0 x) a in
-        rw (f .0) (joined x y (f .1) b)
+    let none : has 0 (take n (drop k s)) ≡ false = rw e at b in
+    rw (take-add k n s) (any-append (λ c. c is 0) (take k s) (take n (drop k s)) ∙ rw (a, none))
 
 -- the first NUL stands behind them
 pub nul-behind : (s : List ℕ) (k : ℕ) → k ≤ length s → has 0 (take k s) ≡ false → toNul s ≡ k + toNul (drop k s)

@@ -1,15 +1,14 @@
 -- `copies::user_bytes` meets its contract.
-use Prim.Native.Nat.{ℕ, _+_, _-_, _<_}
+use Prim.Native.Nat.{ℕ, _+_, _-_}
 use native.Mathlib.Omega.{arith}
 use mathlib.Core.Path.{_≡_, ap, _∙_}
 use mathlib.Core.Bool.{false}
-use mathlib.Core.Option.{some}
-use lib.ListN.{length, take, drop}
+use lib.ListN.{take, drop}
 use denote.Ref.{now}
 use borrow.Author.Needs.{needs}
 use Rattle.spec.specs.Numbers.{pageDown}
-use Rattle.spec.specs.Book.{frameOf}
-use Rattle.ranges.proofs.Found.{found-at, found-nothing}
+use Rattle.book.proofs.Searches.{Framed, page-found}
+use Rattle.ranges.proofs.Found.{found-nothing}
 use Rattle.copies.proofs.Copies.{unmapped, bytes-page}
 use Rattle.copies.proofs.user_bytes.Statement.{statement}
 use Rattle.copies.proofs.user_bytes.Tie as tie
@@ -43,14 +42,14 @@ module _ (c : tie.After-k) where
   abbrev start : tie.Start
   start = c .before .before .before .before .before
 
-  found : (frameOf (now (start .args .book)) (start .args .number) (pageDown (start .args .va)) ≡ some (c .k .given .0 .0)) × (c .k .given .0 .0 < length (now (start .args .book)))
-  found = found-at (now (start .args .book)) (start .args .number) (pageDown (start .args .va)) _ _ (c .before .before .frame-at .ensures) (c .k .given .1)
+  found : Framed (now (start .args .book)) (start .args .number) (pageDown (start .args .va)) (c .k .given .0 .0)
+  found = page-found (now (start .args .book)) (start .args .number) (pageDown (start .args .va)) _ _ (c .before .before .frame-at .ensures) (c .k .given .1)
 
 phys-requires : tie.Need-phys-requires
-phys-requires c κs = omega (arith, found (c .before) .1)
+phys-requires c κs = omega (arith, found (c .before) .there)
 
 add-e : tie.Need-add-e
-add-e c = omega (arith, found (c .before .before) .1, c .phys .ensures)
+add-e c = omega (arith, found (c .before .before) .there, c .phys .ensures)
 
 sub-result-2 : tie.Need-sub-result-2
 sub-result-2 c = search needs
@@ -59,7 +58,7 @@ part-result-start-2 : tie.Need-part-result-start-2
 part-result-start-2 c = search needs
 
 part-result-end-2 : tie.Need-part-result-end-2
-part-result-end-2 c = omega (arith, found (c .before .before) .1, c .phys .ensures)
+part-result-end-2 c = omega (arith, found (c .before .before) .there, c .phys .ensures)
 
 returns-2 : tie.Need-returns-2
 returns-2 c =
@@ -68,7 +67,7 @@ returns-2 c =
     let at = c .before .phys .result .0 in
     let n : at + a .n - at ≡ a .n = omega arith in
     ap (λ (i : ℕ). take i (drop at (now (a .frames)))) n ∙ ap (λ (i : ℕ). take (a .n) (drop i (now (a .frames)))) (c .before .phys .ensures)
-    ∙ bytes-page (now (a .frames)) (now (a .book)) (a .number) (a .va) _ (a .n) (start k .pre .0 .0) (found k .0) (start k .pre .1 .0)
+    ∙ bytes-page (now (a .frames)) (now (a .book)) (a .number) (a .va) _ (a .n) (start k .pre .0 .0) (found k .is) (start k .pre .1 .0)
 
 pub user-bytes-spec : {M : Type 1} → statement M
 user-bytes-spec =

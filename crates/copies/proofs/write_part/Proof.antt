@@ -1,15 +1,11 @@
 -- `copies::write_part` meets its contract.
-use Prim.Native.Nat.{_<_}
 use native.Mathlib.Omega.{arith}
-use mathlib.Core.Path.{_≡_}
 use mathlib.Core.Bool.{true}
-use mathlib.Core.Option.{some}
-use lib.ListN.{length}
 use denote.Ref.{now}
 use borrow.Author.Needs.{needs}
 use Rattle.spec.specs.Numbers.{pageDown}
-use Rattle.spec.specs.Book.{frameOf}
-use Rattle.ranges.proofs.Found.{found-at, found-nothing}
+use Rattle.book.proofs.Searches.{Framed, page-found}
+use Rattle.ranges.proofs.Found.{found-nothing}
 use Rattle.copies.proofs.Copies.{unmapped, write-page}
 use Rattle.copies.proofs.write_part.Statement.{statement}
 use Rattle.copies.proofs.write_part.Tie as tie
@@ -34,14 +30,14 @@ module _ (c : tie.After-k) where
   abbrev start : tie.Start
   start = c .before .before .before .before .before .before
 
-  found : (frameOf (now (start .args .book)) (start .args .number) (pageDown (start .args .va)) ≡ some (c .k .given .0 .0)) × (c .k .given .0 .0 < length (now (start .args .book)))
-  found = found-at (now (start .args .book)) (start .args .number) (pageDown (start .args .va)) _ _ (c .before .before .frame-at .ensures) (c .k .given .1)
+  found : Framed (now (start .args .book)) (start .args .number) (pageDown (start .args .va)) (c .k .given .0 .0)
+  found = page-found (now (start .args .book)) (start .args .number) (pageDown (start .args .va)) _ _ (c .before .before .frame-at .ensures) (c .k .given .1)
 
 phys-requires : tie.Need-phys-requires
-phys-requires c κs = omega (arith, found (c .before) .1)
+phys-requires c κs = omega (arith, found (c .before) .there)
 
 add-e : tie.Need-add-e
-add-e c = omega (arith, found (c .before .before) .1, c .phys .ensures)
+add-e c = omega (arith, found (c .before .before) .there, c .phys .ensures)
 
 sub-copy : tie.Need-sub-copy
 sub-copy c = search needs
@@ -50,7 +46,7 @@ part-copy-start : tie.Need-part-copy-start
 part-copy-start c = search needs
 
 part-copy-end : tie.Need-part-copy-end
-part-copy-end c = omega (arith, found (c .before .before) .1, c .phys .ensures)
+part-copy-end c = omega (arith, found (c .before .before) .there, c .phys .ensures)
 
 copy-requires : tie.Need-copy-requires
 copy-requires c κs = search needs
@@ -62,7 +58,7 @@ returns-2 : tie.Need-returns-2
 returns-2 c =
     let k = c .before .before .before .before .before .before in
     let a = start k .args in
-    write-page (now (a .frames)) (now (a .book)) (now (a .bytes)) _ (a .number) (a .va) _ _ (start k .pre .0 .0) (found k .0) (start k .pre .1 .0) (c .before .before .before .before .phys .ensures) (c .before .before .copy .ensures)
+    write-page (now (a .frames)) (now (a .book)) (now (a .bytes)) _ (a .number) (a .va) _ _ (start k .pre .0 .0) (found k .is) (start k .pre .1 .0) (c .before .before .before .before .phys .ensures) (c .before .before .copy .ensures)
 
 pub write-part-spec : {M : Type 1} → statement M
 write-part-spec =

@@ -15,6 +15,7 @@ use Rattle.spec.specs.World.{State}
 use Rattle.spec.specs.declared.UserSegment.{UserSegment}
 use Rattle.spec.specs.declared.Proc.{Proc}
 use Rattle.spec.proofs.Bools.{within-means}
+use Rattle.spec.proofs.Lists.{take-next}
 use Rattle.laws.proofs.Lists.{Each, each-at}
 use Rattle.laws.proofs.Frame.{Fits}
 use Rattle.laws.proofs.Record.{Whole}
@@ -25,7 +26,7 @@ use Rattle.records.proofs.Whole.{whole-procs}
 use Rattle.front.specs.Numbers.{stateOf}
 use Rattle.front.proofs.First.{Forks, fork-none, fork-other, sizes-words}
 use Rattle.front.proofs.Living.{passed-sound, living-shape}
-use Rattle.front.proofs.Own.{take-more, pages-own}
+use Rattle.front.proofs.Own.{pages-own}
 use Rattle.fork.proofs.Forked.{mapped-still, Copied, copied-none, copied-more, copyable-segments, copyable-bss}
 use Rattle.fork.specs.Lent.{Copyable, Tells}
 use Rattle.fork.proofs.Told.{tells-first}
@@ -122,7 +123,7 @@ loop-again c =
       v .1,
       s .kept .0 ∙ v .2,
       s .kept .1 .0 ∙ v .3,
-      subst (Copied (store (now (a .args .frames)) (now (a .args .book))) _ (a .args .number) (a .args .child)) (sym (take-more _ (t .before .loop .i) (omega arith)))
+      subst (Copied (store (now (a .args .frames)) (now (a .args .book))) _ (a .args .number) (a .args .child)) (sym (take-next _ (t .before .loop .i) zeroSegment (omega arith)))
           (copied-more _ (store (t .before .loop .frames) (t .before .loop .book)) _ (a .args .number) (a .args .child) _ _ (fits a) (numbers a .3) (other a) (v .4) (at-place t) (s .ensures .0)),
       s .ensures .1 .0,
       s .ensures .1 .1,

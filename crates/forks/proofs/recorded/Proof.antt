@@ -1,7 +1,8 @@
 use mathlib.Core.Path.{sym, _∙_}
 use Prim.Native.Nat.{_-_}
 use borrow.Author.Needs.{needs}
-use Rattle.forks.proofs.Judged.{un-not, record-none, record-some}
+use Rattle.spec.proofs.Bools.{un-not}
+use Rattle.forks.proofs.Judged.{record-none, record-some}
 use Rattle.forks.proofs.recorded.Statement.{statement}
 use Rattle.forks.proofs.recorded.Tie as tie
 

@@ -1,12 +1,11 @@
 -- `mem::page_count` meets its contract. The invariant: the pages of the segments passed.
 use mathlib.Core.Path.{_≡_, refl, sym, ap, _∙_}
-use mathlib.Core.List.{List}
 use Prim.Native.Nat.{ℕ, _+_, _-_, _*_, _^_, _≤_}
 use native.Mathlib.Omega.{arith}
 use lib.ListN.{length, take}
 use borrow.Author.Needs.{needs}
 use Rattle.spec.specs.Book.{zeroSegment, pageCount}
-use Rattle.laws.proofs.Pieces.{count-next}
+use Rattle.spec.proofs.Free.{count-next}
 use Rattle.mem.proofs.page_count.Statement.{statement}
 use Rattle.mem.proofs.page_count.Tie as tie
 

@@ -1,14 +1,10 @@
 -- `ranges::user_page_ok` meets its contract.
-use Prim.Native.Nat.{_<_}
 use native.Mathlib.Omega.{arith}
-use mathlib.Core.Path.{_≡_}
-use mathlib.Core.Option.{some}
-use lib.ListN.{length}
 use denote.Ref.{now}
 use borrow.Author.Needs.{needs}
 use Rattle.spec.specs.Numbers.{pageDown}
-use Rattle.spec.specs.Book.{frameOf}
-use Rattle.ranges.proofs.Found.{found-at, found-nothing, page-none, page-some}
+use Rattle.book.proofs.Searches.{Framed, page-found}
+use Rattle.ranges.proofs.Found.{found-nothing, page-none, page-some}
 use Rattle.ranges.proofs.user_page_ok.Statement.{statement}
 use Rattle.ranges.proofs.user_page_ok.Tie as tie
 
@@ -32,14 +28,14 @@ module _ (c : tie.After-k) where
   abbrev start : tie.Start
   start = c .before .before .before .before
 
-  found : (frameOf (now (start .args .book)) (start .args .number) (pageDown (start .args .va)) ≡ some (c .k .given .0 .0)) × (c .k .given .0 .0 < length (now (start .args .book)))
-  found = found-at (now (start .args .book)) (start .args .number) (pageDown (start .args .va)) _ _ (c .before .before .frame-at .ensures) (c .k .given .1)
+  found : Framed (now (start .args .book)) (start .args .number) (pageDown (start .args .va)) (c .k .given .0 .0)
+  found = page-found (now (start .args .book)) (start .args .number) (pageDown (start .args .va)) _ _ (c .before .before .frame-at .ensures) (c .k .given .1)
 
 mul-perm-of : tie.Need-mul-perm-of
-mul-perm-of c = omega (arith, found (c .before) .1)
+mul-perm-of c = omega (arith, found (c .before) .there)
 
 shared-slice-read-perm-of : tie.Need-shared-slice-read-perm-of
-shared-slice-read-perm-of c = found (c .before .before) .1
+shared-slice-read-perm-of c = found (c .before .before) .there
 
 perm-of-requires : tie.Need-perm-of-requires
 perm-of-requires c κs = search needs
@@ -48,7 +44,7 @@ returns-2 : tie.Need-returns-2
 returns-2 c frames =
     let k = c .before .before .before in
     let a = start k .args in
-    page-some (a .write) frames (now (a .book)) (a .number) (a .va) _ _ (found k .0) (c .perm-of .ensures)
+    page-some (a .write) frames (now (a .book)) (a .number) (a .va) _ _ (found k .is) (c .perm-of .ensures)
 
 pub user-page-ok-spec : {M : Type 1} → statement M
 user-page-ok-spec =

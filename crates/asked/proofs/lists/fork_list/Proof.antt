@@ -11,10 +11,12 @@ use Rattle.spec.specs.World.{State, Does}
 use Rattle.spec.specs.declared.Proc.{Proc}
 use Rattle.spec.specs.declared.UserSegment.{UserSegment}
 use Rattle.spec.proofs.Bools.{not-true, un-not}
+use Rattle.spec.proofs.Lists.{same-means}
+use Rattle.laws.proofs.Record.{same-is}
 use Rattle.front.specs.Numbers.{stateOf, call, numberError}
 use Rattle.front.proofs.First.{number-none}
 use Rattle.asked.specs.Lists.{listOf}
-use Rattle.asked.proofs.Forking.{list-refused, list-unlike, like-is}
+use Rattle.asked.proofs.Forking.{list-refused, list-unlike}
 use borrow.Author.Needs.{needs}
 use Rattle.asked.proofs.lists.fork_list.Statement.{statement}
 use Rattle.asked.proofs.lists.fork_list.Tie as tie
@@ -47,7 +49,7 @@ returns-2 c = list-unlike (state (c .before .before .before .before .before .bef
 returns-3 : tie.Need-returns-3
 returns-3 c =
     let a = c .before .before .before .before .before .before .before .before .before .before .before .before .before .before .before .before .before .before .args in
-    let like = like-is (list (c .before .before .before .before .before .before .before .before .before .before .before .before .before .before .before .before .before .before)) (used (procAt (a .procs) (a .number) .segments)) (tested (c .before .before .before .before .before .before .before .before) ∙ un-not (c .before .before .before .before .before .before .before .before .is-recorded .result) (c .before .before .before .before .before .before .before .if2 .left)) in
+    let like = same-means sameSegment same-is (list (c .before .before .before .before .before .before .before .before .before .before .before .before .before .before .before .before .before .before)) (used (procAt (a .procs) (a .number) .segments)) (tested (c .before .before .before .before .before .before .before .before) ∙ un-not (c .before .before .before .before .before .before .before .before .is-recorded .result) (c .before .before .before .before .before .before .before .if2 .left)) in
     subst (λ (gs : List UserSegment). Does (state (c .before .before .before .before .before .before .before .before .before .before .before .before .before .before .before .before .before .before)) (call (a .number) (fork (a .child) gs)) (stateOf (c .before .before .before .before .fork .last .0) (c .before .before .before .before .fork .last .1 .0) (c .before .before .before .before .fork .result .procs)) (plainly (c .before .before .before .before .fork .result .answer))) (sym like) (c .before .before .before .before .fork .ensures)
 
 pub fork-list-spec : {M : Type 1} → statement M

@@ -3,17 +3,17 @@
 use mathlib.Core.Path.{_≡_, refl, sym, ap, _∙_}
 use mathlib.Core.Option.{Option, some}
 use mathlib.Core.List.{List}
-use Prim.Native.Nat.{ℕ, _-_, _<_}
+use Prim.Native.Nat.{ℕ, _-_}
 use native.Mathlib.Omega.{arith}
 use denote.Ref.{now}
-use lib.ListN.{length, getD}
 use Rattle.spec.specs.Book.{frameOf}
 use Rattle.spec.specs.Frames.{Store, memOf, hold, frameBytes}
 use Rattle.book.specs.Lent.{store}
+use Rattle.book.proofs.Searches.{Framed, page-found}
 use Rattle.pagealloc.proofs.Placing.{Ran, ran-start, ran-turn, ran-full, ran-end, free-found, free-word}
 use Rattle.pagealloc.proofs.Copying.{mapped-same, not-missing, copied-turn}
 use Rattle.fork.specs.Lent.{Tells}
-use Rattle.fork.proofs.Told.{tells-turn, told-is, told-at}
+use Rattle.fork.proofs.Told.{tells-turn, told-is}
 use borrow.Author.Needs.{needs}
 use Rattle.fork.proofs.copy.copy_segment.Statement.{statement}
 use Rattle.fork.proofs.copy.copy_segment.Tie as tie
@@ -48,11 +48,11 @@ there c =
     mapped-same (store (now (a .frames)) (now (a .book))) (store (l .frames) (l .book)) (a .parent) (l .page) (p .0) (l .inv .1) (l .inv .0 .aligned) (p .1)
 
 -- which the lists tell
-from-is : (c : tie.After-from Inv-loop μ-loop) → (frameOf (c .before .before .before .before .loop .book) (c .before .before .before .before .before .before .before .before .args .parent) (c .before .before .before .before .loop .page) ≡ some (c .from .given .0 .0)) × (c .from .given .0 .0 < length (c .before .before .before .before .loop .book)) × (getD (c .before .before .before .before .loop .book) (c .from .given .0 .0) 0 ≡ 0 → ⊥)
+from-is : (c : tie.After-from Inv-loop μ-loop) → Framed (c .before .before .before .before .loop .book) (c .before .before .before .before .before .before .before .before .args .parent) (c .before .before .before .before .loop .page) (c .from .given .0 .0)
 from-is c =
     let l = c .before .before .before .before .loop in
     let f = c .before .before .frame-at in
-    told-at (l .book) (c .before .before .before .before .before .before .before .before .args .parent) (l .page) (c .from .given .0 .0) (f .result) (told-is (l .book) _ _ _ (c .before .before .before .before .before .before .before .before .args .parent) (l .page) (f .result) (l .inv .2) (f .ensures)) (c .from .given .1)
+    page-found (l .book) (c .before .before .before .before .before .before .before .before .args .parent) (l .page) (c .from .given .0 .0) (f .result) (told-is (l .book) _ _ _ (c .before .before .before .before .before .before .before .before .args .parent) (l .page) (f .result) (l .inv .2) (f .ensures)) (c .from .given .1)
 
 frame-at-requires : tie.Need-frame-at-requires Inv-loop μ-loop
 frame-at-requires c κs = c .before .loop .inv .2 .ready .plan
@@ -112,7 +112,7 @@ hold-copied-requires c κs =
     let found = free-found (l .book) (l .c) (l .inv .0 .passed) (k .k .given .0 .0) e in
     let word = free-word (l .book) (l .c) (l .inv .0 .passed) (k .k .given .0 .0) e in
     let from = from-is (k .before .before .before .before .before) in
-    ((omega (arith, start .pre .0 .0), found .0, word), (from .1, from .2, start .pre .0 .4, start .pre .1 .0 .3, omega (arith, start .pre .1 .0 .2)))
+    ((omega (arith, start .pre .0 .0), found .0, word), (from .there, from .used, start .pre .0 .4, start .pre .1 .0 .3, omega (arith, start .pre .1 .0 .2)))
 
 add-page : tie.Need-add-page Inv-loop μ-loop
 add-page c = omega arith
@@ -133,7 +133,7 @@ loop-again c =
     let e = sym (k .k .given .1) ∙ k .before .before .free-below .ensures in
     let found = free-found (l .book) (l .c) (l .inv .0 .passed) (k .k .given .0 .0) e in
     let word = free-word (l .book) (l .c) (l .inv .0 .passed) (k .k .given .0 .0) e in
-    let from = from-is (k .before .before .before .before .before) .0 in
+    let from = from-is (k .before .before .before .before .before) .is in
     let eu = held .hold-copied .ensures ∙ ap (λ (o : Option ℕ). hold t (a .child) (record { page = l .page; perm = g .perm; bytes = frameBytes (l .frames) o }) (some (k .k .given .0 .0))) (sym from) in
     let turn = copied-turn m t _ (a .parent) (a .child) (g .perm) (l .page) (k .before .before .before .before .before .from .given .0 .0) (k .k .given .0 .0) (start .pre .0 .0) (omega (arith, start .pre .0 .0, l .inv .0 .frames, l .inv .0 .book)) (l .inv .1) (start .pre .0 .5) (start .pre .0 .4) (start .pre .1 .0 .3)
     (l .inv .0 .aligned) from (found .1) eu in (

@@ -3,7 +3,8 @@ use mathlib.Core.Path.{refl, ap}
 use mathlib.Core.Bool.{not}
 use borrow.Author.Needs.{needs}
 use Rattle.front.specs.Numbers.{beginError}
-use Rattle.front.proofs.First.{given, further, number-first, number-next}
+use Rattle.spec.proofs.Chain.{number-first, number-next}
+use Rattle.front.proofs.First.{given, further}
 use Rattle.front.proofs.numbers.begin_error.Statement.{statement}
 use Rattle.front.proofs.numbers.begin_error.Tie as tie
 

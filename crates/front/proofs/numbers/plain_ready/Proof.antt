@@ -3,7 +3,8 @@ use native.Mathlib.Omega.{arith}
 use mathlib.Core.Path.{refl}
 use borrow.Author.Needs.{needs}
 use Rattle.front.specs.Numbers.{plainError}
-use Rattle.front.proofs.First.{given, further, number-first, number-next}
+use Rattle.spec.proofs.Chain.{number-first, number-next}
+use Rattle.front.proofs.First.{given, further}
 use Rattle.front.proofs.numbers.plain_ready.Statement.{statement}
 use Rattle.front.proofs.numbers.plain_ready.Tie as tie
 

@@ -1,14 +1,13 @@
 -- `pagealloc::user::write_user` meets its contract. The loop's invariant: the first `i` bytes are written.
 use mathlib.Core.Path.{_≡_, refl, sym, _∙_}
-use mathlib.Core.Option.{some}
-use Prim.Native.Nat.{_+_, _-_, _≤_, _<_}
+use Prim.Native.Nat.{_+_, _-_, _≤_}
 use native.Mathlib.Omega.{arith}
 use denote.Ref.{now}
 use lib.ListN.{length, take, length-take, length-drop}
 use Rattle.spec.specs.Numbers.{pageDown}
-use Rattle.spec.specs.Book.{frameOf}
 use Rattle.spec.specs.Frames.{pokes}
 use Rattle.book.specs.Lent.{store}
+use Rattle.book.proofs.Searches.{Framed}
 use Rattle.pagealloc.proofs.Chunks.{frame-at, not-missed, write-none, write-turn, write-all}
 use borrow.Author.Needs.{needs}
 use Rattle.pagealloc.proofs.user.write_user.Statement.{statement}
@@ -22,9 +21,8 @@ abbrev μ-loop : tie.MeasureT-loop
 
 -- the frame of the next byte's page
 framed : (c : tie.After-k Inv-loop μ-loop)
-    → (c .k .given .0 .0 < length (now (c .before .before .before .before .before .before .before .before .before .args .book)))
-    × (frameOf (now (c .before .before .before .before .before .before .before .before .before .args .book)) (c .before .before .before .before .before .before .before .before .before .args .owner)
-    (pageDown (c .before .before .before .before .before .before .before .before .before .args .addr + c .before .before .before .before .before .loop .i)) ≡ some (c .k .given .0 .0))
+    → Framed (now (c .before .before .before .before .before .before .before .before .before .args .book)) (c .before .before .before .before .before .before .before .before .before .args .owner)
+    (pageDown (c .before .before .before .before .before .before .before .before .before .args .addr + c .before .before .before .before .before .loop .i)) (c .k .given .0 .0)
 framed c =
     let a = c .before .before .before .before .before .before .before .before .before .args in
     frame-at (now (a .book)) (a .owner) (a .addr + c .before .before .before .before .before .loop .i) (c .before .before .before .page-down .result) (c .k .given .0 .0) (c .before .before .before .page-down .ensures)
@@ -106,7 +104,7 @@ loop-again c =
     let n = written .before .before .before .before .least .ensures in (
       omega arith,
       omega arith,
-      write-turn (store (now (a .frames)) (now (a .book))) (l .frames) _ (now (a .book)) (now (a .bytes)) (a .owner) (a .addr) (l .i) _ (k .k .given .0 .0) _ (omega arith) (l .inv .2) (omega arith) (omega arith) (f .1) (omega arith)
+      write-turn (store (now (a .frames)) (now (a .book))) (l .frames) _ (now (a .book)) (now (a .bytes)) (a .owner) (a .addr) (l .i) _ (k .k .given .0 .0) _ (omega arith) (l .inv .2) (omega arith) (omega arith) (f .is) (omega arith)
           (written .before .before .phys .ensures) (written .write-phys .ensures),
     )
 

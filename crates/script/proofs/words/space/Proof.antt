@@ -4,7 +4,7 @@ use Prim.Native.Nat.{_+_, _-_, _≤_}
 use native.Mathlib.Omega.{arith}
 use denote.Ref.{now}
 use lib.ListN.{length, drop}
-use Rattle.script.proofs.Splits.{head-space, head-more, head-end}
+use Rattle.script.proofs.Splits.{until-here, until-more, until-end}
 use Rattle.script.specs.Words.{headOf}
 use Rattle.script.proofs.words.space.Statement.{statement}
 use Rattle.script.proofs.words.space.Tie as tie
@@ -22,7 +22,7 @@ shared-slice-read-if1 : tie.Need-shared-slice-read-if1 Inv-loop μ-loop
 shared-slice-read-if1 c = omega arith
 
 returns : tie.Need-returns Inv-loop μ-loop
-returns c = omega (arith, head-space (now (c .before .before .before .before .args .line)) (c .before .before .before .loop .i) (c .before .before .loop-test .taken) (c .if1 .taken))
+returns c = omega (arith, until-here 32 (now (c .before .before .before .before .args .line)) (c .before .before .before .loop .i) (c .before .before .loop-test .taken) (c .if1 .taken))
 
 add-i : tie.Need-add-i Inv-loop μ-loop
 add-i c = omega arith
@@ -31,10 +31,10 @@ loop-less : tie.Need-loop-less Inv-loop μ-loop
 loop-less c = omega arith
 
 loop-again : tie.Need-loop-again Inv-loop μ-loop
-loop-again c = omega (arith, head-more (now (c .before .before .before .before .args .line)) (c .before .before .before .loop .i) (c .before .before .loop-test .taken) (c .if1 .left))
+loop-again c = omega (arith, until-more 32 (now (c .before .before .before .before .args .line)) (c .before .before .before .loop .i) (c .before .before .loop-test .taken) (c .if1 .left))
 
 returns-2 : tie.Need-returns-2 Inv-loop μ-loop
-returns-2 c = omega (arith, head-end (now (c .before .before .args .line)) (c .before .loop .i) (c .loop-test .left))
+returns-2 c = omega (arith, until-end 32 (now (c .before .before .args .line)) (c .before .loop .i) (c .loop-test .left))
 
 pub space-spec : {M : Type 1} → statement M
 space-spec =
