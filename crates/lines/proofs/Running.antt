@@ -115,8 +115,8 @@ pub shown-step : (g : Stage) (line : List ℕ) {text : List ℕ} {r : Step} {out
     → RunsBy (λ given. shownTurn g text) line (stageOf (g .frames) (g .book) (r .world)) out (r .size)
 shown-step g line h = record { given = plain line; known = plain-reads line; left = ap (stageOf (g .frames) (g .book)) (h .world); said = h .said .bytes; room = h .said .room }
 
-pub nothing-shown : (g : Stage) (line : List ℕ) {out : List ℕ} → RunsBy (λ given. shownTurn g []) line g out 0
-nothing-shown g line = record { given = plain line; known = plain-reads line; left = refl; said = refl; room = omega arith }
+pub shown-nothing : (g : Stage) (line : List ℕ) {out : List ℕ} → RunsBy (λ given. shownTurn g []) line g out 0
+shown-nothing g line = record { given = plain line; known = plain-reads line; left = refl; said = refl; room = omega arith }
 
 -- what is held once a call has left its records
 pub after : {t : Reading → Turn} {line : List ℕ} {w : World} {p : Procs} {r : Step} {f b out : List ℕ} {n : ℕ} → r ≡ record { world = withProcs w p; size = n } → Lends w

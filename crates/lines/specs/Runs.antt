@@ -20,6 +20,7 @@ use Rattle.lent_lines.specs.declared.World.{World}
 use Rattle.lent_lines.specs.Lent.{worldAfter, worldText, fillOf, framesWorld, framesBytes, framesBook, lendOf, wordWorld, wordBook, sumLine}
 use Rattle.shown_lines.specs.Rule.{bssWords, ruleLine}
 use Rattle.shown_lines.specs.Name.{nameLine}
+use Rattle.map_lines.specs.Table.{mapLine}
 
 -- all that a script has made: the bytes of frames, the words of the book, and what is held besides
 pub record Stage : Type 0 where
@@ -75,7 +76,7 @@ turn g String line given = callTurn g (stringAsks line given)
 turn g Rule line given = shownTurn g (ruleLine (bssWords (wordOf 1 line) (wordOf 2 line)) (numberOf 3 line) (numberOf 4 line))
 turn g Name line given = shownTurn g (nameLine (given 1))
 turn g Sum line given = shownTurn g (sumLine (g .world) (g .frames) (g .book))
-turn g Map line given = shownTurn g (ascii "bad line\n")
+turn g Map line given = shownTurn g (mapLine (numberOf 1 line) (g .world .procs) (take (g .world .count) (g .book)))
 turn g Blank line given = shownTurn g []
 turn g Bad line given = shownTurn g (ascii "bad line\n")
 

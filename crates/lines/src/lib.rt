@@ -2,9 +2,12 @@
 // the files that words name, and nothing is written.
 ghost use mathlib.Core.Path.{_≡_};
 ghost use Prim.Native.Nat.{_≤_};
-ghost use lib.ListN.{length};
+ghost use lib.ListN.{length, take};
 ghost use Rattle.front.specs.Numbers.{stateOf};
+ghost use Rattle.line.specs.Words.{numberOf};
+ghost use Rattle.line.specs.Texts.{Says};
 ghost use Rattle.line.specs.Asks.{Answers};
+ghost use Rattle.map_lines.specs.Table.{mapLine};
 ghost use Rattle.lent_lines.specs.Lent.{Lends};
 ghost use Rattle.lines.specs.Runs.{stageOf, withProcs, turn, RunsBy, Runs, asksOf, asCall};
 use lent_lines::Step;
@@ -90,6 +93,18 @@ fn call(
     after_call(w, said)
 }
 
+// map NUMBER: over the book of all frames, whatever is lent.
+fn map(book: &[u64], out: &mut [u8], w: World, line: &[u8]) -> usize
+    requires { ⌜ length (now book) ≡ 1025 ⌝ }
+    requires { ⌜ 131136 ≤ length (now out) ⌝ }
+    requires { ⌜ Lends w ⌝ }
+    ensures { λ n. ⌜ Says (mapLine (numberOf 1 (now (line .entry))) (w .procs) (take (w .count) (now (book .entry)))) (now (out .exit)) n ⌝ }
+{
+    let count = w.count;
+    let procs = w.procs;
+    map_lines::map(&book[..count], out, procs, line)
+}
+
 // A line of a kind.
 fn run(
     frames: &mut [u8],
@@ -122,7 +137,7 @@ fn run(
         Line::Sum => lent_lines::sum(frames, book, out, w),
         Line::Map => Step {
             world: w,
-            size: line::say::bad_line(out),
+            size: map(book, out, w, line),
         },
         Line::Blank => Step { world: w, size: 0 },
         Line::Bad => Step {

@@ -7,13 +7,10 @@ ghost use Rattle.lent_lines.specs.Lent.{Lends};
 ghost use Rattle.replay.specs.Rooms.{Within};
 
 mod input;
-mod say;
-mod shown;
 
 use input::Input;
 use lent_lines::World;
 use libc::STDOUT_FILENO;
-use script::Line;
 
 // What the program holds: what the script has made, and how far its input is read.
 struct Session {
@@ -37,12 +34,7 @@ fn answer(
     requires { ⌜ Lends w ⌝ }
     ensures { λ r. ⌜ Lends r ⌝ }
 {
-    let kind = script::kind(line);
-    if let Line::Map = kind {
-        shown::map(book, w, line);
-        return w;
-    }
-    let step = lines::answer(frames, book, space, out, w, kind, line);
+    let step = lines::answer(frames, book, space, out, w, line);
     let size = step.size;
     io::write_all(STDOUT_FILENO, &out[..size]);
     step.world

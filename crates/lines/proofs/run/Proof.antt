@@ -1,9 +1,12 @@
 -- `lines::run` meets its contract: a line of each kind is run as one.
 -- Assumes nothing.
 use denote.Ref.{now}
+use lib.ListN.{take}
 use Rattle.script.specs.declared.keyword.Line.the-variants.{Frames, Lend, Word, Rule, Name, Sum, Map, Blank, Bad}
+use Rattle.line.specs.Words.{numberOf}
+use Rattle.map_lines.specs.Table.{mapLine}
 use Rattle.lines.specs.Runs.{Stage, stageOf}
-use Rattle.lines.proofs.Running.{runs-as, runs-call, frames-runs, lend-runs, word-runs, shown, shown-name, shown-step, nothing-shown}
+use Rattle.lines.proofs.Running.{runs-as, runs-call, frames-runs, lend-runs, word-runs, shown, shown-name, shown-step, shown-nothing}
 use borrow.Author.Needs.{needs}
 use Rattle.lines.proofs.run.Statement.{statement}
 use Rattle.lines.proofs.run.Tie as tie
@@ -36,51 +39,45 @@ returns-3 c =
 returns-4 : tie.Need-returns-4
 returns-4 c =
     let s = c .before .before .before .before .before .before .before .before .before .before .before in
-    let g = found s in
     let line = now (s .args .line) in
-    (s .pre .1 .1 .1, runs-as g Rule line (c .before .before .before .before .enum-told4 .given .1) (shown g line (c .before .before .rule .ensures)))
+    (s .pre .1 .1 .1, runs-as (found s) Rule line (c .before .before .before .before .enum-told4 .given .1) (shown (found s) line (c .before .before .rule .ensures)))
 
 returns-5 : tie.Need-returns-5
 returns-5 c =
     let s = c .before .before .before .before .before .before .before .before .before .before .before .before .before .before in
-    let g = found s in
     let line = now (s .args .line) in
-    (s .pre .1 .1 .1, runs-as g Name line (c .before .before .before .before .before .before .before .enum-told5 .given .1) (shown-name g line (c .before .before .before .before .name .ensures .1)))
+    (s .pre .1 .1 .1, runs-as (found s) Name line (c .before .before .before .before .before .before .before .enum-told5 .given .1) (shown-name (found s) line (c .before .before .before .before .name .ensures .1)))
 
 returns-6 : tie.Need-returns-6
 returns-6 c =
     let s = c .before .before .before .before .before .before .before .before .before .before .before .before .before in
-    let g = found s in
     let line = now (s .args .line) in
-    (c .before .before .sum .ensures .0 .0, runs-as g Sum line (c .before .before .before .before .before .before .enum-told6 .given .1) (shown-step g line (c .before .before .sum .ensures .1)))
+    let m = c .before .before .sum .ensures in
+    (m .0 .0, runs-as (found s) Sum line (c .before .before .before .before .before .before .enum-told6 .given .1) (shown-step (found s) line (m .1)))
 
 returns-7 : tie.Need-returns-7
 returns-7 c =
-    let s = c .before .before .before .before .before .before .before .before .before .before .before in
-    let g = found s in
+    let s = c .before .before .before .before .before .before .before .before .before .before .before .before in
     let line = now (s .args .line) in
-    (s .pre .1 .1 .1, runs-as g Map line (c .before .before .before .before .enum-told7 .given .1) (shown g line (c .before .before .bad-line .ensures)))
+    (s .pre .1 .1 .1, runs-as (found s) Map line (c .before .before .before .before .before .enum-told7 .given .1) (shown (found s) line {text = mapLine (numberOf 1 line) (s .args .w .procs) (take (s .args .w .count) (now (s .args .book)))} (c .before .before .map .ensures)))
 
 returns-8 : tie.Need-returns-8
 returns-8 c =
     let s = c .before .before .before .before .before .before .before in
-    let g = found s in
     let line = now (s .args .line) in
-    (s .pre .1 .1 .1, runs-as g Blank line (c .enum-told8 .given .1) (nothing-shown g line))
+    (s .pre .1 .1 .1, runs-as (found s) Blank line (c .enum-told8 .given .1) (shown-nothing (found s) line))
 
 returns-9 : tie.Need-returns-9
 returns-9 c =
     let s = c .before .before .before .before .before .before .before .before .before .before .before in
-    let g = found s in
     let line = now (s .args .line) in
-    (s .pre .1 .1 .1, runs-as g Bad line (c .before .before .before .before .enum-told9 .given .1) (shown g line (c .before .before .bad-line2 .ensures)))
+    (s .pre .1 .1 .1, runs-as (found s) Bad line (c .before .before .before .before .enum-told9 .given .1) (shown (found s) line (c .before .before .bad-line .ensures)))
 
 returns-10 : tie.Need-returns-10
 returns-10 c =
     let s = c .before .before .before .before .before .before .before .before .before .before .before .before .before .before .before .before .before .before .before in
-    let g = found s in
-    let line = now (s .args .line) in
-    (c .before .before .before .before .before .before .before .before .call .ensures .0, runs-call g (s .args .kind) line (c .before .before .before .before .before .before .before .before .before .before .before .before .before .match .keys10) (c .before .before .before .before .before .before .before .before .call .ensures .1))
+    let r = c .before .before .before .before .before .before .before .before .call .ensures in
+    (r .0, runs-call (found s) (s .args .kind) (now (s .args .line)) (c .before .before .before .before .before .before .before .before .before .before .before .before .before .match .keys10) (r .1))
 
 pub run-spec : {M : Type 1} → statement M
 run-spec =
@@ -122,6 +119,7 @@ run-spec =
     (λ c. search needs)
     (λ c. search needs)
     returns-6
+    (λ c. search needs)
     (λ c. search needs)
     returns-7
     returns-8
