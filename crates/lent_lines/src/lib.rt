@@ -194,7 +194,7 @@ pub fn word(book: &mut [u64], out: &mut [u8], w: World, line: &[u8]) -> Step
 }
 
 // sum
-pub fn sum(frames: &mut [u8], book: &mut [u64], out: &mut [u8], w: World) -> Step
+pub fn sum(frames: &[u8], book: &[u64], out: &mut [u8], w: World) -> Step
     requires { ⌜ length (now frames) ≡ 4198400 ⌝ }
     requires { ⌜ length (now book) ≡ 1025 ⌝ }
     requires { ⌜ 131136 ≤ length (now out) ⌝ }

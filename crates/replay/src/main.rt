@@ -1,5 +1,5 @@
 // Replays a script of calls from standard input, one call a line, and answers each line: docs/REPLAY.md has the form. What a line
-// leaves and answers is crate lines' business, and map_lines'; here lines are read and answers written.
+// leaves and answers is crate lines' business; here lines are read and answers written.
 ghost use mathlib.Core.Path.{_≡_};
 ghost use Prim.Native.Nat.{_≤_};
 ghost use lib.ListN.{length};
@@ -11,7 +11,6 @@ mod input;
 use input::Input;
 use lent_lines::World;
 use libc::STDOUT_FILENO;
-use script::Line;
 
 // What the program holds: what the script has made, and how far its input is read.
 struct Session {
@@ -35,14 +34,7 @@ fn answer(
     requires { ⌜ Lends w ⌝ }
     ensures { λ r. ⌜ Lends r ⌝ }
 {
-    let kind = script::kind(line);
-    if let Line::Map = kind {
-        let count = w.count;
-        let n = map_lines::map(&book[..count], out, lent_lines::procs_of(w), line);
-        io::write_all(STDOUT_FILENO, &out[..n]);
-        return w;
-    }
-    let step = lines::answer(frames, book, space, out, w, kind, line);
+    let step = lines::answer(frames, book, space, out, w, line);
     let size = step.size;
     io::write_all(STDOUT_FILENO, &out[..size]);
     step.world

@@ -34,14 +34,10 @@ sum-spec =
     (λ c. search needs)
     (λ c κs. search needs)
     (λ c κs. search needs)
-    (λ c. search needs)
     slice-aggregate-book-sum
     (λ c κs. search needs)
-    (λ c. search needs)
     slice-aggregate-bytes-sum
     (λ c κs. search needs)
     (λ c κs. search needs)
-    (λ c. search needs)
-    (λ c. search needs)
     (λ c. search needs)
     returns)

@@ -1,9 +1,11 @@
--- `lines::call` meets its contract: no more is lent than there is.
+-- `lines::call` meets its contract: no more is lent than there is, and the whole is what was lent beside what was not.
 -- Assumes nothing.
 use mathlib.Core.Path.{sym}
 use native.Mathlib.Omega.{arith}
+use denote.Ref.{now}
 use lib.Seq.{length-take-le}
-use Rattle.lent_lines.proofs.Staged.{step-lends}
+use Rattle.lines.specs.Runs.{stageOf}
+use Rattle.lines.proofs.Running.{called, after}
 use borrow.Author.Needs.{needs}
 use Rattle.lines.proofs.call.Statement.{statement}
 use Rattle.lines.proofs.call.Tie as tie
@@ -16,8 +18,9 @@ slice-aggregate-lent-call-2 c = sym (length-take-le _ _ (omega arith))
 
 returns : tie.Need-returns
 returns c =
-    let l = c .before .before .before .before .before .before .before .before .before .before .before .before .before .before .before .before .before .before .before .before .pre .1 .1 .1 in
-    step-lends (c .after-call .ensures) (record { most = l .most; bytes-lent = l .bytes-lent; words-lent = l .words-lent }) (c .before .before .before .before .before .before .before .before .before .lent-call .ensures)
+    let a = c .before .before .before .before .before .before .before .before .before .before .before .before .before .before .before .before .before .before .before .before .args in
+    let g = stageOf (now (a .frames)) (now (a .book)) (a .w) in
+    after (c .after-call .ensures) (c .before .before .before .before .before .before .before .before .before .before .before .before .before .before .before .before .before .before .before .before .pre .1 .1 .1) (called g (a .kind) (c .before .before .before .before .before .before .before .before .before .lent-call .ensures))
 
 pub call-spec : {M : Type 1} → statement M
 call-spec =
@@ -27,7 +30,6 @@ call-spec =
     slice-aggregate-lent-call
     (λ c. search needs)
     slice-aggregate-lent-call-2
-    (λ c κs. search needs)
     (λ c κs. search needs)
     (λ c κs. search needs)
     (λ c. search needs)

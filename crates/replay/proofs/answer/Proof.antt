@@ -1,20 +1,13 @@
--- `replay::answer` meets its contract: the book that map looks at is there, and the answer lies in its buffer.
+-- `replay::answer` meets its contract: the answer lies in its buffer.
 -- Assumes nothing.
 use mathlib.Core.Path.{sym}
-use native.Mathlib.Omega.{arith}
 use lib.Seq.{length-take-le}
 use borrow.Author.Needs.{needs}
 use Rattle.replay.proofs.answer.Statement.{statement}
 use Rattle.replay.proofs.answer.Tie as tie
 
-slice-aggregate-map : tie.Need-slice-aggregate-map
-slice-aggregate-map c = sym (length-take-le _ _ (omega arith))
-
 slice-aggregate-write-all : tie.Need-slice-aggregate-write-all
-slice-aggregate-write-all c = sym (length-take-le _ _ (c .before .before .before .map .ensures .room))
-
-slice-aggregate-write-all-2 : tie.Need-slice-aggregate-write-all-2
-slice-aggregate-write-all-2 c = sym (length-take-le _ _ (c .before .before .before .before .before .before .before .before .before .answer .ensures .1))
+slice-aggregate-write-all c = sym (length-take-le _ _ (c .before .before .before .before .before .before .before .before .before .answer .ensures .1 .room))
 
 pub answer-spec : {M : Type 1} → statement M
 answer-spec =
@@ -22,19 +15,7 @@ answer-spec =
     (tie.spec
     (λ c κs. search needs)
     (λ c. search needs)
-    (λ c. search needs)
-    slice-aggregate-map
-    (λ c κs. search needs)
-    (λ c κs. search needs)
-    (λ c. search needs)
     slice-aggregate-write-all
-    (λ c κs. search needs)
-    (λ c. search needs)
-    (λ c. search needs)
-    (λ c. search needs)
-    (λ c κs. search needs)
-    (λ c. search needs)
-    slice-aggregate-write-all-2
     (λ c κs. search needs)
     (λ c. search needs)
     (λ c. search needs)
