@@ -9,12 +9,12 @@ use Rattle.replay.proofs.turn.Statement.{statement}
 use Rattle.replay.proofs.turn.Tie as tie
 
 slice-aggregate-answer : tie.Need-slice-aggregate-answer
-slice-aggregate-answer c = sym (length-take-le _ _ (omega (arith, c .before .before .before .before .before .before .before .before .before .before .take .ensures .held)))
+slice-aggregate-answer c = sym (length-take-le _ _ (omega (arith, c .before .before .before .before .before .before .before .before .before .before .take .ensures .0 .held)))
 
 answer-requires : tie.Need-answer-requires
 answer-requires c κs =
     let p = c .before .before .before .before .before .before .before .before .before .before .before .before .before .before .before .before .before .before .before .before .before .pre in
-    (p .0, (p .1 .0, ((p .1 .1 .0 .0, (simp length-take (omega (arith, c .before .before .before .before .before .before .before .before .before .before .take .ensures .held, p .1 .1 .0 .1 .0)), p .1 .1 .0 .1 .1)), p .1 .1 .1 .0)))
+    (p .0, (p .1 .0, ((p .1 .1 .0 .0, (simp length-take (omega (arith, c .before .before .before .before .before .before .before .before .before .before .take .ensures .0 .held, p .1 .1 .0 .1 .0)), p .1 .1 .0 .1 .1)), p .1 .1 .1 .0)))
 
 pub turn-spec : {M : Type 1} → statement M
 turn-spec =
