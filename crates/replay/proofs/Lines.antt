@@ -9,11 +9,13 @@ use lib.ListN.{length, take, drop, length-drop}
 use lib.Seq.{length-take-le, take-append-add, take-length, take-take, drop-length, drop-drop}
 use borrow.Author.Tests.{lt-ltb, le-ltb}
 use borrow.Rule.Slice.PartMut.{putMid}
+use Rattle.spec.specs.Tests.{_below_, _⇒_else_, has}
+use Rattle.spec.proofs.Bools.{clash}
 use Rattle.script.proofs.Splits.{until-short, until-take, until-some, until-all, beyond-drop, beyond-none}
 use Rattle.asked.proofs.Adding.{put-behind}
 use Rattle.asked.proofs.Short.{take-min}
 use Rattle.replay.specs.declared.input.Input.{Input}
-use Rattle.replay.specs.Reading.{untilFeed, behind, left, Takes, Reads}
+use Rattle.replay.specs.Reading.{untilFeed, behind, left, Takes, given, Reads, Waits}
 
 -- bytes put behind a line's first
 pub appended : (line bytes ys : List ℕ) (at n m : ℕ) → at ≤ length line → n ≡ min (length bytes) (length line - at) → n ≤ length ys → take n ys ≡ take n bytes
@@ -67,3 +69,9 @@ reads-new i r buffer buffer′ line line′ n l h ne e t =
 
 pub reads-none : (i : Input) (buffer buffer′ line : List ℕ) → i .end ≤ i .at → Reads i buffer line (record { at = 0; end = 0; size = i .size; whole = true; ended = true }) buffer′ line
 reads-none i buffer buffer′ line l = record { kept = λ k. absurd (omega arith); some = λ k. absurd (omega arith); none = λ z. (refl, refl, refl, refl) }
+
+-- a turn whose line is whole doesn't wait
+pub not-waiting : {i r : Input} {buffer line buffer′ line′ : List ℕ} (q : Input) → Reads i buffer line r buffer′ line′ → q .end ≡ r .end → r .whole ≡ true → Waits i buffer q buffer′ → ⊥
+not-waiting {i} {r} {buffer} {line} {buffer′} q t e w p =
+    let same : given i buffer q buffer′ ≡ given i buffer r buffer′ = ap (λ (k : ℕ). i .at below i .end ⇒ left i buffer else take k buffer′) e in
+    clash (r .whole) w (t .some (omega (arith, p .0)) .whole ∙ ap (has 10) (sym same) ∙ p .1)
