@@ -1,8 +1,9 @@
 // The lines of standard input.
 ghost use mathlib.Core.Path.{_≡_};
-ghost use Prim.Native.Nat.{_≤_};
-ghost use lib.ListN.{length};
+ghost use Prim.Native.Nat.{_+_, _≤_};
+ghost use lib.ListN.{length, take, drop};
 ghost use Rattle.replay.specs.Rooms.{Within};
+ghost use Rattle.replay.specs.Reading.{untilFeed, behind, Takes, Reads};
 use libc::STDIN_FILENO;
 
 // How far the input is taken: the bytes of the buffer from `at` to `end` aren't yet, and `size` bytes of the line are. `whole`: the
@@ -31,7 +32,7 @@ pub fn before_line(at: usize, end: usize, ended: bool) -> Input
 // Where the first line feed stands from `at` on, or the length.
 fn line_end(bytes: &[u8], at: usize) -> usize
     requires { ⌜ at ≤ length (now bytes) ⌝ }
-    ensures { λ r. ⌜ (at ≤ r) × (r ≤ length (now (bytes .entry))) ⌝ }
+    ensures { λ r. ⌜ r ≡ at + length (untilFeed (drop at (now (bytes .entry)))) ⌝ }
 {
     let mut i = at;
     while i < bytes.len() {
@@ -47,6 +48,7 @@ fn line_end(bytes: &[u8], at: usize) -> usize
 fn append(line: &mut [u8], at: usize, bytes: &[u8]) -> usize
     requires { ⌜ at ≤ length (now line) ⌝ }
     ensures { λ r. ⌜ r ≤ length (now (line .entry)) ⌝ }
+    ensures { λ r. ⌜ take r (now (line .exit)) ≡ behind (length (now (line .entry))) (take at (now (line .entry))) (now (bytes .entry)) ⌝ }
 {
     at + asked::first(&mut line[at..], bytes)
 }
@@ -55,6 +57,8 @@ fn append(line: &mut [u8], at: usize, bytes: &[u8]) -> usize
 fn take_bytes(buffer: &[u8], line: &mut [u8], at: usize, size: usize) -> Input
     requires { ⌜ (at ≤ length (now buffer)) × (size ≤ length (now line)) ⌝ }
     ensures { λ r. ⌜ Within r (length (now (buffer .entry))) (length (now (line .entry))) ⌝ }
+    ensures { λ r. ⌜ r .end ≡ length (now (buffer .entry)) ⌝ }
+    ensures { λ r. ⌜ Takes (drop at (now (buffer .entry))) (now (line .entry)) size r (now (buffer .entry)) (now (line .exit)) ⌝ }
 {
     let end = buffer.len();
     let stop = line_end(buffer, at);
@@ -81,6 +85,7 @@ fn take_bytes(buffer: &[u8], line: &mut [u8], at: usize, size: usize) -> Input
 pub fn take(buffer: &mut [u8], line: &mut [u8], i: Input) -> Input
     requires { ⌜ Within i (length (now buffer)) (length (now line)) ⌝ }
     ensures { λ r. ⌜ Within r (length (now (buffer .entry))) (length (now (line .entry))) ⌝ }
+    ensures { λ r. ⌜ Reads i (now (buffer .entry)) (now (line .entry)) r (now (buffer .exit)) (now (line .exit)) ⌝ }
 {
     let at = i.at;
     let end = i.end;

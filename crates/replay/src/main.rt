@@ -5,6 +5,7 @@ ghost use Prim.Native.Nat.{_≤_};
 ghost use lib.ListN.{length};
 ghost use Rattle.lent_lines.specs.Lent.{Lends};
 ghost use Rattle.replay.specs.Rooms.{Within};
+ghost use Rattle.replay.specs.Reading.{Waits};
 
 mod input;
 
@@ -55,6 +56,7 @@ fn turn(
     requires { ⌜ (65537 ≤ length (now space)) × ((length (now line) ≡ 65537) × (131136 ≤ length (now out))) ⌝ }
     requires { ⌜ Lends (s .world) × Within (s .input) (length (now buffer)) (length (now line)) ⌝ }
     ensures { λ r. ⌜ Lends (r .world) × Within (r .input) (length (now (buffer .entry))) (length (now (line .entry))) ⌝ }
+    ensures { λ r. ⌜ (Waits (s .input) (now (buffer .entry)) (r .input) (now (buffer .exit)) → (r .world ≡ s .world) × (now (frames .exit) ≡ now (frames .entry)) × (now (book .exit) ≡ now (book .entry))) ⌝ }
 {
     let world = s.world;
     let input = s.input;

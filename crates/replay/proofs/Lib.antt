@@ -1,0 +1,2 @@
+-- What is known of the reading of lines.
+pub mod Lines
