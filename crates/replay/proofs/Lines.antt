@@ -1,7 +1,7 @@
 -- Bytes taken to a line: where they end, what the line holds with them, and what is left of the buffer.
 -- Assumes nothing.
 use mathlib.Core.Path.{_≡_, refl, sym, ap, subst, _∙_}
-use mathlib.Core.Bool.{true, false}
+use mathlib.Core.Bool.{Bool, true, false}
 use mathlib.Core.List.{List, _++_}
 use Prim.Native.Nat.{ℕ, suc, _+_, _-_, _≤_, _<_, min}
 use native.Mathlib.Omega.{arith}
@@ -9,13 +9,13 @@ use lib.ListN.{length, take, drop, length-drop}
 use lib.Seq.{length-take-le, take-append-add, take-length, take-take, drop-length, drop-drop}
 use borrow.Author.Tests.{lt-ltb, le-ltb}
 use borrow.Rule.Slice.PartMut.{putMid}
-use Rattle.spec.specs.Tests.{_below_, _⇒_else_, has}
-use Rattle.spec.proofs.Bools.{clash}
 use Rattle.script.proofs.Splits.{until-short, until-take, until-some, until-all, beyond-drop, beyond-none}
 use Rattle.asked.proofs.Adding.{put-behind}
 use Rattle.asked.proofs.Short.{take-min}
 use Rattle.replay.specs.declared.input.Input.{Input}
-use Rattle.replay.specs.Reading.{untilFeed, behind, left, Takes, given, Reads, Waits}
+use Rattle.replay.specs.Rooms.{Within}
+use Rattle.replay.specs.Reading.{untilFeed, behind, left, Takes, Reads}
+use Rattle.replay.specs.Turns.{beforeLine}
 
 -- bytes put behind a line's first
 pub appended : (line bytes ys : List ℕ) (at n m : ℕ) → at ≤ length line → n ≡ min (length bytes) (length line - at) → n ≤ length ys → take n ys ≡ take n bytes
@@ -70,8 +70,6 @@ reads-new i r buffer buffer′ line line′ n l h ne e t =
 pub reads-none : (i : Input) (buffer buffer′ line : List ℕ) → i .end ≤ i .at → Reads i buffer line (record { at = 0; end = 0; size = i .size; whole = true; ended = true }) buffer′ line
 reads-none i buffer buffer′ line l = record { kept = λ k. absurd (omega arith); some = λ k. absurd (omega arith); none = λ z. (refl, refl, refl, refl) }
 
--- a turn whose line is whole doesn't wait
-pub not-waiting : {i r : Input} {buffer line buffer′ line′ : List ℕ} (q : Input) → Reads i buffer line r buffer′ line′ → q .end ≡ r .end → r .whole ≡ true → Waits i buffer q buffer′ → ⊥
-not-waiting {i} {r} {buffer} {line} {buffer′} q t e w p =
-    let same : given i buffer q buffer′ ≡ given i buffer r buffer′ = ap (λ (k : ℕ). i .at below i .end ⇒ left i buffer else take k buffer′) e in
-    clash (r .whole) w (t .some (omega (arith, p .0)) .whole ∙ ap (has 10) (sym same) ∙ p .1)
+-- before a line nothing of it is held
+pub before-within : {i : Input} {at end : ℕ} {e : Bool} (b l : ℕ) → i ≡ beforeLine at end e → at ≤ end → end ≤ b → Within i b l
+before-within b l q h k = subst (λ (x : Input). Within x b l) (sym q) (record { taken = h; filled = k; held = omega arith })

@@ -42,7 +42,3 @@ pub record Reads (i : Input) (buffer line : List ℕ) (r : Input) (buffer′ lin
   pub kept : i .at < i .end → (buffer′ ≡ buffer) × (r .end ≡ i .end)
   pub some : 0 < r .end → Takes (given i buffer r buffer′) line (i .size) r buffer′ line′
   pub none : r .end ≡ 0 → (line′ ≡ line) × (r .size ≡ i .size) × (r .whole ≡ true) × (r .ended ≡ true)
-
--- a turn that takes bytes without a line feed: its line isn't whole yet
-abbrev pub Waits : Input → List ℕ → Input → List ℕ → Type 0
-Waits i buffer r buffer′ = (0 < r .end) × (has 10 (given i buffer r buffer′) ≡ false)

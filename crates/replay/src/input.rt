@@ -4,6 +4,7 @@ ghost use Prim.Native.Nat.{_+_, _≤_};
 ghost use lib.ListN.{length, take, drop};
 ghost use Rattle.replay.specs.Rooms.{Within};
 ghost use Rattle.replay.specs.Reading.{untilFeed, behind, Takes, Reads};
+ghost use Rattle.replay.specs.Turns.{beforeLine};
 use libc::STDIN_FILENO;
 
 // How far the input is taken: the bytes of the buffer from `at` to `end` aren't yet, and `size` bytes of the line are. `whole`: the
@@ -18,7 +19,7 @@ pub struct Input {
 
 // Before a line, with the bytes from `at` to `end` to take.
 pub fn before_line(at: usize, end: usize, ended: bool) -> Input
-    ensures { λ r. ⌜ (r .at ≡ at) × (r .end ≡ end) × (r .size ≡ 0) ⌝ }
+    ensures { λ r. ⌜ r ≡ beforeLine at end ended ⌝ }
 {
     Input {
         at: at,

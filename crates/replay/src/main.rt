@@ -5,7 +5,8 @@ ghost use Prim.Native.Nat.{_≤_};
 ghost use lib.ListN.{length};
 ghost use Rattle.lent_lines.specs.Lent.{Lends};
 ghost use Rattle.replay.specs.Rooms.{Within};
-ghost use Rattle.replay.specs.Reading.{Waits};
+ghost use Rattle.lines.specs.Runs.{stageOf};
+ghost use Rattle.replay.specs.Turns.{Answered, Turns};
 
 mod input;
 
@@ -34,6 +35,7 @@ fn answer(
     requires { ⌜ (65537 ≤ length (now space)) × ((length (now line) ≤ 65537) × (131136 ≤ length (now out))) ⌝ }
     requires { ⌜ Lends w ⌝ }
     ensures { λ r. ⌜ Lends r ⌝ }
+    ensures { λ r. ⌜ Answered (stageOf (now (frames .entry)) (now (book .entry)) w) (now (line .entry)) (stageOf (now (frames .exit)) (now (book .exit)) r) (now (out .exit)) ⌝ }
 {
     let step = lines::answer(frames, book, space, out, w, line);
     let size = step.size;
@@ -56,7 +58,7 @@ fn turn(
     requires { ⌜ (65537 ≤ length (now space)) × ((length (now line) ≡ 65537) × (131136 ≤ length (now out))) ⌝ }
     requires { ⌜ Lends (s .world) × Within (s .input) (length (now buffer)) (length (now line)) ⌝ }
     ensures { λ r. ⌜ Lends (r .world) × Within (r .input) (length (now (buffer .entry))) (length (now (line .entry))) ⌝ }
-    ensures { λ r. ⌜ (Waits (s .input) (now (buffer .entry)) (r .input) (now (buffer .exit)) → (r .world ≡ s .world) × (now (frames .exit) ≡ now (frames .entry)) × (now (book .exit) ≡ now (book .entry))) ⌝ }
+    ensures { λ r. ⌜ Turns s (stageOf (now (frames .entry)) (now (book .entry)) (s .world)) (now (buffer .entry)) (now (line .entry)) r (stageOf (now (frames .exit)) (now (book .exit)) (r .world)) (now (buffer .exit)) (now (line .exit)) (now (out .exit)) ⌝ }
 {
     let world = s.world;
     let input = s.input;

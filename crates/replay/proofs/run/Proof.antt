@@ -5,6 +5,7 @@ use native.Mathlib.Omega.{arith}
 use lib.ListN.{length}
 use Rattle.lent_lines.specs.Lent.{Lends}
 use Rattle.replay.specs.Rooms.{Within}
+use Rattle.replay.proofs.Lines.{before-within}
 use borrow.Author.Needs.{needs}
 use Rattle.replay.proofs.run.Statement.{statement}
 use Rattle.replay.proofs.run.Tie as tie
@@ -18,9 +19,7 @@ abbrev μ-loop : tie.MeasureT-loop
 μ-loop frames₀ book₀ space₀ out₀ buffer₀ line₀ s₀ turns₀ frames book space out buffer line s turns = turns
 
 loop-holds : tie.Need-loop-holds Inv-loop μ-loop
-loop-holds c =
-    let b = c .before-line .ensures in
-    (refl, refl, refl, refl, refl, refl, c .before .nothing .ensures .0, record { taken = omega (arith, b .0, b .1); filled = omega (arith, b .1); held = omega (arith, b .2) })
+loop-holds c = (refl, refl, refl, refl, refl, refl, c .before .nothing .ensures .0, before-within _ _ (c .before-line .ensures) (omega arith) (omega arith))
 
 pub run-spec : {M : Type 1} → statement M
 run-spec =

@@ -1,0 +1,28 @@
+-- A turn of the program: input is taken, and a line that is whole then is run.
+-- Assumes nothing.
+use mathlib.Core.Path.{_≡_}
+use mathlib.Core.Bool.{Bool, true, false}
+use mathlib.Core.List.{List}
+use Prim.Native.Nat.{ℕ}
+use lib.ListN.{take}
+use Rattle.lines.specs.Runs.{Stage, Runs}
+use Rattle.replay.specs.declared.Session.{Session}
+use Rattle.replay.specs.declared.input.Input.{Input}
+use Rattle.replay.specs.Reading.{Reads}
+
+-- a line was run, with its answer at the start of a buffer
+pub record Answered (g : Stage) (line : List ℕ) (h : Stage) (out : List ℕ) : Type 0 where
+  pub size : ℕ
+  pub runs : Runs g line h out size
+
+-- before a line, with the bytes from `at` to `end` to take
+abbrev pub beforeLine : ℕ → ℕ → Bool → Input
+beforeLine at end ended = record { at = at; end = end; size = 0; whole = false; ended = ended }
+
+-- what a session s with stage g becomes: of the input as it was taken, a whole line is run, and another one changes nothing
+pub record Turns (s : Session) (g : Stage) (buffer line : List ℕ) (r : Session) (h : Stage) (buffer′ line′ out : List ℕ) : Type 0 where
+  pub taken : Input
+  pub reads : Reads (s .input) buffer line taken buffer′ line′
+  pub whole : taken .whole ≡ true → Answered g (take (taken .size) line′) h out × (r .input ≡ beforeLine (taken .at) (taken .end) (taken .ended))
+  pub waits : taken .whole ≡ false → (h ≡ g) × (r .input ≡ taken)
+  pub ended : r .ended ≡ taken .ended
