@@ -19,9 +19,6 @@ use Rattle.lent_lines.specs.Lent.{Lends, Leaves, fillOf, framesWorld, fr
 pub lends-as : {v w : World} → v ≡ w → Lends w → Lends v
 lends-as e l = subst Lends (sym e) l
 
-pub step-lends : {r : Step} {v : World} {n m : ℕ} → r ≡ record { world = v; size = n } → Lends v → n ≤ m → Lends (r .world) × (r .size ≤ m)
-step-lends {r} {v} {n} {m} e l h = subst (λ (x : Step). Lends (x .world) × (x .size ≤ m)) (sym e) (l, h)
-
 pub leaves-as : {w : World} {o p : Option World} {r : Step} {out : List ℕ} → o ≡ p → Leaves w o r out → Leaves w p r out
 leaves-as {w} {o} {p} {r} {out} e l = subst (λ (x : Option World). Leaves w x r out) e l
 

@@ -5,10 +5,12 @@ use mathlib.Core.Option.{none}
 use mathlib.Core.List.{List, [], _∷_}
 use Prim.Native.Nat.{ℕ}
 use native.Mathlib.Omega.{arith}
+use lib.ListN.{take}
 use types.Run.{OneOf, miss}
 use denote.Enum.Declared.{tagOf}
 use Rattle.spec.specs.World.{State}
 use Rattle.spec.specs.declared.Procs.{Procs}
+use Rattle.front.specs.Numbers.{stateOf}
 use Rattle.script.specs.declared.keyword.Line.{Line}
 use Rattle.script.specs.declared.keyword.Line.the-variants.{Frames, Lend, Word, Start, Replace, Push, Break, Fork, End, Range, From, To, String, Rule, Name, Sum, Map, Blank, Bad}
 use Rattle.script.proofs.keyword.Line.{the-type}
@@ -20,7 +22,7 @@ use Rattle.lent_lines.specs.declared.World.{World}
 use Rattle.lent_lines.specs.declared.Step.{Step}
 use Rattle.lent_lines.specs.Lent.{Lends, Leaves, Shows, fillOf, framesWorld, framesBytes, framesBook, lendOf, wordWorld, wordBook}
 use Rattle.shown_lines.specs.Name.{nameLine, ShowsName}
-use Rattle.lines.specs.Runs.{Stage, stageOf, lentOf, withProcs, withLent, Turn, shownTurn, turn, RunsBy, asksOf, asCall}
+use Rattle.lines.specs.Runs.{Stage, stageOf, withProcs, withLent, Turn, shownTurn, turn, RunsBy, asksOf, asCall}
 
 -- the same by the kind that a line is of
 pub asks-as : (procs : Procs) (j : Line) {k : Line} {s t : State} {line out : List ℕ} {size : ℕ} → k ≡ j → Answers s (asksOf procs j) line t out size → Answers s (asksOf procs k) line t out size
@@ -85,9 +87,12 @@ runs-call g k line n r =
 
 -- ---- a line over the whole, from what its function ensures
 
--- a call over what is lent
-pub called : (g : Stage) (k : Line) {t : State} {line out : List ℕ} {size : ℕ} → Answers (lentOf g) (asksOf (g .world .procs) k) line t out size → RunsBy (asCall g k line) line (withLent g t) out size
-called g k a = record { given = a .given; known = a .known; left = ap (withLent g) (a .left); said = a .said; room = a .room }
+-- a call over what is lent, with the records that are held
+pub called : (g : Stage) (k : Line) {p : Procs} {t : State} {line out : List ℕ} {size : ℕ} → p ≡ g .world .procs
+    → Answers (stateOf (take (g .world .bytes) (g .frames)) (take (g .world .words) (g .book)) p) (asksOf p k) line t out size → RunsBy (asCall g k line) line (withLent g t) out size
+called g k {p} {t} {line} {out} {size} e n =
+    let a = subst (λ (x : Procs). Answers (stateOf (take (g .world .bytes) (g .frames)) (take (g .world .words) (g .book)) x) (asksOf x k) line t out size) e n in
+    record { given = a .given; known = a .known; left = ap (withLent g) (a .left); said = a .said; room = a .room }
 
 -- what is lent from now on
 module _ (g : Stage) (line : List ℕ) where
@@ -123,7 +128,3 @@ pub after : {t : Reading → Turn} {line : List ℕ} {w : World} {p : Procs} {r 
     → RunsBy t line (stageOf f b (withProcs w p)) out n → Lends (r .world) × RunsBy t line (stageOf f b (r .world)) out (r .size)
 after {t} {line} {w} {p} {r} {f} {b} {out} e l d =
     subst (λ (x : Step). Lends (x .world) × RunsBy t line (stageOf f b (x .world)) out (x .size)) (sym e) (record { most = l .most; bytes-lent = l .bytes-lent; words-lent = l .words-lent }, d)
-
--- a line, by the kind that was found
-pub by-kind : (g : Stage) (line : List ℕ) {k j : Line} {h : Stage} {out : List ℕ} {size : ℕ} → k ≡ j → RunsBy (turn g k line) line h out size → RunsBy (turn g j line) line h out size
-by-kind g line {k} {j} e r = runs-as g k line (sym e) r

@@ -92,7 +92,9 @@ pub record RunsBy (turns : Reading → Turn) (line : List ℕ) (h : Stage) (out 
 abbrev pub Runs : Stage → List ℕ → Stage → List ℕ → ℕ → Type 0
 Runs g line h out size = RunsBy (turn g (kindOf line) line) line h out size
 
--- the call that a line of a kind asks for: none if its kind is none of a call
+-- ---- the calls alone, for the functions that run them
+
+-- the call that a line of a kind asks for: none if that kind makes no call
 abbrev pub asksOf : Procs → Line → List ℕ → Reading → Option Call
 asksOf procs Frames = λ line given. none
 asksOf procs Lend = λ line given. none
@@ -114,6 +116,6 @@ asksOf procs Map = λ line given. none
 asksOf procs Blank = λ line given. none
 asksOf procs Bad = λ line given. none
 
--- a line of a kind as a call
+-- what such a line leaves and says
 abbrev pub asCall : Stage → Line → List ℕ → Reading → Turn
 asCall g kind line given = callTurn g (asksOf (g .world .procs) kind line given)

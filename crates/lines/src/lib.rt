@@ -80,13 +80,12 @@ fn call(
 {
     let bytes = w.bytes;
     let words = w.words;
-    let procs = w.procs;
     let said = lent_call(
         &mut frames[..bytes],
         &mut book[..words],
         space,
         out,
-        procs,
+        lent_lines::procs_of(w),
         kind,
         line,
     );
@@ -101,8 +100,7 @@ fn map(book: &[u64], out: &mut [u8], w: World, line: &[u8]) -> usize
     ensures { λ n. ⌜ Says (mapLine (numberOf 1 (now (line .entry))) (w .procs) (take (w .count) (now (book .entry)))) (now (out .exit)) n ⌝ }
 {
     let count = w.count;
-    let procs = w.procs;
-    map_lines::map(&book[..count], out, procs, line)
+    map_lines::map(&book[..count], out, lent_lines::procs_of(w), line)
 }
 
 // A line of a kind.

@@ -20,7 +20,7 @@ returns : tie.Need-returns
 returns c =
     let a = c .before .before .before .before .before .before .before .before .before .before .before .before .before .before .before .before .before .before .before .before .args in
     let g = stageOf (now (a .frames)) (now (a .book)) (a .w) in
-    after (c .after-call .ensures) (c .before .before .before .before .before .before .before .before .before .before .before .before .before .before .before .before .before .before .before .before .pre .1 .1 .1) (called g (a .kind) (c .before .before .before .before .before .before .before .before .before .lent-call .ensures))
+    after (c .after-call .ensures) (c .before .before .before .before .before .before .before .before .before .before .before .before .before .before .before .before .before .before .before .before .pre .1 .1 .1) (called g (a .kind) (c .before .before .before .before .before .before .before .before .before .before .procs-of .ensures) (c .before .before .before .before .before .before .before .before .before .lent-call .ensures))
 
 pub call-spec : {M : Type 1} → statement M
 call-spec =
@@ -30,6 +30,7 @@ call-spec =
     slice-aggregate-lent-call
     (λ c. search needs)
     slice-aggregate-lent-call-2
+    (λ c κs. search needs)
     (λ c κs. search needs)
     (λ c κs. search needs)
     (λ c. search needs)
