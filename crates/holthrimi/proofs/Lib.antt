@@ -2,5 +2,6 @@
 pub mod Locals
 pub mod Params
 pub mod Telling
+pub mod Opening
 pub mod Kept
 pub mod Looked
