@@ -16,9 +16,6 @@ pub record Alike (s : State) (c d : Option Call) : Type 0 where
 pub alike-self : (s : State) (c : Option Call) → Alike s c c
 alike-self s c = record { left = refl; said = refl }
 
-pub alike-join : {s : State} {b c d : Option Call} → Alike s b c → Alike s c d → Alike s b d
-alike-join x y = record { left = x .left ∙ y .left; said = x .said ∙ y .said }
-
 -- what a line leaves and says, by calls that are alike
 pub answers-alike : {s t : State} {f : List ℕ → Reading → Option Call} (g : List ℕ → Reading → Option Call) (line : List ℕ) {out : List ℕ} {size : ℕ}
     (a : Answers s f line t out size) (given : Reading) → Reads line given → Alike s (f line (a .given)) (g line given) → Answers s g line t out size
