@@ -1,5 +1,5 @@
--- What is lent of frames and book, and the lines that say so or show it. They make no call: they set the stage for one, or sum what
--- is held.
+-- What is lent of frames and book, and the lines that say so or show it. They make no call: they say what a call is lent, or sum
+-- what is held.
 -- Assumes nothing.
 use Prim.Native.Nat.{ℕ, _*_, _≤_}
 use mathlib.Core.Path.{_≡_}

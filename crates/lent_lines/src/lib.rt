@@ -1,4 +1,4 @@
-// The lines of frames and book: frames, lend, word, sum. They set the stage for calls, or sum what is held.
+// The lines of frames and book: frames, lend, word, sum. They say what calls are lent from then on, or sum what is held.
 ghost use mathlib.Core.Path.{_≡_};
 ghost use mathlib.Core.Option.{none};
 ghost use Prim.Native.Nat.{_≤_, _<_};
