@@ -1,5 +1,5 @@
 -- Which line of a script is run, what it leaves and what it says: a definition by the kinds of lines, whose parts stand in the crates of
--- those lines.
+-- those lines. The program replay is proved to run each line by it.
 -- Assumes nothing.
 use Prim.Native.Nat.{ℕ, _≤_}
 use mathlib.Core.Path.{_≡_}

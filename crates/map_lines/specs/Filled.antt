@@ -1,4 +1,5 @@
--- A buffer that is filled with a text, part by part, as far as there is room.
+-- A buffer that is filled with a text, part by part, as far as there is room. Each function that writes a part of a table says what it
+-- adds, so that the whole is put together by one law.
 -- Assumes nothing.
 use Prim.Native.Nat.{ℕ, _≤_, _<_}
 use mathlib.Core.List.{List, _++_}

@@ -1,4 +1,4 @@
--- The line map: the table of a process, from its record and the book as they are.
+-- The line map: the table of a process, from its record and the book as they are. It is no call, and changes nothing.
 -- Assumes nothing.
 use Prim.Native.Nat.{ℕ, zero, suc, _+_, _-_, _/_, min}
 use mathlib.Core.Bool.{not}

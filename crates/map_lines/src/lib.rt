@@ -1,4 +1,5 @@
-// The line map of a replay script: the table of a process, put into a lent buffer.
+// The line map of a replay script: the table of a process, put into a lent buffer. It shows a reader where each page lies, with a torn
+// book too, and so looks at no refusal but 3 and 4.
 ghost use Prim.Native.Nat.{_≤_};
 ghost use lib.ListN.{length};
 ghost use Rattle.line.specs.Words.{numberOf};

@@ -1,4 +1,5 @@
--- The reading of lines, over bytes that nobody knows beforehand: which bytes a turn takes, and what the line then holds.
+-- The reading of lines, over bytes that nobody knows beforehand: which bytes a turn takes, and what the line then holds. Of the bytes
+-- that are read the C library says nothing but how many.
 -- Assumes nothing.
 use mathlib.Core.Path.{_≡_}
 use mathlib.Core.Bool.{true, false}

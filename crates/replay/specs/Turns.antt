@@ -1,4 +1,5 @@
--- A turn of the program: input is taken, and a line that is whole then is run.
+-- A turn of the program: input is taken, and a line that is whole then is run. It joins the reading of lines to what crate lines says
+-- of each.
 -- Assumes nothing.
 use mathlib.Core.Path.{_≡_}
 use mathlib.Core.Bool.{Bool, true, false}

@@ -1,4 +1,5 @@
--- The line of a name by itself: the specification's name copy, with no process at hand.
+-- The line of a name by itself: the specification's name copy, with no process at hand. It lets the rule of names be tried without a
+-- start.
 -- Assumes nothing.
 use Prim.Native.Nat.{ℕ}
 use mathlib.Core.Option.{Option, none, some}
