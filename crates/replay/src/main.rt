@@ -6,7 +6,7 @@ ghost use lib.ListN.{length};
 ghost use Rattle.lent_lines.specs.Lent.{Lends};
 ghost use Rattle.replay.specs.Rooms.{Within};
 ghost use Rattle.lines.specs.Runs.{stageOf};
-ghost use Rattle.replay.specs.Turns.{Answered, Turns};
+ghost use Rattle.replay.specs.Turns.{Answered, Turns, Played};
 
 mod input;
 
@@ -95,6 +95,7 @@ fn run(
     requires { ⌜ length (now frames) ≡ 4198400 ⌝ }
     requires { ⌜ length (now book) ≡ 1025 ⌝ }
     requires { ⌜ (65537 ≤ length (now space)) × ((length (now line) ≡ 65537) × (131136 ≤ length (now out))) ⌝ }
+    ensures { λ _. ⌜ Played (now (frames .entry)) (now (book .entry)) (now (buffer .entry)) (now (line .entry)) (now (frames .exit)) (now (book .exit)) (now (buffer .exit)) (now (line .exit)) ⌝ }
 {
     let mut s = Session {
         world: lent_lines::nothing(),
@@ -120,7 +121,9 @@ fn replay(
     out: &mut [u8; 131136],
     buffer: &mut [u8; 65536],
     line: &mut [u8; 65537],
-) {
+)
+    ensures { λ _. ⌜ Played (now (frames .entry)) (now (book .entry)) (now (buffer .entry)) (now (line .entry)) (now (frames .exit)) (now (book .exit)) (now (buffer .exit)) (now (line .exit)) ⌝ }
+{
     run(frames, book, space, out, buffer, line);
 }
 
