@@ -1,4 +1,3 @@
--- The arguments of replace, turn by turn; what holds of those that were read.
+-- The arguments of replace, turn by turn.
 pub mod Turned
 pub mod SoFar
-pub mod Fitting

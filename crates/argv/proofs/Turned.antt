@@ -10,6 +10,7 @@ use Rattle.spec.specs.Numbers.{argLimit, le}
 use Rattle.spec.specs.Frames.{Mem}
 use Rattle.spec.specs.Access.{userRangeOk, bytesAt, Str, copyStr}
 use Rattle.spec.specs.Exec.{argsOf, strings, stackSize, Argv, argBuffer, argvFrom}
+use Rattle.laws.proofs.Argv.{turn}
 use Rattle.args.proofs.Cut.{cut-count, cut-size, sum-snoc, cut-snoc}
 use Rattle.pointers.specs.declared.Pointer.the-variants.{Bad, Null, At}
 use Rattle.pointers.specs.Places.{pointerAt}
@@ -18,15 +19,6 @@ use Rattle.copy_arg.specs.Strings.{stringError}
 use Rattle.copy_arg.proofs.Buffered.{str-length}
 
 -- ---- a turn, by its tests
-
-abbrev pub turn : Bool → Bool → Bool → Bool → Bool → List (List ℕ) → Argv → Argv
-turn ok z w f g before more =
-    not ok ⇒ record { error = 35; args = [] } else
-    z ⇒ record { error = 0; args = before } else
-    not w ⇒ record { error = 35; args = [] } else
-    f ⇒ record { error = 33; args = [] } else
-    g ⇒ record { error = 33; args = [] } else
-    more
 
 abbrev stops : Bool → Bool → Bool → ℕ
 stops w f g = not w ⇒ 35 else f ⇒ 33 else g ⇒ 33 else 0

@@ -1,13 +1,12 @@
--- A string read by way of a buffer: only the buffer's length matters, and the string has no NUL.
+-- A string read by way of a buffer: only the buffer's length matters.
 use Prim.Native.Nat.{ℕ, _+_, _≤_}
 use native.Mathlib.Omega.{arith}
 use native.Mathlib.Nat.{suc-inj}
-use native.Mathlib.Numerals.{add-one}
 use mathlib.Core.Path.{_≡_, refl, sym, ap, subst, _∙_}
 use mathlib.Core.Bool.{false}
 use mathlib.Core.List.{List, [], _∷_}
 use lib.ListN.{length, take, length-replicate}
-use Rattle.spec.specs.Tests.{_is_, has}
+use Rattle.spec.specs.Tests.{_is_}
 use Rattle.spec.specs.Numbers.{argLimit}
 use Rattle.spec.specs.Frames.{Mem}
 use Rattle.spec.specs.Access.{userRangeOk, byteOf, bytesAt, Str, copyStr}
@@ -45,14 +44,6 @@ str-most mem (x ∷ d) a =
     split (userRangeOk mem false a 1)
     (λ q. split (byteOf (mem a) is 0) (λ z. rw (q, z) (omega arith)) (λ z. rw (q, z) (omega (arith, str-most mem d (a + 1)))))
     (λ q. rw q (omega arith))
-
--- none of them is a NUL
-pub str-no-nul : (mem : Mem) (d : List ℕ) (a : ℕ) → has 0 (take (copyStr mem d a .size) (copyStr mem d a .buffer)) ≡ false
-str-no-nul mem [] a = refl
-str-no-nul mem (x ∷ d) a =
-    split (userRangeOk mem false a 1)
-    (λ q. split (byteOf (mem a) is 0) (λ z. rw (q, z)) (λ z. rw (q, z, add-one (copyStr mem d (a + 1) .size)) (rw z (str-no-nul mem d (a + 1)))))
-    (λ q. rw q)
 
 -- the definition's buffer
 pub buffer-length : length argBuffer ≡ argLimit

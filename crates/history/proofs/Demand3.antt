@@ -1,19 +1,21 @@
--- Demand 3, and its tie to the code: the claim, and the claim of the states that functions under `Does` lead to.
+-- Demand 3 and demand 2's sentence on arguments, and their tie to the code: of definitions, and of functions under `Does`.
 -- Assumes nothing.
 use Prim.Native.Nat.{ℕ}
-use mathlib.Core.Path.{_≡_, refl, sym, ap, _∙_}
-use mathlib.Core.Bool.{true, not}
+use mathlib.Core.Path.{_≡_, sym, ap, ap₂, subst, _∙_}
+use mathlib.Core.Bool.{not}
 use mathlib.Core.List.{List, map}
 use lib.ListN.{length}
 use Rattle.spec.specs.Tests.{_is_}
-use Rattle.spec.specs.Book.{valid, free}
-use Rattle.spec.specs.Machine.{Call, Reply, judge}
-use Rattle.spec.specs.World.{State, taken, readable, after, Does}
-use Rattle.spec.specs.History.{state, lines, machine, held, Begin, Claim, Ran, none-yet, one-more}
+use Rattle.spec.specs.Book.{free}
+use Rattle.spec.proofs.Runs.{callsOf, ran}
+use Rattle.spec.specs.Machine.{Reply, judge}
+use Rattle.spec.specs.World.{State, taken, view, answer, readable, after}
+use Rattle.spec.specs.History.{Entry, state, linesOf, machine, held, Claim, ArgsRead, Arguments, Runs}
 use Rattle.history.proofs.Passed.{Good}
 use Rattle.history.proofs.Whole.{Laws, claim, good-after, seen-after, heard}
 use Rattle.history.proofs.OneState.{first, reads, pages, numbers}
 use Rattle.history.proofs.EachCall.{each-call}
+use Rattle.history.proofs.Arguments.{args-read}
 
 pub laws : Laws
 laws = record { first = first; kept = λ s g c. each-call s g c .good; seen = λ s g c. each-call s g c .each; reads = reads; pages = pages; numbers = numbers }
@@ -22,34 +24,32 @@ laws = record { first = first; kept = λ s g c. each-call s g c .good; seen = λ
 pub demand3 : Claim
 demand3 = claim laws
 
--- ---- the tie to the code
+-- demand 2's sentence on arguments, after any calls
+pub arguments : Arguments
+unfolding after
+arguments s b h c regs e = args-read (state s h) (good-after laws s b h) c regs e
 
--- functions that each do what their contract says lead to the state of the definitions
-pub ran : (s t : State) (h : List Call) → Ran s h t → t ≡ state s h
-ran s t h none-yet = refl
-ran s t h (one-more {t = before} {c = c} r d) = d .left ∙ ap (λ (x : State). after x c) (ran s before _ r)
-
--- what a program that calls them in any order may rely on
-pub record Runs : Type 0 where
-  -- each call finds a good state, so that 1 and 2 are answered only for lengths and lists that don't fit
-  pub good : (s t : State) → Begin s → (h : List Call) → Ran s h t → Good t
-  -- readable addresses and bytes are those of the machine fed the process's line
-  pub bytes : (s t : State) → Begin s → (h : List Call) → Ran s h t → (n a : ℕ) → valid n ≡ true → readable t n a ≡ held (machine (lines s h n)) a
-  -- a number is taken while that machine holds segments
-  pub numbers : (s t : State) → Begin s → (h : List Call) → Ran s h t → (n : ℕ) → valid n ≡ true → taken t n ≡ not (length (machine (lines s h n) .segments) is 0)
-  -- what a function answers next is what the table gives over that machine, the free frames and the numbers taken
-  pub answers : (s t u : State) → Begin s → (h : List Call) → Ran s h t → (c : Call) (r : Reply) → Does t c u r
-      → r ≡ judge (machine (lines s h (c .number))) (free (t .store .book)) (taken t) c
-  -- two runs with the same line, equally many free frames and the same numbers taken before each call of it, give equal bytes
-  pub alike : (s t : State) → Begin s → (h : List Call) → Ran s h t → (u v : State) → Begin u → (g : List Call) → Ran u g v → (n a : ℕ) → valid n ≡ true
-      → map (λ e. e .asked) (lines s h n) ≡ map (λ e. e .asked) (lines u g n) → readable t n a ≡ readable v n a
+-- ---- the tie to the code: a run of functions is one of the definitions
 
 pub runs : Runs
 runs = record {
-  good = λ s t b h r. rw (ran s t h r) (good-after laws s b h);
-  bytes = λ s t b h r n a v. ap (λ (x : State). readable x n a) (ran s t h r) ∙ demand3 .bytes s b h n a v;
-  numbers = λ s t b h r n v. ap (λ (x : State). taken x n) (ran s t h r) ∙ demand3 .numbers s b h n v;
-  answers = λ s t u b h r c a d. d .said ∙ rw (ran s t h r) (heard laws s b h (seen-after laws s b h) c);
-  alike = λ s t b h r u v d g q n a w e.
-      ap (λ (x : State). readable x n a) (ran s t h r) ∙ demand3 .alike s u b d h g n w e .1 a ∙ ap (λ (x : State). readable x n a) (sym (ran u v g q));
+  found = λ s t b h r. rw (ran s t h r .0) (let g = good-after laws s b (callsOf h) in (g .sizes, g .book));
+  bytes = λ s t b h r n a v. let x = ran s t h r in ap (λ (y : State). readable y n a) (x .0) ∙ demand3 .bytes s b (callsOf h) n a v ∙ ap (λ (k : List Entry). held (machine (linesOf k n)) a) (sym (x .1));
+  numbers = λ s t b h r n v.
+      let x = ran s t h r in
+      ap (λ (y : State). taken y n) (x .0) ∙ demand3 .numbers s b (callsOf h) n v ∙ ap (λ (k : List Entry). not (length (machine (linesOf k n) .segments) is 0)) (sym (x .1));
+  answers = λ s t u b h r c a d.
+      let x = ran s t h r in
+      d .said ∙ ap (λ (y : State). answer y c) (x .0) ∙ heard laws s b (callsOf h) (seen-after laws s b (callsOf h)) c
+      ∙ ap₂ (λ (y : State) (k : List Entry). judge (machine (linesOf k (c .number))) (free (y .store .book)) (taken y) c) (sym (x .0)) (sym (x .1));
+  arguments = λ s t u b h r c a regs d e.
+      let g : Good t = rw (ran s t h r .0) (good-after laws s b (callsOf h)) in
+      subst (λ (y : State). ArgsRead (view t (c .number)) (c .ask) (view y (c .number) .mem) regs) (sym (d .left)) (args-read t g c regs (ap (λ (y : Reply). y .says) (sym (d .said)) ∙ e));
+  alike = λ s t u v b d h g r q n w e.
+      let x = ran s t h r in
+      let y = ran u v g q in
+      let same = demand3 .alike s u b d (callsOf h) (callsOf g) n w (rw (← x .1, ← y .1) e) in (
+        ap (λ (k : List Entry). map (λ (z : Entry). z .answered) (linesOf k n)) (x .1) ∙ same .0 ∙ ap (λ (k : List Entry). map (λ (z : Entry). z .answered) (linesOf k n)) (sym (y .1)),
+        λ a. ap (λ (z : State). readable z n a) (x .0) ∙ same .1 a ∙ ap (λ (z : State). readable z n a) (sym (y .0)),
+      );
 }

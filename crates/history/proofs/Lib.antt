@@ -11,5 +11,6 @@ pub mod Forked
 pub mod Moved
 pub mod Loaded
 pub mod EachCall
+pub mod Arguments
 pub mod Demand3
 pub mod Users

@@ -205,7 +205,7 @@ module _ (laws : Laws) (s : State) (b : Begin s) where
   told-after : (h : List Call) (p : ℕ) → Explained (lines s h p)
   told-after [] p = tt
   told-after (c ∷ h) p =
-      join-told (lines s h) (entry (state s h) c) p (kind (c .ask)) _ refl (heard h (seen-after h) c, told-after h (c .number)) (told-after h p)
+      join-told (lines s h) (entry (state s h) c (answer (state s h) c)) p (kind (c .ask)) _ refl (heard h (seen-after h) c, told-after h (c .number)) (told-after h p)
 
 -- ---- two histories
 

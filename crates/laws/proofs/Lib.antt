@@ -27,3 +27,4 @@ pub mod Started
 pub mod Begins
 pub mod Turns
 pub mod Buffers
+pub mod Argv

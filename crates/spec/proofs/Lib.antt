@@ -8,8 +8,8 @@ pub mod Ranges
 pub mod Args
 pub mod Free
 pub mod Flags
-pub mod Near
 pub mod Taken
 pub mod ReadBack
+pub mod Runs
 pub mod Tail
 pub mod Examples

@@ -1,5 +1,6 @@
--- Pushed arguments read back as given.
-use Prim.Native.Nat.{ℕ, zero, suc, _+_, _*_, _-_, _/_, _^_, _≤_, _<_}
+-- Pushed arguments read back as given, and top minus stack pointer is at most the argument limit: of any memory into which they may be
+-- written, and so of what start, replace and push make of a machine.
+use Prim.Native.Nat.{ℕ, zero, suc, _+_, _*_, _-_, _/_, _%_, _^_, _≤_, _<_}
 use native.Mathlib.Omega.{arith}
 use native.Mathlib.Nat.{not-suc-le-zero, le-of-suc-le-suc, add-zero}
 use native.Mathlib.Numerals.{add-one}
@@ -15,10 +16,12 @@ use Rattle.spec.proofs.Ranges.{InRange, range-means, range-all}
 use Rattle.spec.proofs.Args.{args-means, length-string, strings-append, strings-more, length-pointers}
 use Rattle.spec.proofs.Lists.{any-append}
 use Rattle.spec.specs.Tests.{_is_, _above_, within, _⇒_else_, any, has}
-use Rattle.spec.specs.Numbers.{argLimit, pageDown, le, leBytes, bytesFrom}
+use Rattle.spec.specs.Numbers.{ustktop, argLimit, pageDown, le, leBytes, bytesFrom}
 use Rattle.spec.specs.Frames.{Cell, Mem}
 use Rattle.spec.specs.Access.{cellOk, userRangeOk, byteOf, bytesAt, rewrite, write, Str, longer, copyStr}
-use Rattle.spec.specs.Exec.{strings, stackSize, argsError, stringsAt, argvAt, belowZero, pointers, pushOk, pushed, Argv, argBuffer, argvFrom, copyArgv}
+use Rattle.spec.specs.Exec.{loaded, argsOf, strings, stackSize, argsError, stringsAt, argvAt, registers, belowZero, pointers, pushOk, pushed, Argv, argBuffer, argvFrom, copyArgv}
+use Rattle.spec.specs.Machine.{start, replace, push, Machine, run}
+use Rattle.spec.specs.History.{ArgsAt, ArgsRead}
 
 -- ---- writes
 
@@ -247,7 +250,7 @@ module _ (mem : Mem) (top : ℕ) (args : List (List ℕ)) (whole : (a : ℕ) →
       (λ j h. b j (omega arith) ∙ List·getD-append a (0 ∷ strings ys) 0 j h)
       (b (length a) (omega arith) ∙ ap (λ (k : ℕ). getD (a ++ 0 ∷ strings ys) k 0) (sym (add-zero (length a))) ∙ getD-append-add a (0 ∷ strings ys) 0 0)
 
-pub read-back : (mem : Mem) (top : ℕ) (args : List (List ℕ)) → ((a : ℕ) → cellOk true (mem a) ≡ cellOk true (mem (pageDown a)))
+read-back : (mem : Mem) (top : ℕ) (args : List (List ℕ)) → ((a : ℕ) → cellOk true (mem a) ≡ cellOk true (mem (pageDown a)))
     → argsError args ≡ 0 → pushOk mem top args ≡ true
     → copyArgv (pushed top args mem) (argvAt top args) ≡ record { error = 0; args = args }
 unfolding copyArgv
@@ -262,3 +265,41 @@ read-back mem top args whole e p =
     (λ i h. part mem top args whole low r₁ r₂ (argvAt top args) (8 * (length args + 1)) (argvAt top args + 8 * i) 8 r₂ (omega arith) (omega arith) (omega arith))
     (ptrs mem top args whole low r₁ r₂) (strs mem top args whole low r₁ r₂ (ok .0) (ok .1)) (omega arith) (ok .1)
     args [] argLimit refl (omega arith)
+
+near : (pc top : ℕ) (args : List (List ℕ)) → top % 16 ≡ 0 → argsError args ≡ 0 → belowZero top args ≡ false
+    → (registers pc top args .sp ≤ top) × (top - registers pc top args .sp ≤ argLimit)
+near pc top args h e z =
+    let size = args-means args e .1 in
+    let low : 8 * (length args + 1) ≤ stringsAt top args / 8 * 8 = ltb-false _ _ z in
+    (omega arith, omega arith)
+
+-- what a push leaves
+pub args-at : (mem : Mem) (pc top : ℕ) (args : List (List ℕ)) → ((a : ℕ) → cellOk true (mem a) ≡ cellOk true (mem (pageDown a)))
+    → top % 16 ≡ 0 → argsError args ≡ 0 → pushOk mem top args ≡ true
+    → ArgsAt (pushed top args mem) top args (registers pc top args)
+args-at mem pc top args whole h e p =
+    let b₁ = both (not (belowZero top args) && userRangeOk mem true (stringsAt top args) (length (strings args))) (userRangeOk mem true (argvAt top args) (8 * (length args + 1))) p in
+    let b₂ = both (not (belowZero top args)) (userRangeOk mem true (stringsAt top args) (length (strings args))) (b₁ .0) in
+    record { count = refl; read-back = read-back mem top args whole e p; near = near pc top args h e (not-true (belowZero top args) (b₂ .0)) }
+
+-- ---- of calls
+
+-- the stack of a program that has just been loaded may be written
+pub record Stacked (image : List ℕ) (args : List (List ℕ)) : Type 0 where
+  pub whole : (a : ℕ) → cellOk true (loaded image a) ≡ cellOk true (loaded image (pageDown a))
+  pub fit : argsError args ≡ 0
+  pub room : pushOk (loaded image) ustktop args ≡ true
+
+module _ (m : Machine) (pc : ℕ) where
+  pub start-args : (image name bytes lengths : List ℕ) → Stacked image (argsOf bytes lengths)
+      → ArgsRead m (start image name bytes lengths) (run m (start image name bytes lengths) .mem) (registers pc ustktop (argsOf bytes lengths))
+  start-args image name bytes lengths s = args-at (loaded image) pc ustktop (argsOf bytes lengths) (s .whole) refl (s .fit) (s .room)
+
+  pub replace-args : (image name : List ℕ) (argv : ℕ) → Stacked image (copyArgv (m .mem) argv .args)
+      → ArgsRead m (replace image name argv) (run m (replace image name argv) .mem) (registers pc ustktop (copyArgv (m .mem) argv .args))
+  replace-args image name argv s = args-at (loaded image) pc ustktop (copyArgv (m .mem) argv .args) (s .whole) refl (s .fit) (s .room)
+
+  pub push-args : (top : ℕ) (bytes lengths : List ℕ) → ((a : ℕ) → cellOk true (m .mem a) ≡ cellOk true (m .mem (pageDown a)))
+      → top % 16 ≡ 0 → argsError (argsOf bytes lengths) ≡ 0 → pushOk (m .mem) top (argsOf bytes lengths) ≡ true
+      → ArgsRead m (push pc top bytes lengths) (run m (push pc top bytes lengths) .mem) (registers pc top (argsOf bytes lengths))
+  push-args top bytes lengths = args-at (m .mem) pc top (argsOf bytes lengths)

@@ -1,18 +1,23 @@
--- Histories, lines, and demand 3: one claim about whole lists of the ten calls, in any order.
+-- Histories, lines, and demand 3: one claim about whole lists of the ten calls, in any order; demand 2's sentence on arguments; and
+-- both of a run of functions.
 -- A list of calls has its latest call first, and so has a line. Assumes nothing.
-use Prim.Native.Nat.{ℕ}
+use Prim.Native.Nat.{ℕ, _-_, _≤_}
 use mathlib.Core.Path.{_≡_}
 use mathlib.Core.Bool.{Bool, true, false, not, _&&_}
 use mathlib.Core.Option.{Option, none, some}
 use mathlib.Core.List.{List, [], _∷_, map}
 use lib.ListN.{length}
 use Rattle.spec.specs.Tests.{_is_, _⇒_else_, all}
+use Rattle.spec.specs.Numbers.{ustktop, argLimit}
 use Rattle.spec.specs.Book.{valid, free, pieces, permAt}
-use Rattle.spec.specs.Frames.{Cell, sized}
-use Rattle.spec.specs.Machine.{Ask, end, Call, Kind, begins, forks, plain, kind, Outcome, accepted, refused, ended, Reply, outcome, Machine, off, feed, judge}
+use Rattle.spec.specs.Frames.{Cell, Mem, sized}
+use Rattle.spec.specs.Exec.{argsOf, copyArgv}
+use Rattle.spec.specs.Machine.{Ask, start, replace, push, break, fork, end, user-range-ok, copy-from-user, copy-to-user, try-copy-str-from-user, Call, Kind, begins, forks, plain, kind, Outcome, accepted, refused, ended, Reply, outcome, Machine, off, feed, judge}
 use Rattle.spec.specs.World.{State, sound, taken, view, answer, readable, after, Does}
 use Rattle.spec.specs.declared.Proc.{Proc}
 use Rattle.spec.specs.declared.Procs.{Procs}
+use Rattle.spec.specs.declared.UserRegs.{UserRegs}
+use Rattle.spec.specs.declared.Answer.the-variants.{Regs}
 
 -- frames, book and records after a list of calls
 abbrev pub state : State → List Call → State
@@ -32,8 +37,13 @@ pub record Entry : Type 0 where
   pub asked : Asked
   pub answered : Reply
 
-abbrev pub entry : State → Call → Entry
-entry s c = record { asked = record { call = c; free-before = free (s .store .book); taken-before = taken s }; answered = answer s c }
+abbrev pub entry : State → Call → Reply → Entry
+entry s c r = record { asked = record { call = c; free-before = free (s .store .book); taken-before = taken s }; answered = r }
+
+-- the entries of a list of calls
+abbrev pub entries : State → List Call → List Entry
+entries s [] = []
+entries s (c ∷ earlier) = entry (state s earlier) c (answer (state s earlier) c) ∷ entries s earlier
 
 -- a line for each number
 abbrev pub Lines : Type 0
@@ -57,12 +67,14 @@ join l e n (forks child segments) refused = later l e n
 join l e n (forks child segments) ended = later l e n
 join l e n plain o = later l e n
 
--- each number's line after a list of calls; a dead number keeps its last line
+-- each number's line in a list of entries; a dead number keeps its last line
+abbrev pub linesOf : List Entry → Lines
+linesOf [] = λ n. []
+linesOf (e ∷ earlier) = join (linesOf earlier) e (e .asked .call .number) (kind (e .asked .call .ask)) (outcome (e .answered))
+
+-- and after a list of calls
 abbrev pub lines : State → List Call → Lines
-lines s [] = λ n. []
-lines s (c ∷ earlier) =
-    let e : Entry = entry (state s earlier) c in
-    join (lines s earlier) e (c .number) (kind (c .ask)) (outcome (e .answered))
+lines s h = linesOf (entries s h)
 
 -- a process lives from its line's start to an answer that says it ended or an accepted end, which leave its machine nothing
 abbrev pub machine : List Entry → Machine
@@ -122,9 +134,60 @@ pub record Claim : Type 0 where
       → (map (λ e. e .answered) (lines s h n) ≡ map (λ e. e .answered) (lines t g n))
       × ((a : ℕ) → readable (state s h) n a ≡ readable (state t g) n a)
 
+-- ---- demand 2's last sentence: pushed arguments read back as given, and top minus stack pointer is at most the argument limit
+
+-- registers tell of arguments that were pushed below `top`
+pub record ArgsAt (mem : Mem) (top : ℕ) (args : List (List ℕ)) (regs : UserRegs) : Type 0 where
+  pub count : regs .argc ≡ length args
+  pub read-back : copyArgv mem (regs .argv) ≡ record { error = 0; args = args }
+  pub near : (regs .sp ≤ top) × (top - regs .sp ≤ argLimit)
+
+-- what registers that were answered tell of memory after the call: of start and push the arguments given, of replace those that it
+-- read before; no other call answers registers
+abbrev pub ArgsRead : Machine → Ask → Mem → UserRegs → Type 0
+ArgsRead m (start image name bytes lengths) mem regs = ArgsAt mem ustktop (argsOf bytes lengths) regs
+ArgsRead m (replace image name argv) mem regs = ArgsAt mem ustktop (copyArgv (m .mem) argv .args) regs
+ArgsRead m (push pc top bytes lengths) mem regs = ArgsAt mem top (argsOf bytes lengths) regs
+ArgsRead m (break addr) mem regs = ⊥
+ArgsRead m (fork child segments) mem regs = ⊥
+ArgsRead m end mem regs = ⊥
+ArgsRead m (user-range-ok addr len write) mem regs = ⊥
+ArgsRead m (copy-from-user buffer src) mem regs = ⊥
+ArgsRead m (copy-to-user dst bytes) mem regs = ⊥
+ArgsRead m (try-copy-str-from-user buffer src) mem regs = ⊥
+
+-- after any calls
+abbrev pub Arguments : Type 0
+Arguments =
+    (s : State) → Begin s → (h : List Call) (c : Call) (regs : UserRegs) → answer (state s h) c .says ≡ Regs regs
+    → ArgsRead (view (state s h) (c .number)) (c .ask) (view (state s (c ∷ h)) (c .number) .mem) regs
+
 -- ---- the tie to the code
 
--- the state that a list of calls led to, each of which did what its contract says
-pub data Ran (s : State) : List Call → State → Type 0 where
+-- a run of functions, each of which did what its contract says: the entries of its calls, with what the functions answered, and the
+-- state that it led to
+pub data Ran (s : State) : List Entry → State → Type 0 where
   none-yet : Ran s [] s
-  one-more : {h : List Call} {t u : State} {c : Call} {r : Reply} → Ran s h t → Does t c u r → Ran s (c ∷ h) u
+  one-more : {h : List Entry} {t u : State} {c : Call} {r : Reply} → Ran s h t → Does t c u r → Ran s (entry t c r ∷ h) u
+
+-- what a program that calls them in any order may rely on
+pub record Runs : Type 0 where
+  -- each call finds frames and book sized and sound, so that 1 and 2 are answered only for lengths and lists that don't fit
+  pub found : (s t : State) → Begin s → (h : List Entry) → Ran s h t → (sized (t .store) ≡ true) × (sound t ≡ true)
+  -- readable addresses and bytes are those of the machine fed the process's line
+  pub bytes : (s t : State) → Begin s → (h : List Entry) → Ran s h t → (n a : ℕ) → valid n ≡ true → readable t n a ≡ held (machine (linesOf h n)) a
+  -- a number is taken while that machine holds segments
+  pub numbers : (s t : State) → Begin s → (h : List Entry) → Ran s h t → (n : ℕ) → valid n ≡ true
+      → taken t n ≡ not (length (machine (linesOf h n) .segments) is 0)
+  -- what a function answers next is what the table gives over that machine, the free frames and the numbers taken
+  pub answers : (s t u : State) → Begin s → (h : List Entry) → Ran s h t → (c : Call) (r : Reply) → Does t c u r
+      → r ≡ judge (machine (linesOf h (c .number))) (free (t .store .book)) (taken t) c
+  -- registers that it answers tell of the arguments
+  pub arguments : (s t u : State) → Begin s → (h : List Entry) → Ran s h t → (c : Call) (r : Reply) (regs : UserRegs) → Does t c u r → r .says ≡ Regs regs
+      → ArgsRead (view t (c .number)) (c .ask) (view u (c .number) .mem) regs
+  -- two runs with the same line, equally many free frames and the same numbers taken before each call of it, have had equal answers
+  -- to it from the functions and end with equal bytes
+  pub alike : (s t u v : State) → Begin s → Begin u → (h g : List Entry) → Ran s h t → Ran u g v → (n : ℕ) → valid n ≡ true
+      → map (λ e. e .asked) (linesOf h n) ≡ map (λ e. e .asked) (linesOf g n)
+      → (map (λ e. e .answered) (linesOf h n) ≡ map (λ e. e .answered) (linesOf g n))
+      × ((a : ℕ) → readable t n a ≡ readable v n a)

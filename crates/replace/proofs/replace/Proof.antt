@@ -18,7 +18,7 @@ use Rattle.front.specs.Numbers.{stateOf, call, plainError}
 use Rattle.front.proofs.First.{Passed, plain-none, sizes-words}
 use Rattle.front.proofs.Answers.{plain-refused, plain-goes}
 use Rattle.argv.specs.Reading.{argvOf}
-use Rattle.argv.proofs.Fitting.{argv-fits}
+use Rattle.laws.proofs.Argv.{argv-fits}
 use Rattle.replace.proofs.Weighed.{image-refused, argv-bad, argv-over, enter-weighs, enter-leaves}
 use Rattle.replace.proofs.replace.Statement.{statement}
 use Rattle.replace.proofs.replace.Tie as tie

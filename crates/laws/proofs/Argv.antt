@@ -1,18 +1,29 @@
--- Arguments that copy_argv has read have no NUL and are within the limit.
+-- The arguments of replace: one turn of reading them, by its tests; and those that were read have no NUL and are within the limit.
 use Prim.Native.Nat.{ℕ, zero, suc, _+_, _*_}
+use native.Mathlib.Numerals.{add-one}
 use mathlib.Core.Path.{_≡_, refl, sym, subst, _∙_}
-use mathlib.Core.Bool.{Bool, true, false}
+use mathlib.Core.Bool.{Bool, true, false, not}
 use mathlib.Core.List.{List, [], _∷_, _++_}
 use lib.ListN.{length, take}
-use Rattle.spec.specs.Tests.{_is_, _above_, any, has}
+use Rattle.spec.specs.Tests.{_is_, _above_, _⇒_else_, any, has}
 use Rattle.spec.specs.Numbers.{argLimit, le}
 use Rattle.spec.specs.Frames.{Mem}
-use Rattle.spec.specs.Access.{userRangeOk, bytesAt, Str, copyStr}
+use Rattle.spec.specs.Access.{userRangeOk, byteOf, bytesAt, Str, copyStr}
 use Rattle.spec.specs.Exec.{strings, stackSize, argsError, Argv, argBuffer, argvFrom, copyArgv}
+use Rattle.spec.proofs.Bools.{split}
 use Rattle.spec.proofs.Lists.{any-append}
-use Rattle.copy_arg.proofs.Buffered.{str-no-nul}
 use Rattle.spec.proofs.Args.{args-means}
-use Rattle.argv.proofs.Turned.{turn}
+
+-- ---- one turn, by its tests
+
+abbrev pub turn : Bool → Bool → Bool → Bool → Bool → List (List ℕ) → Argv → Argv
+turn ok z w f g before more =
+    not ok ⇒ record { error = 35; args = [] } else
+    z ⇒ record { error = 0; args = before } else
+    not w ⇒ record { error = 35; args = [] } else
+    f ⇒ record { error = 33; args = [] } else
+    g ⇒ record { error = 33; args = [] } else
+    more
 
 -- neither 35 nor 33 is given but where nothing is: then the arguments can be pushed
 abbrev pub Fits : Argv → Type 0
@@ -27,6 +38,14 @@ fits-turn true false false f g before more e h = λ x y. absurd (x refl)
 fits-turn false z w f g before more e h = λ x y. absurd (x refl)
 
 -- ---- one argument more
+
+-- no byte of a string that was read is a NUL
+pub str-no-nul : (mem : Mem) (d : List ℕ) (a : ℕ) → has 0 (take (copyStr mem d a .size) (copyStr mem d a .buffer)) ≡ false
+str-no-nul mem [] a = refl
+str-no-nul mem (x ∷ d) a =
+    split (userRangeOk mem false a 1)
+    (λ q. split (byteOf (mem a) is 0) (λ z. rw (q, z)) (λ z. rw (q, z, add-one (copyStr mem d (a + 1) .size)) (rw z (str-no-nul mem d (a + 1)))))
+    (λ q. rw q)
 
 error-more : (args : List (List ℕ)) (a : List ℕ) → argsError args ≡ 0 → has 0 a ≡ false → (stackSize (length (strings (args ++ a ∷ []))) (length (args ++ a ∷ [])) above argLimit) ≡ false → argsError (args ++ a ∷ []) ≡ 0
 error-more args a e n l =
