@@ -1,4 +1,5 @@
--- What a program's author asks: whose bytes a call changes, what a child, a start and a moved break find, and which starts fit.
+-- What a program's author asks: whose bytes a call changes, what a child, a start and a moved break find, where a program's arguments
+-- are, and which starts fit.
 -- Of any good state, and so after any list of calls.
 use Prim.Native.Nat.{ℕ, _+_, _-_, _≤_, _<_}
 use native.Mathlib.Omega.{arith}
@@ -14,12 +15,13 @@ use Rattle.spec.specs.Tests.{_is_, _isnt_, _above_, within, _⇒_else_, any, sa
 use Rattle.spec.specs.Numbers.{argLimit, ustktop, pageUp}
 use Rattle.spec.specs.Book.{valid, free, sameSegment, permAt, pageCount}
 use Rattle.spec.specs.Elf.{Segment, segmentsOf, entry, inFile}
-use Rattle.spec.specs.Exec.{imageError, startPieces, fileByte, loaded, argsOf, strings, argsError, stringsAt, argvAt, registers, pointers, pushed}
+use Rattle.spec.specs.Exec.{imageError, startPieces, fileByte, loaded, argsOf, strings, argsError, stringsAt, argvAt, registers, pointers, pushed, copyArgv}
 use Rattle.spec.specs.Segment.{moved}
-use Rattle.spec.specs.Machine.{Ask, start, break, fork, end, Call, Kind, begins, forks, plain, kind, Outcome, accepted, refused, ended, outcome, plainly, Machine, off, begun, feed, own, unclaimed}
+use Rattle.spec.specs.Machine.{Ask, start, replace, push, break, fork, end, Call, Kind, begins, forks, plain, kind, Outcome, accepted, refused, ended, outcome, plainly, Machine, off, begun, feed, own, unclaimed}
 use Rattle.spec.specs.World.{State, taken, view, answer, readable, after}
-use Rattle.spec.specs.History.{state, put, byteIn, held}
+use Rattle.spec.specs.History.{state, put, byteIn, held, ArgsAt}
 use Rattle.spec.specs.declared.UserSegment.{UserSegment}
+use Rattle.spec.specs.declared.UserRegs.{UserRegs}
 use Rattle.spec.specs.declared.Answer.{Answer}
 use Rattle.spec.specs.declared.Answer.the-variants.{Regs, Done, Refused}
 use Rattle.laws.proofs.Lists.{Each}
@@ -29,6 +31,7 @@ use Rattle.history.proofs.OneState.{reads, numbers}
 use Rattle.history.proofs.Accepted.{not-refused, starts, breaks, forks-child, ends}
 use Rattle.history.proofs.Ended.{forget-free}
 use Rattle.history.proofs.EachCall.{each-call}
+use Rattle.history.proofs.Arguments.{args-read}
 
 abbrev call : ℕ → Ask → Call
 call n q = record { number = n; ask = q }
@@ -174,6 +177,23 @@ below-args s g n image name bytes lengths e a l =
     let args : List (List ℕ) = argsOf bytes lengths in
     let small = args-means args (starts s g n image name bytes lengths e .args-fit) .1 in
     record { no-string = within-not _ _ a (λ x y. omega arith); no-pointer = within-not _ _ a (λ x y. omega arith) }
+
+-- ---- arguments
+
+-- a program that was started finds the arguments given where its registers say
+pub start-tells : (s : State) → Good s → (n : ℕ) (image name bytes lengths : List ℕ) (regs : UserRegs) → answer s (call n (start image name bytes lengths)) .says ≡ Regs regs
+    → ArgsAt (view (after s (call n (start image name bytes lengths))) n .mem) ustktop (argsOf bytes lengths) regs
+start-tells s g n image name bytes lengths regs e = args-read s g (call n (start image name bytes lengths)) regs e
+
+-- one that replaced another finds those that the other had in memory
+pub replace-tells : (s : State) → Good s → (n : ℕ) (image name : List ℕ) (argv : ℕ) (regs : UserRegs) → answer s (call n (replace image name argv)) .says ≡ Regs regs
+    → ArgsAt (view (after s (call n (replace image name argv))) n .mem) ustktop (copyArgv (view s n .mem) argv .args) regs
+replace-tells s g n image name argv regs e = args-read s g (call n (replace image name argv)) regs e
+
+-- and so does one that arguments are pushed to
+pub push-tells : (s : State) → Good s → (n pc top : ℕ) (bytes lengths : List ℕ) (regs : UserRegs) → answer s (call n (push pc top bytes lengths)) .says ≡ Regs regs
+    → ArgsAt (view (after s (call n (push pc top bytes lengths))) n .mem) top (argsOf bytes lengths) regs
+push-tells s g n pc top bytes lengths regs e = args-read s g (call n (push pc top bytes lengths)) regs e
 
 -- ---- what fits is accepted
 

@@ -1,11 +1,12 @@
--- Answers as C sees them, and the one form of the exported calls' contracts. Who links the library believes this module besides the
--- specification: `Tells` is `Does` with the answer in numbers.
+-- Answers as C sees them, the one form of the exported calls' contracts, and runs of exported functions. Who links the library
+-- believes this module besides the specification: `Tells` is `Does` with the answer in numbers, and demand 3 holds of such runs.
 -- Assumes nothing.
 use Prim.Native.Nat.{ℕ}
 use mathlib.Core.Path.{_≡_}
-use mathlib.Core.List.{List}
+use mathlib.Core.List.{List, [], _∷_, map}
 use Rattle.spec.specs.Machine.{Outcome, accepted, refused, ended, outcomeOf, numberOf, regsOf, valueOf, Call}
 use Rattle.spec.specs.World.{State, after, answer}
+use Rattle.spec.specs.History.{Entry, Ran}
 use Rattle.spec.specs.declared.Answer.{Answer}
 use Rattle.told.specs.declared.Told.{Told}
 
@@ -25,3 +26,25 @@ pub record Tells (s : State) (c : Call) (t : State) (o : Told) (buffer : List �
   pub left : t ≡ after s c
   pub said : o ≡ toldOf (answer s c .says)
   pub lent : buffer ≡ answer s c .buffer
+
+-- ---- runs of exported functions
+
+-- a call, with what its function told and left in its lent buffer
+pub record Heard : Type 0 where
+  pub call : Call
+  pub told : Told
+  pub buffer : List ℕ
+
+-- a run of exported functions, each of which did what its contract says, and the state that it led to
+pub data Linked (s : State) : List Heard → State → Type 0 where
+  none-yet : Linked s [] s
+  one-more : {h : List Heard} {t u : State} {c : Call} {o : Told} {b : List ℕ} → Linked s h t → Tells t c u o b
+      → Linked s (record { call = c; told = o; buffer = b } ∷ h) u
+
+-- an entry of a run under `Does`, as C hears it
+abbrev pub heardOf : Entry → Heard
+heardOf e = record { call = e .asked .call; told = toldOf (e .answered .says); buffer = e .answered .buffer }
+
+-- it is a run under `Does` that C heard: what `Runs` says of lines, bytes and answers holds of it
+abbrev pub LinkedRuns : Type 0
+LinkedRuns = (s t : State) (h : List Heard) → Linked s h t → (k : List Entry) × (Ran s k t × (h ≡ map heardOf k))

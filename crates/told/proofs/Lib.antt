@@ -1,0 +1,2 @@
+-- A run of exported functions is a run under `Does`.
+pub mod Linked
