@@ -1,4 +1,5 @@
-"""What crates/ declares, for tools/trace and tools/unused: files, their declarations and imports, and where a path of src/ leads."""
+"""What crates/ declares, for tools/trace, tools/unused and tools/believed: files, their declarations and imports, where a path of src/
+leads, and what a definition cites."""
 import collections
 import functools
 import glob
@@ -62,7 +63,7 @@ def rust(file):
             owner = ''
 
 
-ANTT = re.compile(r'^( *)((?:pub |abbrev |unfoldable )*)(?:(record|data|module) (\S+)|((?:[^\s(){};:,.λ]+ )+)(?=: ))(.*)')
+ANTT = re.compile(r'^( *)((?:pub |abbrev |unfoldable )*)(?:(record|data|module) ([^\s{]+)|((?:[^\s(){};:,.λ]+ )+)(?=: ))(.*)')
 
 
 def antt(file):
@@ -157,9 +158,104 @@ def resolve(file, path, seen=()):
         return here[first, rest[0]]
     if rest and ('', first) in here and here['', first].kind == 'mod':
         return resolve(source(file.crate, '.'.join(filter(None, [file.module, first]))), rest, seen)
-    if first in uses(file):
-        return resolve(file, uses(file)[first][0] + rest, seen)
     if rest and first in crates():
         exported = [i for i in items() if i.file.crate == first and i.public == 'C' and [i.name] == rest]
         return exported[0] if exported else resolve(source(first, ''), rest, seen)
+    if first in uses(file):
+        return resolve(file, uses(file)[first][0] + rest, seen)
     return None
+
+
+# ---- what definitions and lemmas cite
+
+WORD = re.compile(r'[^\s(){};,."]+')
+IMPORT = re.compile(r'^\s*(?:ghost )?(pub )?use Rattle·(\w+)(?:·\w+)?\.(specs|proofs)\.([^\s{};]+?)(?:\.\{(.*)\}| as (\S+))?;?$')
+
+
+@functools.cache
+def defined():
+    """The items of each file of specs/ and proofs/ by name, without fields and what is local."""
+    found = {f: {} for f in files()}
+    for i in items():
+        if i.file.folder != 'src' and i.kind not in ('field', 'local'):
+            found[i.file][i.name] = i
+    return found
+
+
+@functools.cache
+def types():
+    """The files of the types that src/ declares."""
+    return {(i.file.crate, i.name): i.file for i in items() if i.kind in ('struct', 'enum')}
+
+
+@functools.cache
+def module(crate, folder, name):
+    return next((f for f in files() if (f.crate, f.folder, f.module) == (crate, folder, name)), None)
+
+
+@functools.cache
+def imports(file):
+    """The names that a file imports, each with the file and the name that it has there, and those it passes on; and its aliases. A
+    type that src/ declares stands for the file that declares it."""
+    brought, passed, aliases = {}, {}, {}
+    for line in lines(file.path):
+        m = IMPORT.match(line)
+        if not m:
+            continue
+        origin = module(*m.group(2, 3, 4))
+        for part in (m.group(5) or '').split(','):
+            there, _, here = part.strip().partition(' as ')
+            where = origin or types().get((m.group(2), there))
+            if where:
+                brought[here or there] = (where, there)
+                if m.group(1):
+                    passed[here or there] = brought[here or there]
+        if origin and m.group(6):
+            aliases[m.group(6)] = origin
+    return brought, passed, aliases
+
+
+def follow(file, name):
+    """The item of a name that a file declares or passes on."""
+    if file.folder == 'src':
+        return declared(file)['', name]
+    if name in defined()[file]:
+        return defined()[file][name]
+    return follow(*imports(file)[1][name]) if name in imports(file)[1] else None
+
+
+def parts(name):
+    """The words of a name, of `_is_` and the like those between the places."""
+    return [p for p in name.split('_') if p] if '_' in name else [name]
+
+
+def blocks(file):
+    """Each line of a file of specs/ or proofs/, but for imports, with the declaration that it stands in, or None."""
+    inside, here = None, defined()[file]
+    for line in lines(file.path):
+        if re.match(r'\s*(ghost )?(pub )?(use|mod) ', line):
+            continue
+        m = re.match(r'( *)(?:(?:abbrev|unfoldable|pub|record|data) )*([^\s(){};:,.]+)', line)
+        if m and m.group(2) in here and re.match(m.group(1) + r'\S', lines(file.path)[here[m.group(2)].line - 1]):
+            inside = here[m.group(2)]
+        yield None if line.lstrip().startswith('open ') else inside, line
+
+
+@functools.cache
+def cites():
+    """The items that each declaration cites, and those that are cited outside of one (in contracts of src/ among others)."""
+    found, loose = collections.defaultdict(set), set()
+    for file in files():
+        brought, _, aliases = imports(file)
+        words = collections.defaultdict(set)
+        for inside, line in blocks(file):
+            words[inside].update(WORD.findall(line))
+            for alias, word in re.findall(r'(?<![^\s(){};,"])([^\s(){};,."]+)\.([^\s(){};,."]+)', line):
+                if alias in aliases:
+                    words[inside].add((aliases[alias], word))
+        for inside, there in words.items():
+            into = found[inside] if inside else loose
+            into |= {follow(*w) for w in there if isinstance(w, tuple)}
+            known = [n for n in list(defined()[file]) + list(brought) if all(p in there for p in parts(n))]
+            into |= {defined()[file].get(n) or follow(*brought[n]) for n in known}
+    return found, loose
