@@ -20,7 +20,7 @@ pub fn zero_frame(frames: &mut [u8], at: mem::PhysAddr)
 }
 
 // The frame at `at` becomes `from` zeros, then `s`, then zeros.
-pub fn fill_frame(frames: &mut [u8], at: mem::PhysAddr, from: usize, s: &[u8])
+fn fill_frame(frames: &mut [u8], at: mem::PhysAddr, from: usize, s: &[u8])
     requires { ⌜ (at .0 + 4096 ≤ length (now frames)) × (from + length (now s) ≤ 4096) ⌝ }
     ensures { λ _. ⌜ now (frames .exit) ≡ put (now (frames .entry)) (at .0) (padded from (now (s .entry))) ⌝ }
 {

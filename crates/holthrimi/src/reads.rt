@@ -1,5 +1,5 @@
-// The calls that change nothing but a lent buffer. Each copies the records from behind their reference, makes the call of crate
-// `calls` with the other arguments as they are, and tells its answer.
+// The calls that change nothing but a lent buffer. Each copies the records from behind their reference, makes the call of its name in
+// crate access with the other arguments as they are, and tells its answer.
 
 ghost use mathlib.Core.Path.{_≡_};
 ghost use mathlib.Core.List.{[]};

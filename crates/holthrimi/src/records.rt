@@ -1,5 +1,6 @@
-// The calls that change frames, book or records. Each copies the records from behind their reference, makes the call of crate `calls`
-// with the other arguments as they are, puts back the records that it leaves, and tells its answer.
+// The calls that change frames, book or records. Each copies the records from behind their reference, makes the call of its name in
+// that call's own crate (`start::start`; the copies in access) with the other arguments as they are, puts back the records that it
+// leaves, and tells its answer.
 
 ghost use mathlib.Core.Path.{_≡_};
 ghost use mathlib.Core.List.{[]};

@@ -21,12 +21,6 @@ impl PhysAddr {
         PhysAddr(value)
     }
 
-    pub fn addr(self) -> u64
-        ensures { λ r. ⌜ r ≡ self .0 ⌝ }
-    {
-        self.0
-    }
-
     // The address `offset` bytes further on.
     pub fn add(self, offset: u64) -> Self
         requires { ⌜ self .0 + offset < 2 ^ 64 ⌝ }
@@ -75,7 +69,7 @@ pub fn range(start: u64, end: u64) -> spec::VirtRange
 }
 
 // `VirtRange::size`, of a range that doesn't end before it starts.
-pub fn size(r: spec::VirtRange) -> u64
+fn size(r: spec::VirtRange) -> u64
     requires { ⌜ r .start ≤ r .end ⌝ }
     ensures { λ n. ⌜ n ≡ r .end - r .start ⌝ }
 {

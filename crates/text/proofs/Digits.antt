@@ -6,18 +6,10 @@ use mathlib.Core.List.{List, [], _∷_, _++_, append-assoc}
 use Prim.Native.Nat.{ℕ, zero, suc, _+_, _-_, _*_, _/_, _%_, _^_, _<_, _≤_}
 use native.Mathlib.Nat.{not-suc-le-zero, pow-suc}
 use native.Mathlib.Omega.{arith}
-use lib.ListN.{length, getD, drop, set, length-set, length-append}
+use lib.ListN.{length, getD, drop, set, length-set}
 use lib.Seq.{drop-cons, drop-set-lt, getD-set-same, lt-length-set}
 use borrow.Author.Tests.{lt-ltb, le-ltb}
-use Rattle.spec.proofs.Bools.{split}
-use Rattle.spec.specs.Tests.{_below_, _⇒_else_}
 use Rattle.spec.specs.Listing.{decimalOf, decimal}
-
--- at most as many as are allowed
-few-digits : (k n : ℕ) → length (decimalOf k n) ≤ k
-few-digits zero n = omega arith
-few-digits (suc k) n =
-    split (n below 10) (λ q. rw q (omega arith)) (λ q. rw q (omega (arith, length-append (decimalOf k (n / 10)) ((48 + n % 10) ∷ []), few-digits k (n / 10))))
 
 -- one more digit in front of those written
 front : (digits : List ℕ) (j d : ℕ) → j < length digits → drop j (set digits j d) ≡ d ∷ drop (suc j) digits

@@ -1,4 +1,5 @@
--- `argv::copy_arg` meets its contract: the string goes by way of a buffer of the limit, and is weighed before it is put behind the others.
+-- `copy_arg::copy_arg` meets its contract: the string goes by way of a buffer of the limit, and is weighed before it is put
+-- behind the others.
 use Prim.Native.Nat.{_+_, _≤_}
 use native.Mathlib.Omega.{arith}
 use mathlib.Core.Path.{_≡_, sym, ap, _∙_}

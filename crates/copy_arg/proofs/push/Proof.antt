@@ -1,4 +1,4 @@
--- `argv::push` meets its contract: a lent part becomes the string.
+-- `copy_arg::push` meets its contract: a lent part becomes the string.
 use Prim.Native.Nat.{_+_, _-_}
 use native.Mathlib.Omega.{arith}
 use mathlib.Core.Path.{_≡_, refl, ap, _∙_}

@@ -1,4 +1,4 @@
--- `elf::has_magic` meets its contract. The invariant: every place passed agrees with the magic.
+-- `field::has_magic` meets its contract. The invariant: every place passed agrees with the magic.
 -- Assumes nothing.
 use mathlib.Core.Path.{_≡_, _∙_, sym}
 use Prim.Native.Nat.{ℕ, _-_, _≤_, _<_}

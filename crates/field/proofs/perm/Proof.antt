@@ -1,4 +1,4 @@
--- `elf::perm` meets its contract: the code's table is the specification's, by one test of the eight entries.
+-- `field::perm` meets its contract: the code's table is the specification's, by one test of the eight entries.
 -- Assumes nothing.
 use mathlib.Core.Path.{refl}
 use mathlib.Core.List.{List, [], _∷_}

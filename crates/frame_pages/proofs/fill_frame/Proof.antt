@@ -1,4 +1,4 @@
--- `pagealloc::pages::fill_frame` meets its contract: three parts, one behind the other.
+-- `frame_pages::fill_frame` meets its contract: three parts, one behind the other.
 use denote.Ref.{now}
 use Rattle.frame_pages.proofs.Filled.{put-padded}
 use borrow.Author.Needs.{needs}

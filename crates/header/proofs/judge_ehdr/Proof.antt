@@ -1,4 +1,4 @@
--- `elf::judge_ehdr` meets its contract: each `return` is the case of `fieldsError` that the tests before it lead to.
+-- `header::judge_ehdr` meets its contract: each `return` is the case of `fieldsError` that the tests before it lead to.
 -- Assumes nothing.
 use borrow.Author.Needs.{needs}
 use Rattle.header.specs.Header.{fieldsError}

@@ -1,4 +1,4 @@
--- `elf::read_ehdr` meets its contract: each field is what the reader at its place ensures.
+-- `header::read_ehdr` meets its contract: each field is what the reader at its place ensures.
 -- Assumes nothing.
 use borrow.Author.Needs.{needs}
 use Rattle.header.proofs.read_ehdr.Statement.{statement}

@@ -1,4 +1,4 @@
--- `elf::in_text` meets its contract: the permission is what `perm` answers.
+-- `phdr::in_text` meets its contract: the permission is what `perm` answers.
 -- Assumes nothing.
 use borrow.Author.Needs.{needs}
 use Rattle.phdr.proofs.in_text.Statement.{statement}

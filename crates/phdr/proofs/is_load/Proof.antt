@@ -1,4 +1,4 @@
--- `elf::is_load` meets its contract, by computation.
+-- `phdr::is_load` meets its contract, by computation.
 -- Assumes nothing.
 use mathlib.Core.Path.{refl}
 use Rattle.phdr.proofs.is_load.Statement.{statement}

@@ -1,4 +1,4 @@
--- `elf::judge_phdr` meets its contract: each `return` is the case of `phdrError` that the tests before it lead to.
+-- `phdr::judge_phdr` meets its contract: each `return` is the case of `phdrError` that the tests before it lead to.
 -- Assumes nothing.
 use borrow.Author.Needs.{needs}
 use Rattle.spec.specs.Elf.{phdrError}

@@ -1,4 +1,4 @@
--- `elf::read_phdr` meets its contract: each field is what the reader at its place ensures.
+-- `phdr::read_phdr` meets its contract: each field is what the reader at its place ensures.
 -- Assumes nothing.
 use borrow.Author.Needs.{needs}
 use Rattle.phdr.proofs.read_phdr.Statement.{statement}

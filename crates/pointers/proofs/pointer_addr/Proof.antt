@@ -1,4 +1,4 @@
--- `argv::pointer_addr` meets its contract: a sum that 64 bits don't hold is given as their highest number.
+-- `pointers::pointer_addr` meets its contract: a sum that 64 bits don't hold is given as their highest number.
 use Prim.Native.Nat.{_+_, _*_}
 use native.Mathlib.Omega.{arith}
 use mathlib.Core.Path.{sym}

@@ -1,4 +1,4 @@
--- `argv::read_pointer` meets its contract: the range is checked before it is read.
+-- `pointers::read_pointer` meets its contract: the range is checked before it is read.
 use Prim.Native.Nat.{ℕ}
 use mathlib.Core.Path.{_≡_, sym, ap, _∙_}
 use mathlib.Core.Bool.{true, false}

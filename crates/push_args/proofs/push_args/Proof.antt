@@ -1,5 +1,5 @@
--- `push::push_args` meets its contract. The check looks at the book alone, so that the pointers' range still passes once the strings are
--- written.
+-- `push_args::push_args` meets its contract. The check looks at the book alone, so that the pointers' range still passes once the
+-- strings are written.
 use Prim.Native.Nat.{ℕ, _+_, _*_, _-_, _/_, _≤_}
 use native.Mathlib.Omega.{arith}
 use mathlib.Core.Path.{refl, sym, ap, _∙_}

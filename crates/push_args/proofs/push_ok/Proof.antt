@@ -1,4 +1,4 @@
--- `push::push_ok` meets its contract.
+-- `push_args::push_ok` meets its contract.
 use Prim.Native.Nat.{_+_, _*_, _-_, _/_, _≤_}
 use native.Mathlib.Omega.{arith}
 use mathlib.Core.Path.{_≡_, sym, ap, _∙_}

@@ -1,4 +1,4 @@
--- `push::write_pointers` meets its contract: the buffer begins with the pointers, and they are written at once.
+-- `push_args::write_pointers` meets its contract: the buffer begins with the pointers, and they are written at once.
 use Prim.Native.Nat.{ℕ}
 use mathlib.Core.Path.{_≡_, sym, ap, _∙_}
 use mathlib.Core.Bool.{Bool, true}

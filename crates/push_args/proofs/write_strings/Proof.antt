@@ -1,4 +1,4 @@
--- `push::write_strings` meets its contract: the buffer begins with the strings, and they are written at once.
+-- `push_args::write_strings` meets its contract: the buffer begins with the strings, and they are written at once.
 use Prim.Native.Nat.{ℕ}
 use native.Mathlib.Omega.{arith}
 use mathlib.Core.Path.{_≡_, sym, ap, _∙_}

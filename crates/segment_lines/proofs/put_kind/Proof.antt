@@ -1,4 +1,4 @@
--- `text::put_kind` meets its contract: the word of the permission.
+-- `segment_lines::put_kind` meets its contract: the word of the permission.
 -- Assumes nothing.
 use native.Mathlib.Omega.{arith}
 use borrow.Author.Needs.{needs}

@@ -1,4 +1,4 @@
--- `text::put_line` meets its contract: three texts, one behind the other.
+-- `segment_lines::put_line` meets its contract: three texts, one behind the other.
 -- Assumes nothing.
 use native.Mathlib.Omega.{arith}
 use borrow.Author.Needs.{needs}

@@ -1,4 +1,4 @@
--- `text::put_lines` meets its contract. The invariant: the lines of the segments passed are put.
+-- `segment_lines::put_lines` meets its contract. The invariant: the lines of the segments passed are put.
 -- Assumes nothing.
 use mathlib.Core.Path.{_≡_, sym, ap}
 use Prim.Native.Nat.{ℕ, _+_, _-_, _*_, _≤_}

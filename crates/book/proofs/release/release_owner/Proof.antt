@@ -1,4 +1,4 @@
--- `pagealloc::release::release_owner` meets its contract. The loop's invariant: the words before `i` are those after the release.
+-- `book::release::release_owner` meets its contract. The loop's invariant: the words before `i` are those after the release.
 use mathlib.Core.Path.{_≡_, refl, ap, _∙_}
 use Prim.Native.Nat.{ℕ, _-_, _≤_}
 use native.Mathlib.Omega.{arith}

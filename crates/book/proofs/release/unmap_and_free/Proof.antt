@@ -1,4 +1,4 @@
--- `pagealloc::release::unmap_and_free` meets its contract. The loop's invariant: the words before `i` are those after the release.
+-- `book::release::unmap_and_free` meets its contract. The loop's invariant: the words before `i` are those after the release.
 use mathlib.Core.Path.{_≡_, refl, ap, _∙_}
 use mathlib.Core.Bool.{Bool, _&&_}
 use Prim.Native.Nat.{ℕ, _-_, _≤_}

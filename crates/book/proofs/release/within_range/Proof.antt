@@ -1,4 +1,4 @@
--- `pagealloc::release::within_range` meets its contract: the word's owner and page are tested.
+-- `book::release::within_range` meets its contract: the word's owner and page are tested.
 use borrow.Author.Needs.{needs}
 use Rattle.book.proofs.release.within_range.Statement.{statement}
 use Rattle.book.proofs.release.within_range.Tie as tie

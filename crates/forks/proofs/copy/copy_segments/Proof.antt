@@ -141,9 +141,6 @@ module _ {M : Type 1} (𝓤 : URA M) (H : Heap 𝓤) (A : Atoms 𝓤) (W : Given
   top-fits : (s : State) → s .top < 2 ^ 64
   top-fits s = omega (arith, s .passed .0, s .same-book, room₁ .0)
 
-  index-fits : (s : State) → s .i < 2 ^ 64
-  index-fits s = omega (arith, s .within, room₂ .0)
-
   place-fits : (s : State) → s .i < length gs → s .i * 24 < 2 ^ 64
   place-fits s l = omega (arith, l, room₂ .1)
 
