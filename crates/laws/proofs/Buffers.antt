@@ -113,11 +113,3 @@ string-copied mem (d ∷ dst) a =
     (λ z. rw (q, z))
     (λ z. rw (q, z, add-one (copyStr mem dst (a + 1) .size)) (ap (λ (x : List ℕ). byteOf (mem a) ∷ x) (string-copied mem dst (a + 1)))))
     (λ q. rw q)
-
--- and the rest of the buffer is unchanged
-string-rest : (mem : Mem) (dst : List ℕ) (a : ℕ) → drop (copyStr mem dst a .size) (copyStr mem dst a .buffer) ≡ drop (copyStr mem dst a .size) dst
-string-rest mem [] a = refl
-string-rest mem (d ∷ dst) a =
-    split (userRangeOk mem false a 1)
-    (λ q. split (byteOf (mem a) is 0) (λ z. rw (q, z)) (λ z. rw (q, z, add-one (copyStr mem dst (a + 1) .size)) (string-rest mem dst (a + 1))))
-    (λ q. rw q)

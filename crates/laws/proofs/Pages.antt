@@ -25,18 +25,6 @@ pages g = (g .range .end - g .range .start) / 4096
 
 -- ---- lists of pages
 
-from-append : (f : ℕ → List ℕ) (perm a j k : ℕ) → pagesFrom f perm a (j + k) ≡ pagesFrom f perm a j ++ pagesFrom f perm (a + 4096 * j) k
-from-append f perm a zero k =
-    let e : 0 + k ≡ k = omega arith in
-    let z : a + 4096 * 0 ≡ a = omega arith in
-    ap (pagesFrom f perm a) e ∙ ap (λ (x : ℕ). pagesFrom f perm x k) (sym z)
-from-append f perm a (suc j) k =
-    let e : suc j + k ≡ suc (j + k) = omega arith in
-    let z : a + 4096 + 4096 * j ≡ a + 4096 * suc j = omega arith in
-    ap (pagesFrom f perm a) e
-    ∙ ap (λ (ps : List Page). record { page = a; perm = perm; bytes = f a } ∷ ps)
-    (from-append f perm (a + 4096) j k ∙ ap (λ (x : ℕ). pagesFrom f perm (a + 4096) j ++ pagesFrom f perm x k) z)
-
 pub pages-append : (f : ℕ → List ℕ) (gs hs : List UserSegment) → pagesOf f (gs ++ hs) ≡ pagesOf f gs ++ pagesOf f hs
 pages-append f gs hs = flat-append (λ g. pagesFrom f (g .perm) (g .range .start) (pages g)) (pagesOf f) refl (λ g gs. refl) gs hs
 

@@ -1,5 +1,5 @@
--- The machine numbers, whole pages, and little-endian numbers in bytes. Every rule below cites a machine number by its name, so that
--- another machine's stand in this module alone.
+-- The machine numbers, whole pages, and little-endian numbers in bytes. Every rule below cites the machine's addresses and
+-- sizes by their names.
 -- Assumes nothing.
 use Prim.Native.Nat.{ℕ, zero, suc, _+_, _*_, _-_, _/_, _%_, _^_}
 use mathlib.Core.List.{List, [], _∷_}

@@ -37,8 +37,8 @@ pub record Heard : Type 0 where
 
 -- a run of exported functions, each of which did what its contract says, and the state that it led to
 pub data Linked (s : State) : List Heard → State → Type 0 where
-  none-yet : Linked s [] s
-  one-more : {h : List Heard} {t u : State} {c : Call} {o : Told} {b : List ℕ} → Linked s h t → Tells t c u o b
+  no-call : Linked s [] s
+  one-call : {h : List Heard} {t u : State} {c : Call} {o : Told} {b : List ℕ} → Linked s h t → Tells t c u o b
       → Linked s (record { call = c; told = o; buffer = b } ∷ h) u
 
 -- an entry of a run under `Does`, as C hears it
