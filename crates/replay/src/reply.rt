@@ -1,0 +1,47 @@
+// The text of an answer.
+use crate::world::Reply;
+use crate::world::World;
+use script::first;
+use script::first_words;
+use script::put;
+
+// Puts that a line or a file has more bytes than it may have.
+fn put_large(out: &mut [u8], most: usize) -> usize {
+    let end = replies::put_named(out, 0, b"too large: at most ", most as u64);
+    put(out, end, b" bytes")
+}
+
+// Puts the table of a living process.
+fn put_table(out: &mut [u8], book: &[u64], w: World, number: u64) -> usize {
+    let all = w.procs.all;
+    let i = (std::num::wrapping_sub_u64(number, 1) % 16) as usize;
+    let p = all[i];
+    replies::put_table(out, first_words(book, w.words), number, p)
+}
+
+// Puts an answer, and answers how many bytes it has.
+pub fn put_reply(
+    out: &mut [u8],
+    frames: &[u8],
+    book: &[u64],
+    space: &[u8],
+    w: World,
+    reply: Reply,
+) -> usize {
+    match reply {
+        Reply::Nothing => 0,
+        Reply::Bad => put(out, 0, b"bad line"),
+        Reply::Missing => put(out, 0, b"no such file"),
+        Reply::Large(most) => put_large(out, most),
+        Reply::Says(a) => replies::put_answer(out, a),
+        Reply::Asked(a) => replies::put_yes(out, a),
+        Reply::Shown(a, n) => replies::put_copied(out, a, first(space, n)),
+        Reply::Filled(a, n) => replies::put_string(out, a, first(space, n)),
+        Reply::Moved(value, bss) => replies::put_break(out, value, bss),
+        Reply::Sums => {
+            let procs = w.procs;
+            replies::put_sums(out, procs, first_words(book, w.words), first(frames, w.bytes))
+        }
+        Reply::Table(number) => put_table(out, book, w, number),
+    }
+}

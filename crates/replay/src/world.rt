@@ -1,0 +1,102 @@
+// What a script has made, and what a line leaves of it and answers.
+use front::left::Left;
+use script::FILE_MAX;
+use script::Taken;
+use spec::Answer;
+use spec::Procs;
+use spec::VirtRange;
+
+// The most frames that there are: one more than a book may have, to try number 1; and the bytes and book words of a frame.
+pub const FRAMES_MAX: usize = 1025;
+pub const FRAME_BYTES: usize = 4096;
+pub const FRAME_WORDS: usize = 1;
+
+// The records; how many bytes the frames have, and how many words their book; and how many of these a call is lent.
+pub struct World {
+    pub procs: Procs,
+    pub bytes: usize,
+    pub words: usize,
+    pub lent_bytes: usize,
+    pub lent_words: usize,
+}
+
+// What a line answers. `Shown` and `Filled` show the first bytes of the program's space: with what was copied, and with what a string
+// copy left.
+pub enum Reply {
+    Nothing,
+    Bad,
+    Missing,
+    Large(usize),
+    Says(Answer),
+    Asked(Answer),
+    Shown(Answer, usize),
+    Filled(Answer, usize),
+    Moved(u64, VirtRange),
+    Sums,
+    Table(u64),
+}
+
+// What a line leaves besides the bytes of frames and the words of the book, and its answer.
+pub struct Step {
+    pub world: World,
+    pub reply: Reply,
+}
+
+// No process, with so many bytes of frames and words of their book.
+pub fn fresh(bytes: usize, words: usize) -> World {
+    let p = front::record::zero_proc();
+    let all = [p; 16];
+    World {
+        procs: Procs { all: all },
+        bytes: bytes,
+        words: words,
+        lent_bytes: bytes,
+        lent_words: words,
+    }
+}
+
+// All as it is, with an answer.
+pub fn says(w: World, reply: Reply) -> Step {
+    Step {
+        world: w,
+        reply: reply,
+    }
+}
+
+// A line that is no call.
+pub fn bad(w: World) -> Step {
+    says(w, Reply::Bad)
+}
+
+// A line that is done.
+pub fn done(w: World) -> Step {
+    says(w, Reply::Says(Answer::Done))
+}
+
+// A refusal.
+pub fn refused(w: World, number: u64) -> Step {
+    says(w, Reply::Says(Answer::Refused(number)))
+}
+
+// A word that gives no bytes.
+pub fn wrong(w: World, t: Taken) -> Step {
+    match t {
+        Taken::Missing => says(w, Reply::Missing),
+        Taken::Large => says(w, Reply::Large(FILE_MAX)),
+        _ => bad(w),
+    }
+}
+
+// What is held once a call has left its records.
+pub fn after(w: World, left: Left) -> World {
+    let procs = left.procs;
+    let mut next = w;
+    next.procs = procs;
+    next
+}
+
+// What a call leaves and answers.
+pub fn answered(w: World, left: Left) -> Step {
+    let answer = left.answer;
+    says(after(w, left), Reply::Says(answer))
+}
