@@ -37,26 +37,32 @@ pub fn range(frames: &mut [u8], book: &mut [u64], w: World, line: &[u8]) -> Step
     bad(w)
 }
 
-// from NUMBER ADDRESS LENGTH
-pub fn from(
+// Copies into a buffer, which is blank first.
+fn copy_from(
     frames: &mut [u8],
     book: &mut [u64],
-    space: &mut [u8],
+    buffer: &mut [u8],
     w: World,
-    line: &[u8],
+    number: u64,
+    src: u64,
 ) -> Step {
+    script::fill(buffer, BLANK);
+    let procs = w.procs;
+    let left = calls::copy_from_user(frames, book, procs, number, buffer, src);
+    let answer = left.answer;
+    says(after(w, left), Reply::Shown(answer, buffer.len()))
+}
+
+// from NUMBER ADDRESS LENGTH
+pub fn from(frames: &mut [u8], book: &mut [u64], space: &mut [u8], w: World, line: &[u8]) -> Step {
     let Three::Are(number, src, len) = script::numbers(line, 3) else {
         return bad(w);
     };
     if len > BUFFER_MAX {
         return bad(w);
     }
-    let n = script::least(len as usize, space.len());
-    script::fill(space, n, BLANK);
-    let procs = w.procs;
-    let left = calls::copy_from_user(frames, book, procs, number, script::lent(space, n), src);
-    let answer = left.answer;
-    says(after(w, left), Reply::Shown(answer, n))
+    let buffer = script::lent(space, len as usize);
+    copy_from(frames, book, buffer, w, number, src)
 }
 
 // to NUMBER ADDRESS BYTES
@@ -79,6 +85,21 @@ pub fn to(
     answered(w, calls::copy_to_user(frames, book, procs, number, dst, src))
 }
 
+// Copies a string into a buffer, which is blank first.
+fn copy_string(
+    frames: &mut [u8],
+    book: &mut [u64],
+    buffer: &mut [u8],
+    w: World,
+    number: u64,
+    src: u64,
+) -> Step {
+    script::fill(buffer, BLANK);
+    let procs = w.procs;
+    let answer = calls::try_copy_str_from_user(frames, book, procs, number, buffer, src);
+    says(w, Reply::Filled(answer, buffer.len()))
+}
+
 // string NUMBER ADDRESS LENGTH
 pub fn string(
     frames: &mut [u8],
@@ -93,10 +114,6 @@ pub fn string(
     if len > BUFFER_MAX {
         return bad(w);
     }
-    let n = script::least(len as usize, space.len());
-    script::fill(space, n, BLANK);
-    let procs = w.procs;
-    let answer =
-        calls::try_copy_str_from_user(frames, book, procs, number, script::lent(space, n), src);
-    says(w, Reply::Filled(answer, n))
+    let buffer = script::lent(space, len as usize);
+    copy_string(frames, book, buffer, w, number, src)
 }

@@ -10,11 +10,10 @@ use crate::world::fresh;
 use script::Number;
 use script::Three;
 
-// Makes the first n words zero, or all.
-fn clear_words(words: &mut [u64], n: usize) {
-    let end = script::least(n, words.len());
+// Makes every word zero.
+fn clear_words(words: &mut [u64]) {
     let mut i = 0;
-    while i < end {
+    while i < words.len() {
         words[i] = 0;
         i += 1;
     }
@@ -44,8 +43,8 @@ pub fn frames(frames: &mut [u8], book: &mut [u64], w: World, line: &[u8]) -> Ste
     }
     let bytes = FRAME_BYTES * (n as usize);
     let words = FRAME_WORDS * (n as usize);
-    script::fill(frames, bytes, fill as u8);
-    clear_words(book, words);
+    script::fill(script::lent(frames, bytes), fill as u8);
+    clear_words(script::lent_words(book, words));
     done(fresh(bytes, words))
 }
 

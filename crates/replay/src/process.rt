@@ -67,7 +67,10 @@ fn fork_with(
         return answered(w, calls::fork(frames, book, procs, number, child));
     }
     let triples = script::first_words(list, n);
-    answered(w, calls::fork(frames, book, procs, number, child))
+    answered(
+        w,
+        listed::fork_triples(frames, book, procs, number, child, triples),
+    )
 }
 
 // fork PARENT CHILD [START END PERM ..]

@@ -96,6 +96,27 @@ fn take_name(space: &mut [u8], name: &mut [u8; NAME_MAX], word: &[u8]) -> Taken 
     Taken::Size(put(name, 0, kstr::elem(first(space, n))))
 }
 
+// Starts with what was taken.
+fn start_with(
+    frames: &mut [u8],
+    book: &mut [u64],
+    w: World,
+    number: u64,
+    image: &[u8],
+    name: &[u8],
+    bytes: &[u8; ARG_BYTES],
+    lengths: &[u64; ARGS],
+    a: Args,
+) -> Step {
+    let procs = w.procs;
+    let args = first(bytes, a.size);
+    let sizes = first_words(lengths, a.count);
+    answered(
+        w,
+        calls::start(frames, book, procs, number, image, name, args, sizes),
+    )
+}
+
 // Starts with the image that word 3 gives. It is taken last, into the space that name and arguments were taken by.
 fn start_image(
     frames: &mut [u8],
@@ -117,18 +138,8 @@ fn start_image(
     let Taken::Size(n) = t else {
         return wrong(w, t);
     };
-    let procs = w.procs;
-    let left = calls::start(
-        frames,
-        book,
-        procs,
-        number,
-        first(space, n),
-        name,
-        first(bytes, a.size),
-        first_words(lengths, a.count),
-    );
-    answered(w, left)
+    let image = first(space, n);
+    start_with(frames, book, w, number, image, name, bytes, lengths, a)
 }
 
 // Starts with the arguments that the words behind word 3 give.
@@ -178,6 +189,26 @@ pub fn start(
     start_args(frames, book, space, w, line, number, &name, n)
 }
 
+// Replaces with what was taken, and the address that word 4 gives.
+fn replace_with(
+    frames: &mut [u8],
+    book: &mut [u64],
+    w: World,
+    line: &[u8],
+    number: u64,
+    image: &[u8],
+    name: &[u8],
+) -> Step {
+    let Number::Is(argv) = script::word_number(line, 4) else {
+        return bad(w);
+    };
+    let procs = w.procs;
+    answered(
+        w,
+        calls::replace(frames, book, procs, number, image, name, argv),
+    )
+}
+
 // Replaces with the image that word 3 gives.
 fn replace_image(
     frames: &mut [u8],
@@ -193,15 +224,8 @@ fn replace_image(
     let Taken::Size(m) = t else {
         return wrong(w, t);
     };
-    let Number::Is(argv) = script::word_number(line, 4) else {
-        return bad(w);
-    };
-    let procs = w.procs;
     let image = first(space, m);
-    answered(
-        w,
-        calls::replace(frames, book, procs, number, image, first(name, n), argv),
-    )
+    replace_with(frames, book, w, line, number, image, first(name, n))
 }
 
 // replace NUMBER NAME IMAGE ARGV

@@ -72,13 +72,12 @@ pub fn put(out: &mut [u8], at: usize, bytes: &[u8]) -> usize
     end
 }
 
-// Makes the first n bytes `b`, or all.
-pub fn fill(bytes: &mut [u8], n: usize, b: u8)
+// Makes every byte `b`.
+pub fn fill(bytes: &mut [u8], b: u8)
     ensures { λ _. ⌜ length (now (bytes .exit)) ≤ length (now (bytes .entry)) ⌝ }
 {
-    let end = least(n, bytes.len());
     let mut i = 0;
-    while i < end {
+    while i < bytes.len() {
         bytes[i] = b;
         i += 1;
     }
