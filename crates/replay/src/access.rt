@@ -66,13 +66,7 @@ pub fn from(frames: &mut [u8], book: &mut [u64], space: &mut [u8], w: World, lin
 }
 
 // to NUMBER ADDRESS BYTES
-pub fn to(
-    frames: &mut [u8],
-    book: &mut [u64],
-    space: &mut [u8],
-    w: World,
-    line: &[u8],
-) -> Step {
+pub fn to(frames: &mut [u8], book: &mut [u64], space: &mut [u8], w: World, line: &[u8]) -> Step {
     let Three::Are(number, dst, _) = script::numbers(line, 2) else {
         return bad(w);
     };
@@ -82,7 +76,10 @@ pub fn to(
     };
     let procs = w.procs;
     let src = script::first(space, n);
-    answered(w, calls::copy_to_user(frames, book, procs, number, dst, src))
+    answered(
+        w,
+        calls::copy_to_user(frames, book, procs, number, dst, src),
+    )
 }
 
 // Copies a string into a buffer, which is blank first.

@@ -1,7 +1,7 @@
 // The lines of frames and book: frames, lend, word.
-use crate::world::FRAMES_MAX;
 use crate::world::FRAME_BYTES;
 use crate::world::FRAME_WORDS;
+use crate::world::FRAMES_MAX;
 use crate::world::Step;
 use crate::world::World;
 use crate::world::bad;

@@ -14,9 +14,9 @@ use libc::STDOUT_FILENO;
 use script::FILE_MAX;
 use script::LINE_MAX;
 use script::put;
-use world::FRAMES_MAX;
 use world::FRAME_BYTES;
 use world::FRAME_WORDS;
+use world::FRAMES_MAX;
 use world::World;
 
 // The longest answer: a buffer of 65,536 bytes in hex digits, and the rest of its line. The table of 1,024 pages is shorter.
@@ -24,6 +24,19 @@ const ANSWER_MAX: usize = 131136;
 
 // How many bytes are read at once.
 const READ_MAX: usize = 65536;
+
+// The program's buffers. Space holds a file's bytes, and one byte more, by which a longer file is seen to be one; so does a line.
+type Frames = [u8; FRAMES_MAX * FRAME_BYTES];
+
+type Book = [u64; FRAMES_MAX * FRAME_WORDS];
+
+type Space = [u8; FILE_MAX + 1];
+
+type Out = [u8; ANSWER_MAX];
+
+type Buffer = [u8; READ_MAX];
+
+type Line = [u8; LINE_MAX + 1];
 
 // What the program holds: what the script has made, and how far its input is read.
 struct Session {
@@ -33,10 +46,10 @@ struct Session {
 
 // Runs a line, and writes its answer, if it has one.
 fn answer(
-    frames: &mut [u8],
-    book: &mut [u64],
-    space: &mut [u8],
-    out: &mut [u8],
+    frames: &mut Frames,
+    book: &mut Book,
+    space: &mut Space,
+    out: &mut Out,
     w: World,
     line: &[u8],
 ) -> World {
@@ -53,12 +66,12 @@ fn answer(
 
 // Takes a turn: reads if there is nothing left to take, takes up to the end of a line, and answers the line if it is whole.
 fn turn(
-    frames: &mut [u8],
-    book: &mut [u64],
-    space: &mut [u8],
-    out: &mut [u8],
-    buffer: &mut [u8],
-    line: &mut [u8],
+    frames: &mut Frames,
+    book: &mut Book,
+    space: &mut Space,
+    out: &mut Out,
+    buffer: &mut Buffer,
+    line: &mut Line,
     s: Session,
 ) -> Session {
     let world = s.world;
@@ -80,12 +93,12 @@ fn turn(
 
 // Takes turns until the input ends.
 fn run(
-    frames: &mut [u8],
-    book: &mut [u64],
-    space: &mut [u8],
-    out: &mut [u8],
-    buffer: &mut [u8],
-    line: &mut [u8],
+    frames: &mut Frames,
+    book: &mut Book,
+    space: &mut Space,
+    out: &mut Out,
+    buffer: &mut Buffer,
+    line: &mut Line,
 ) {
     let mut s = Session {
         world: world::fresh(0, 0),
@@ -105,11 +118,9 @@ fn run(
 fn main() {
     let mut frames = [0u8; FRAMES_MAX * FRAME_BYTES];
     let mut book = [0u64; FRAMES_MAX * FRAME_WORDS];
-    // A file's bytes, and one byte more, so that a longer file is seen to be one.
     let mut space = [0u8; FILE_MAX + 1];
     let mut out = [0u8; ANSWER_MAX];
     let mut buffer = [0u8; READ_MAX];
-    // A line's bytes, and one byte more, so that a longer line is seen to be one.
     let mut line = [0u8; LINE_MAX + 1];
     run(
         &mut frames,

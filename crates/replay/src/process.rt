@@ -33,6 +33,15 @@ pub fn end(frames: &mut [u8], book: &mut [u64], w: World, line: &[u8]) -> Step {
     answered(w, calls::end(frames, book, procs, number))
 }
 
+// Puts a number at place n, if there is room, and answers the next place.
+fn add(dst: &mut [u64; LIST_MAX], n: usize, x: u64) -> usize {
+    if n < LIST_MAX {
+        dst[n] = x;
+        return n + 1;
+    }
+    n
+}
+
 // Takes the words of a line behind its first three as numbers, as many as there is room for.
 fn list(dst: &mut [u64; LIST_MAX], line: &[u8]) -> Count {
     let mut at = script::place(line, 3);
@@ -42,10 +51,7 @@ fn list(dst: &mut [u64; LIST_MAX], line: &[u8]) -> Count {
         let Number::Is(x) = script::number_at(line, at) else {
             return Count::Bad;
         };
-        if n < LIST_MAX {
-            dst[n] = x;
-            n += 1;
-        }
+        n = add(dst, n, x);
         at = script::next(line, at);
         left -= 1;
     }

@@ -16,6 +16,7 @@ const NAME_MAX: usize = 28;
 
 // Arguments that have this many bytes, or are this many, are over the limit of a start or push.
 const ARG_BYTES: usize = 4096;
+
 const ARGS: usize = 512;
 
 // The arguments that were taken: how many, how many bytes they have, and what the last word gave.
@@ -171,13 +172,7 @@ fn start_args(
 }
 
 // start NUMBER NAME IMAGE [ARG ..]
-pub fn start(
-    frames: &mut [u8],
-    book: &mut [u64],
-    space: &mut [u8],
-    w: World,
-    line: &[u8],
-) -> Step {
+pub fn start(frames: &mut [u8], book: &mut [u64], space: &mut [u8], w: World, line: &[u8]) -> Step {
     let Number::Is(number) = script::word_number(line, 1) else {
         return bad(w);
     };
@@ -279,13 +274,7 @@ fn push_args(
 }
 
 // push NUMBER PC TOP [ARG ..]
-pub fn push(
-    frames: &mut [u8],
-    book: &mut [u64],
-    space: &mut [u8],
-    w: World,
-    line: &[u8],
-) -> Step {
+pub fn push(frames: &mut [u8], book: &mut [u64], space: &mut [u8], w: World, line: &[u8]) -> Step {
     let mut bytes = [0u8; ARG_BYTES];
     let mut lengths = [0u64; ARGS];
     let a = take_args(space, &mut bytes, &mut lengths, line);

@@ -40,7 +40,12 @@ pub fn put_reply(
         Reply::Moved(value, bss) => replies::put_break(out, value, bss),
         Reply::Sums => {
             let procs = w.procs;
-            replies::put_sums(out, procs, first_words(book, w.words), first(frames, w.bytes))
+            replies::put_sums(
+                out,
+                procs,
+                first_words(book, w.words),
+                first(frames, w.bytes),
+            )
         }
         Reply::Table(number) => put_table(out, book, w, number),
     }

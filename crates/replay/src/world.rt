@@ -8,7 +8,9 @@ use spec::VirtRange;
 
 // The most frames that there are: one more than a book may have, to try number 1; and the bytes and book words of a frame.
 pub const FRAMES_MAX: usize = 1025;
+
 pub const FRAME_BYTES: usize = 4096;
+
 pub const FRAME_WORDS: usize = 1;
 
 // The records; how many bytes the frames have, and how many words their book; and how many of these a call is lent.

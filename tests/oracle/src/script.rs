@@ -108,7 +108,11 @@ fn length(word: &[u8]) -> Given<usize> {
 
 /// A number, if it is at most so many.
 fn at_most(n: u64, most: u64) -> Given<u64> {
-    if n <= most { Ok(n) } else { Err(BAD) }
+    if n <= most {
+        Ok(n)
+    } else {
+        Err(BAD)
+    }
 }
 
 /// The answer to a call with its words, or to words that are no call.
