@@ -1,5 +1,6 @@
 // The lines of access to user memory: range, from, to, string.
 use crate::world::Reply;
+use crate::world::Space;
 use crate::world::Step;
 use crate::world::World;
 use crate::world::after;
@@ -66,7 +67,7 @@ pub fn from(frames: &mut [u8], book: &mut [u64], space: &mut [u8], w: World, lin
 }
 
 // to NUMBER ADDRESS BYTES
-pub fn to(frames: &mut [u8], book: &mut [u64], space: &mut [u8], w: World, line: &[u8]) -> Step {
+pub fn to(frames: &mut [u8], book: &mut [u64], space: &mut Space, w: World, line: &[u8]) -> Step {
     let Three::Are(number, dst, _) = script::numbers(line, 2) else {
         return bad(w);
     };

@@ -4,7 +4,10 @@ use crate::lent;
 use crate::process;
 use crate::program;
 use crate::shown;
+use crate::world::Book;
+use crate::world::Frames;
 use crate::world::Reply;
+use crate::world::Space;
 use crate::world::Step;
 use crate::world::World;
 use crate::world::bad;
@@ -12,11 +15,11 @@ use crate::world::says;
 use script::LINE_MAX;
 use script::same;
 
-// A call, over what is lent of frames and book.
+// A call, over frames and book that are lent.
 fn call(
     frames: &mut [u8],
     book: &mut [u64],
-    space: &mut [u8],
+    space: &mut Space,
     w: World,
     line: &[u8],
     key: &[u8],
@@ -55,11 +58,26 @@ fn call(
     bad(w)
 }
 
-// A line that is no call, over all frames and book; or else a call.
-fn run(
+// A call, over as much of frames and book as is lent.
+fn lent_call(
     frames: &mut [u8],
     book: &mut [u64],
-    space: &mut [u8],
+    space: &mut Space,
+    w: World,
+    line: &[u8],
+    key: &[u8],
+    n: usize,
+) -> Step {
+    let bytes = script::lent(frames, w.lent_bytes);
+    let words = script::lent_words(book, w.lent_words);
+    call(bytes, words, space, w, line, key, n)
+}
+
+// A line that is no call, over all frames and book; or else a call.
+fn run(
+    frames: &mut Frames,
+    book: &mut Book,
+    space: &mut Space,
     w: World,
     line: &[u8],
     key: &[u8],
@@ -86,16 +104,14 @@ fn run(
     if same(key, b"map") & (n == 1) {
         return shown::map(w, line);
     }
-    let bytes = script::lent(frames, w.lent_bytes);
-    let words = script::lent_words(book, w.lent_words);
-    call(bytes, words, space, w, line, key, n)
+    lent_call(frames, book, space, w, line, key, n)
 }
 
 // Runs a line: what it leaves, and its answer.
 pub fn answer(
-    frames: &mut [u8],
-    book: &mut [u64],
-    space: &mut [u8],
+    frames: &mut Frames,
+    book: &mut Book,
+    space: &mut Space,
     w: World,
     line: &[u8],
 ) -> Step {

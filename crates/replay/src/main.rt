@@ -11,29 +11,22 @@ mod world;
 
 use input::Input;
 use libc::STDOUT_FILENO;
-use script::FILE_MAX;
 use script::LINE_MAX;
 use script::put;
-use world::FRAME_BYTES;
-use world::FRAME_WORDS;
-use world::FRAMES_MAX;
+use world::ANSWER_MAX;
+use world::BOOK_MAX;
+use world::Book;
+use world::Frames;
+use world::MEMORY_MAX;
+use world::Out;
+use world::SPACE_MAX;
+use world::Space;
 use world::World;
-
-// The longest answer: a buffer of 65,536 bytes in hex digits, and the rest of its line. The table of 1,024 pages is shorter.
-const ANSWER_MAX: usize = 131136;
 
 // How many bytes are read at once.
 const READ_MAX: usize = 65536;
 
-// The program's buffers. Space holds a file's bytes, and one byte more, by which a longer file is seen to be one; so does a line.
-type Frames = [u8; FRAMES_MAX * FRAME_BYTES];
-
-type Book = [u64; FRAMES_MAX * FRAME_WORDS];
-
-type Space = [u8; FILE_MAX + 1];
-
-type Out = [u8; ANSWER_MAX];
-
+// The bytes that are read at once; and a line's bytes, with one more, by which a longer line is seen to be one.
 type Buffer = [u8; READ_MAX];
 
 type Line = [u8; LINE_MAX + 1];
@@ -116,9 +109,9 @@ fn run(
 }
 
 fn main() {
-    let mut frames = [0u8; FRAMES_MAX * FRAME_BYTES];
-    let mut book = [0u64; FRAMES_MAX * FRAME_WORDS];
-    let mut space = [0u8; FILE_MAX + 1];
+    let mut frames = [0u8; MEMORY_MAX];
+    let mut book = [0u64; BOOK_MAX];
+    let mut space = [0u8; SPACE_MAX];
     let mut out = [0u8; ANSWER_MAX];
     let mut buffer = [0u8; READ_MAX];
     let mut line = [0u8; LINE_MAX + 1];

@@ -1,4 +1,5 @@
 // The lines of calls that have an image or arguments: start, replace, push.
+use crate::world::Space;
 use crate::world::Step;
 use crate::world::World;
 use crate::world::answered;
@@ -45,7 +46,7 @@ fn add(bytes: &mut [u8; ARG_BYTES], lengths: &mut [u64; ARGS], a: Args, arg: &[u
 
 // Adds the argument that a word gives.
 fn add_word(
-    space: &mut [u8],
+    space: &mut Space,
     bytes: &mut [u8; ARG_BYTES],
     lengths: &mut [u64; ARGS],
     a: Args,
@@ -64,7 +65,7 @@ fn add_word(
 
 // Takes the words of a line behind its first four as arguments, up to the first that gives no bytes.
 fn take_args(
-    space: &mut [u8],
+    space: &mut Space,
     bytes: &mut [u8; ARG_BYTES],
     lengths: &mut [u64; ARGS],
     line: &[u8],
@@ -89,7 +90,7 @@ fn take_args(
 }
 
 // Puts the name that a word gives, as much as a process keeps of what follows its last `/`.
-fn take_name(space: &mut [u8], name: &mut [u8; NAME_MAX], word: &[u8]) -> Taken {
+fn take_name(space: &mut Space, name: &mut [u8; NAME_MAX], word: &[u8]) -> Taken {
     let t = script::take(space, word);
     let Taken::Size(n) = t else {
         return t;
@@ -122,7 +123,7 @@ fn start_with(
 fn start_image(
     frames: &mut [u8],
     book: &mut [u64],
-    space: &mut [u8],
+    space: &mut Space,
     w: World,
     line: &[u8],
     number: u64,
@@ -147,7 +148,7 @@ fn start_image(
 fn start_args(
     frames: &mut [u8],
     book: &mut [u64],
-    space: &mut [u8],
+    space: &mut Space,
     w: World,
     line: &[u8],
     number: u64,
@@ -172,7 +173,13 @@ fn start_args(
 }
 
 // start NUMBER NAME IMAGE [ARG ..]
-pub fn start(frames: &mut [u8], book: &mut [u64], space: &mut [u8], w: World, line: &[u8]) -> Step {
+pub fn start(
+    frames: &mut [u8],
+    book: &mut [u64],
+    space: &mut Space,
+    w: World,
+    line: &[u8],
+) -> Step {
     let Number::Is(number) = script::word_number(line, 1) else {
         return bad(w);
     };
@@ -208,7 +215,7 @@ fn replace_with(
 fn replace_image(
     frames: &mut [u8],
     book: &mut [u64],
-    space: &mut [u8],
+    space: &mut Space,
     w: World,
     line: &[u8],
     number: u64,
@@ -227,7 +234,7 @@ fn replace_image(
 pub fn replace(
     frames: &mut [u8],
     book: &mut [u64],
-    space: &mut [u8],
+    space: &mut Space,
     w: World,
     line: &[u8],
 ) -> Step {
@@ -274,7 +281,7 @@ fn push_args(
 }
 
 // push NUMBER PC TOP [ARG ..]
-pub fn push(frames: &mut [u8], book: &mut [u64], space: &mut [u8], w: World, line: &[u8]) -> Step {
+pub fn push(frames: &mut [u8], book: &mut [u64], space: &mut Space, w: World, line: &[u8]) -> Step {
     let mut bytes = [0u8; ARG_BYTES];
     let mut lengths = [0u64; ARGS];
     let a = take_args(space, &mut bytes, &mut lengths, line);

@@ -1,18 +1,22 @@
 // The text of an answer.
+use crate::world::Book;
+use crate::world::Frames;
+use crate::world::Out;
 use crate::world::Reply;
+use crate::world::Space;
 use crate::world::World;
 use script::first;
 use script::first_words;
 use script::put;
 
 // Puts that a line or a file has more bytes than it may have.
-fn put_large(out: &mut [u8], most: usize) -> usize {
+fn put_large(out: &mut Out, most: usize) -> usize {
     let end = replies::put_named(out, 0, b"too large: at most ", most as u64);
     put(out, end, b" bytes")
 }
 
 // Puts the table of a living process.
-fn put_table(out: &mut [u8], book: &[u64], w: World, number: u64) -> usize {
+fn put_table(out: &mut Out, book: &Book, w: World, number: u64) -> usize {
     let all = w.procs.all;
     let i = (std::num::wrapping_sub_u64(number, 1) % 16) as usize;
     let p = all[i];
@@ -21,10 +25,10 @@ fn put_table(out: &mut [u8], book: &[u64], w: World, number: u64) -> usize {
 
 // Puts an answer, and answers how many bytes it has.
 pub fn put_reply(
-    out: &mut [u8],
-    frames: &[u8],
-    book: &[u64],
-    space: &[u8],
+    out: &mut Out,
+    frames: &Frames,
+    book: &Book,
+    space: &Space,
     w: World,
     reply: Reply,
 ) -> usize {

@@ -1,5 +1,6 @@
 // The lines of rules by themselves and of what is held: rule, name, map. They look at no book, so they never answer 1 or 2.
 use crate::world::Reply;
+use crate::world::Space;
 use crate::world::Step;
 use crate::world::World;
 use crate::world::bad;
@@ -54,13 +55,13 @@ pub fn rule(w: World, line: &[u8]) -> Step {
 }
 
 // Shows a name: it is put at the start of the space.
-fn show(space: &mut [u8], w: World, text: &[u8; 28]) -> Step {
+fn show(space: &mut Space, w: World, text: &[u8; 28]) -> Step {
     let n = script::put(space, 0, text);
     says(w, Reply::Shown(Answer::Done, n))
 }
 
 // name BYTES
-pub fn name(space: &mut [u8], w: World, line: &[u8]) -> Step {
+pub fn name(space: &mut Space, w: World, line: &[u8]) -> Step {
     let t = script::take(space, script::word(line, 1));
     let Taken::Size(n) = t else {
         return wrong(w, t);

@@ -13,6 +13,25 @@ pub const FRAME_BYTES: usize = 4096;
 
 pub const FRAME_WORDS: usize = 1;
 
+pub const MEMORY_MAX: usize = FRAMES_MAX * FRAME_BYTES;
+
+pub const BOOK_MAX: usize = FRAMES_MAX * FRAME_WORDS;
+
+// A file's bytes, and one byte more, by which a longer file is seen to be one.
+pub const SPACE_MAX: usize = FILE_MAX + 1;
+
+// The longest answer: a buffer of 65,536 bytes in hex digits, and the rest of its line. The table of 1,024 pages is shorter.
+pub const ANSWER_MAX: usize = 131136;
+
+// The program's buffers.
+pub type Frames = [u8; MEMORY_MAX];
+
+pub type Book = [u64; BOOK_MAX];
+
+pub type Space = [u8; SPACE_MAX];
+
+pub type Out = [u8; ANSWER_MAX];
+
 // The records; how many bytes the frames have, and how many words their book; and how many of these a call is lent.
 pub struct World {
     pub procs: Procs,

@@ -1,12 +1,12 @@
 -- `replay::program::take_args` is safe and ends.
-use mathlib.Core.Path.{_≡_}
+use Prim.Native.Nat.{_≤_}
 use lib.ListN.{length}
 use borrow.Author.Needs.{needs}
 use Rattle.replay.proofs.program.take_args.Statement.{statement}
 use Rattle.replay.proofs.program.take_args.Tie as tie
 
 abbrev Inv-loop : tie.InvT-loop
-Inv-loop space₀ bytes₀ lengths₀ line a₀ at₀ left₀ space bytes lengths a at left = length space ≡ length space₀
+Inv-loop space₀ bytes₀ lengths₀ line a₀ at₀ left₀ space bytes lengths a at left = at ≤ length line
 
 abbrev μ-loop : tie.MeasureT-loop
 μ-loop space₀ bytes₀ lengths₀ line a₀ at₀ left₀ space bytes lengths a at left = left
@@ -24,9 +24,7 @@ take-args-spec =
     (λ c κs. search needs)
     (λ c. search needs)
     (λ c. search needs)
-    (λ c. search needs)
     (λ c κs. search needs)
-    (λ c. search needs)
     (λ c. search needs)
     (λ c. search needs)
     (λ c. search needs)
