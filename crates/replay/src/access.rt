@@ -1,5 +1,6 @@
 // The lines of access to user memory: range, from, to, string.
 use crate::world::Reply;
+use crate::world::Shown;
 use crate::world::Space;
 use crate::world::Step;
 use crate::world::World;
@@ -24,7 +25,7 @@ fn ranged(frames: &mut [u8], book: &mut [u64], w: World, line: &[u8], write: boo
     };
     let procs = w.procs;
     let answer = calls::user_range_ok(frames, book, procs, number, addr, len, write);
-    says(w, Reply::Asked(answer))
+    says(w, Reply::Shows(Shown::YesOrNo(answer)))
 }
 
 // range NUMBER ADDRESS LENGTH r|w
@@ -51,7 +52,10 @@ fn copy_from(
     let procs = w.procs;
     let left = calls::copy_from_user(frames, book, procs, number, buffer, src);
     let answer = left.answer;
-    says(after(w, left), Reply::Shown(answer, buffer.len()))
+    says(
+        after(w, left),
+        Reply::Shows(Shown::Copied(answer, buffer.len())),
+    )
 }
 
 // from NUMBER ADDRESS LENGTH
@@ -95,7 +99,7 @@ fn copy_string(
     script::fill(buffer, BLANK);
     let procs = w.procs;
     let answer = calls::try_copy_str_from_user(frames, book, procs, number, buffer, src);
-    says(w, Reply::Filled(answer, buffer.len()))
+    says(w, Reply::Shows(Shown::Filled(answer, buffer.len())))
 }
 
 // string NUMBER ADDRESS LENGTH

@@ -7,6 +7,7 @@ use crate::shown;
 use crate::world::Book;
 use crate::world::Frames;
 use crate::world::Reply;
+use crate::world::Shown;
 use crate::world::Space;
 use crate::world::Step;
 use crate::world::World;
@@ -15,7 +16,54 @@ use crate::world::says;
 use script::LINE_MAX;
 use script::same;
 
-// A call, over frames and book that are lent.
+// A call of access to user memory.
+fn access_call(
+    frames: &mut [u8],
+    book: &mut [u64],
+    space: &mut Space,
+    w: World,
+    line: &[u8],
+    key: &[u8],
+    n: usize,
+) -> Step {
+    if same(key, b"range") & (n == 4) {
+        return access::range(frames, book, w, line);
+    }
+    if same(key, b"from") & (n == 3) {
+        return access::from(frames, book, space, w, line);
+    }
+    if same(key, b"to") & (n == 3) {
+        return access::to(frames, book, space, w, line);
+    }
+    if same(key, b"string") & (n == 3) {
+        return access::string(frames, book, space, w, line);
+    }
+    bad(w)
+}
+
+// A call of a living process, or else of access to user memory.
+fn process_call(
+    frames: &mut [u8],
+    book: &mut [u64],
+    space: &mut Space,
+    w: World,
+    line: &[u8],
+    key: &[u8],
+    n: usize,
+) -> Step {
+    if same(key, b"break") & (n == 2) {
+        return process::brk(frames, book, w, line);
+    }
+    if same(key, b"fork") & (1 < n) & (n % 3 == 2) {
+        return process::fork(frames, book, w, line);
+    }
+    if same(key, b"end") & (n == 1) {
+        return process::end(frames, book, w, line);
+    }
+    access_call(frames, book, space, w, line, key, n)
+}
+
+// A call with an image or arguments, or else another one.
 fn call(
     frames: &mut [u8],
     book: &mut [u64],
@@ -34,28 +82,7 @@ fn call(
     if same(key, b"push") & (2 < n) {
         return program::push(frames, book, space, w, line);
     }
-    if same(key, b"break") & (n == 2) {
-        return process::brk(frames, book, w, line);
-    }
-    if same(key, b"fork") & (1 < n) & (n % 3 == 2) {
-        return process::fork(frames, book, w, line);
-    }
-    if same(key, b"end") & (n == 1) {
-        return process::end(frames, book, w, line);
-    }
-    if same(key, b"range") & (n == 4) {
-        return access::range(frames, book, w, line);
-    }
-    if same(key, b"from") & (n == 3) {
-        return access::from(frames, book, space, w, line);
-    }
-    if same(key, b"to") & (n == 3) {
-        return access::to(frames, book, space, w, line);
-    }
-    if same(key, b"string") & (n == 3) {
-        return access::string(frames, book, space, w, line);
-    }
-    bad(w)
+    process_call(frames, book, space, w, line, key, n)
 }
 
 // A call, over as much of frames and book as is lent.
@@ -73,7 +100,32 @@ fn lent_call(
     call(bytes, words, space, w, line, key, n)
 }
 
-// A line that is no call, over all frames and book; or else a call.
+// A line of a rule by itself or of what is held, or else a call.
+fn shown_line(
+    frames: &mut Frames,
+    book: &mut Book,
+    space: &mut Space,
+    w: World,
+    line: &[u8],
+    key: &[u8],
+    n: usize,
+) -> Step {
+    if same(key, b"rule") & (n == 4) {
+        return shown::rule(w, line);
+    }
+    if same(key, b"name") & (n == 1) {
+        return shown::name(space, w, line);
+    }
+    if same(key, b"sum") & (n == 0) {
+        return says(w, Reply::Shows(Shown::Sums));
+    }
+    if same(key, b"map") & (n == 1) {
+        return shown::map(w, line);
+    }
+    lent_call(frames, book, space, w, line, key, n)
+}
+
+// A line of frames and book, or else another one.
 fn run(
     frames: &mut Frames,
     book: &mut Book,
@@ -92,19 +144,7 @@ fn run(
     if same(key, b"word") & (n == 2) {
         return lent::word(book, w, line);
     }
-    if same(key, b"rule") & (n == 4) {
-        return shown::rule(w, line);
-    }
-    if same(key, b"name") & (n == 1) {
-        return shown::name(space, w, line);
-    }
-    if same(key, b"sum") & (n == 0) {
-        return says(w, Reply::Sums);
-    }
-    if same(key, b"map") & (n == 1) {
-        return shown::map(w, line);
-    }
-    lent_call(frames, book, space, w, line, key, n)
+    shown_line(frames, book, space, w, line, key, n)
 }
 
 // Runs a line: what it leaves, and its answer.

@@ -37,6 +37,15 @@ struct Session {
     input: Input,
 }
 
+// Writes an answer of so many bytes, if there is one, and the end of its line.
+fn write(out: &mut [u8], size: usize) {
+    if size == 0 {
+        return;
+    }
+    let end = put(out, size, b"\n");
+    io::write_all(STDOUT_FILENO, script::first(out, end));
+}
+
 // Runs a line, and writes its answer, if it has one.
 fn answer(
     frames: &mut Frames,
@@ -50,10 +59,7 @@ fn answer(
     let next = step.world;
     let reply = step.reply;
     let size = reply::put_reply(out, frames, book, space, next, reply);
-    if 0 < size {
-        let end = put(out, size, b"\n");
-        io::write_all(STDOUT_FILENO, script::first(out, end));
-    }
+    write(out, size);
     next
 }
 

@@ -1,5 +1,6 @@
 // The lines of rules by themselves and of what is held: rule, name, map. They look at no book, so they never answer 1 or 2.
 use crate::world::Reply;
+use crate::world::Shown;
 use crate::world::Space;
 use crate::world::Step;
 use crate::world::World;
@@ -51,13 +52,13 @@ pub fn rule(w: World, line: &[u8]) -> Step {
     let Bss::Set(r) = after else {
         return refused(w, spec::EBADARG);
     };
-    says(w, Reply::Moved(b.value, r))
+    says(w, Reply::Shows(Shown::Moved(b.value, r)))
 }
 
 // Shows a name: it is put at the start of the space.
 fn show(space: &mut Space, w: World, text: &[u8; 28]) -> Step {
     let n = script::put(space, 0, text);
-    says(w, Reply::Shown(Answer::Done, n))
+    says(w, Reply::Shows(Shown::Copied(Answer::Done, n)))
 }
 
 // name BYTES
@@ -83,5 +84,5 @@ pub fn map(w: World, line: &[u8]) -> Step {
     if !front::record::lives(procs, number) {
         return refused(w, spec::DEAD);
     }
-    says(w, Reply::Table(number))
+    says(w, Reply::Shows(Shown::Table(number)))
 }

@@ -41,20 +41,24 @@ pub struct World {
     pub lent_words: usize,
 }
 
-// What a line answers. `Shown` and `Filled` show the first bytes of the program's space: with what was copied, and with what a string
-// copy left.
+// What a line shows. `Copied` and `Filled` show the first bytes of the program's space: what was copied, and what a string copy left.
+pub enum Shown {
+    YesOrNo(Answer),
+    Copied(Answer, usize),
+    Filled(Answer, usize),
+    Moved(u64, VirtRange),
+    Sums,
+    Table(u64),
+}
+
+// What a line answers.
 pub enum Reply {
     Nothing,
     Bad,
     Missing,
     Large(usize),
     Says(Answer),
-    Asked(Answer),
-    Shown(Answer, usize),
-    Filled(Answer, usize),
-    Moved(u64, VirtRange),
-    Sums,
-    Table(u64),
+    Shows(Shown),
 }
 
 // What a line leaves besides the bytes of frames and the words of the book, and its answer.
