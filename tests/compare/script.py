@@ -13,7 +13,14 @@ FRAMES_MAX = 1025
 
 
 class BadLine(Exception):
-    """A line that is no call."""
+    """A line that is no call, and its answer."""
+
+    def __init__(self, answer='bad line'):
+        super().__init__(answer)
+
+
+def too_large(most):
+    return BadLine('too large: at most %d bytes' % most)
 
 
 def number(word):
@@ -37,9 +44,9 @@ def bytes_of(word):
             with open(word[1:], 'rb') as f:
                 b = f.read(FILE_MAX + 1)
         except (OSError, ValueError):
-            raise BadLine
+            raise BadLine('no such file')
         if len(b) > FILE_MAX:
-            raise BadLine
+            raise too_large(FILE_MAX)
         return b
     if not word or len(word) % 2 or any(c not in b'0123456789abcdefABCDEF' for c in word):
         raise BadLine
@@ -112,14 +119,14 @@ class Script:
             return None
         try:
             if len(line) > LINE_MAX:
-                raise BadLine
+                raise too_large(LINE_MAX)
             name, *words = line.split(b' ')
             call = self.CALLS.get(name)
             if call is None:
                 raise BadLine
             return call(self, words)
-        except BadLine:
-            return 'bad line'
+        except BadLine as b:
+            return b.args[0]
         except Refused as r:
             return 'refused %d' % r.args
         except Ended as e:
@@ -152,7 +159,8 @@ class Script:
         return 'ok pc=%d sp=%d argc=%d argv=%d' % r
 
     def start(self, words):
-        n, name, image, args = take(words, number, bytes_of, bytes_of, [bytes_of])
+        n, name, image, args = take(words, number, bytes_of, bytes, [bytes_of])
+        image = bytes_of(image)  # comes last
         return self.regs(self.w.start(n, name, image, args))
 
     def replace(self, words):

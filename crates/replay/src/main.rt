@@ -1,111 +1,112 @@
-// Replays a script of calls from standard input, one call a line, and answers each line: docs/REPLAY.md has the form. What a line
-// leaves and answers is crate lines' business; here lines are read and answers written.
-ghost use mathlib.Core.Path.{_≡_};
-ghost use Prim.Native.Nat.{_≤_};
-ghost use lib.ListN.{length};
-ghost use Rattle.lent_lines.specs.Lent.{Lends};
-ghost use Rattle.replay.specs.Rooms.{Within};
-ghost use Rattle.lines.specs.Runs.{stageOf};
-ghost use Rattle.replay.specs.Turns.{Answered, Turns, Played};
-
+// Replays a script of calls from standard input, one call a line, and answers each line: docs/REPLAY.md has the form.
+mod access;
 mod input;
+mod lent;
+mod lines;
+mod process;
+mod program;
+mod reply;
+mod shown;
+mod world;
 
 use input::Input;
-use lent_lines::World;
 use libc::STDOUT_FILENO;
+use script::LINE_MAX;
+use script::put;
+use world::ANSWER_MAX;
+use world::BOOK_MAX;
+use world::Book;
+use world::Frames;
+use world::MEMORY_MAX;
+use world::Out;
+use world::SPACE_MAX;
+use world::Space;
+use world::World;
+
+// How many bytes are read at once.
+const READ_MAX: usize = 65536;
+
+// The bytes that are read at once; and a line's bytes, with one more, by which a longer line is seen to be one.
+type Buffer = [u8; READ_MAX];
+
+type Line = [u8; LINE_MAX + 1];
 
 // What the program holds: what the script has made, and how far its input is read.
 struct Session {
     world: World,
     input: Input,
-    ended: bool,
 }
 
-// Runs a line, and writes its answer.
+// Writes an answer of so many bytes, if there is one, and the end of its line.
+fn write(out: &mut [u8], size: usize) {
+    if size == 0 {
+        return;
+    }
+    let end = put(out, size, b"\n");
+    io::write_all(STDOUT_FILENO, script::first(out, end));
+}
+
+// Runs a line, and writes its answer, if it has one.
 fn answer(
-    frames: &mut [u8],
-    book: &mut [u64],
-    space: &mut [u8],
-    out: &mut [u8],
+    frames: &mut Frames,
+    book: &mut Book,
+    space: &mut Space,
+    out: &mut Out,
     w: World,
     line: &[u8],
-) -> World
-    requires { ⌜ length (now frames) ≡ 4198400 ⌝ }
-    requires { ⌜ length (now book) ≡ 1025 ⌝ }
-    requires { ⌜ (65537 ≤ length (now space)) × ((length (now line) ≤ 65537) × (131136 ≤ length (now out))) ⌝ }
-    requires { ⌜ Lends w ⌝ }
-    ensures { λ r. ⌜ Lends r ⌝ }
-    ensures { λ r. ⌜ Answered (stageOf (now (frames .entry)) (now (book .entry)) w) (now (line .entry)) (stageOf (now (frames .exit)) (now (book .exit)) r) (now (out .exit)) ⌝ }
-{
-    let step = lines::answer(frames, book, space, out, w, line);
-    let size = step.size;
-    io::write_all(STDOUT_FILENO, &out[..size]);
-    step.world
+) -> World {
+    let step = lines::answer(frames, book, space, w, line);
+    let next = step.world;
+    let reply = step.reply;
+    let size = reply::put_reply(out, frames, book, space, next, reply);
+    write(out, size);
+    next
 }
 
-// Takes a turn: reads if there's nothing left to take, takes up to the end of a line, and answers the line if it is whole.
+// Takes a turn: reads if there is nothing left to take, takes up to the end of a line, and answers the line if it is whole.
 fn turn(
-    frames: &mut [u8],
-    book: &mut [u64],
-    space: &mut [u8],
-    out: &mut [u8],
-    buffer: &mut [u8],
-    line: &mut [u8],
+    frames: &mut Frames,
+    book: &mut Book,
+    space: &mut Space,
+    out: &mut Out,
+    buffer: &mut Buffer,
+    line: &mut Line,
     s: Session,
-) -> Session
-    requires { ⌜ length (now frames) ≡ 4198400 ⌝ }
-    requires { ⌜ length (now book) ≡ 1025 ⌝ }
-    requires { ⌜ (65537 ≤ length (now space)) × ((length (now line) ≡ 65537) × (131136 ≤ length (now out))) ⌝ }
-    requires { ⌜ Lends (s .world) × Within (s .input) (length (now buffer)) (length (now line)) ⌝ }
-    ensures { λ r. ⌜ Lends (r .world) × Within (r .input) (length (now (buffer .entry))) (length (now (line .entry))) ⌝ }
-    ensures { λ r. ⌜ Turns s (stageOf (now (frames .entry)) (now (book .entry)) (s .world)) (now (buffer .entry)) (now (line .entry)) r (stageOf (now (frames .exit)) (now (book .exit)) (r .world)) (now (buffer .exit)) (now (line .exit)) (now (out .exit)) ⌝ }
-{
+) -> Session {
     let world = s.world;
-    let input = s.input;
-    let next = input::take(buffer, line, input);
-    let size = next.size;
-    let whole = next.whole;
-    let at = next.at;
-    let end = next.end;
-    let ended = next.ended;
-    if !whole {
+    let before = s.input;
+    let after = input::take(buffer, line, before);
+    if !after.whole {
         return Session {
             world: world,
-            input: next,
-            ended: ended,
+            input: after,
         };
     }
-    let after = answer(frames, book, space, out, world, &line[..size]);
+    let text = script::first(line, after.size);
+    let next = answer(frames, book, space, out, world, text);
     Session {
-        world: after,
-        input: input::before_line(at, end, ended),
-        ended: ended,
+        world: next,
+        input: input::before_line(after),
     }
 }
 
 // Takes turns until the input ends.
 fn run(
-    frames: &mut [u8],
-    book: &mut [u64],
-    space: &mut [u8],
-    out: &mut [u8],
-    buffer: &mut [u8],
-    line: &mut [u8],
-)
-    requires { ⌜ length (now frames) ≡ 4198400 ⌝ }
-    requires { ⌜ length (now book) ≡ 1025 ⌝ }
-    requires { ⌜ (65537 ≤ length (now space)) × ((length (now line) ≡ 65537) × (131136 ≤ length (now out))) ⌝ }
-    ensures { λ _. ⌜ Played (now (frames .entry)) (now (book .entry)) (now (buffer .entry)) (now (line .entry)) (now (frames .exit)) (now (book .exit)) (now (buffer .exit)) (now (line .exit)) ⌝ }
-{
+    frames: &mut Frames,
+    book: &mut Book,
+    space: &mut Space,
+    out: &mut Out,
+    buffer: &mut Buffer,
+    line: &mut Line,
+) {
     let mut s = Session {
-        world: lent_lines::nothing(),
-        input: input::before_line(0, 0, false),
-        ended: false,
+        world: world::fresh(0, 0),
+        input: input::start(),
     };
     // A proved loop has to end, and nothing says that the input does: it has fewer bytes than this.
     let mut turns: u64 = u64::MAX;
     while 0 < turns {
-        if s.ended {
+        if s.input.ended {
             return;
         }
         s = turn(frames, book, space, out, buffer, line, s);
@@ -113,32 +114,14 @@ fn run(
     }
 }
 
-// The same over whole arrays, by whose types their lengths are known.
-fn replay(
-    frames: &mut [u8; 4198400],
-    book: &mut [u64; 1025],
-    space: &mut [u8; 2097153],
-    out: &mut [u8; 131136],
-    buffer: &mut [u8; 65536],
-    line: &mut [u8; 65537],
-)
-    ensures { λ _. ⌜ Played (now (frames .entry)) (now (book .entry)) (now (buffer .entry)) (now (line .entry)) (now (frames .exit)) (now (book .exit)) (now (buffer .exit)) (now (line .exit)) ⌝ }
-{
-    run(frames, book, space, out, buffer, line);
-}
-
 fn main() {
-    // 1,025 frames: one more than a book may have, to try number 1.
-    let mut frames = [0u8; 4198400];
-    let mut book = [0u64; 1025];
-    // A file's bytes, and one byte more, so that a longer file is seen to be one.
-    let mut space = [0u8; 2097153];
-    // The longest answer: a buffer of 65,536 bytes in hex digits, and the rest of its line.
-    let mut out = [0u8; 131136];
-    let mut buffer = [0u8; 65536];
-    // A line's bytes, and one byte more, so that a longer line is seen to be one.
-    let mut line = [0u8; 65537];
-    replay(
+    let mut frames = [0u8; MEMORY_MAX];
+    let mut book = [0u64; BOOK_MAX];
+    let mut space = [0u8; SPACE_MAX];
+    let mut out = [0u8; ANSWER_MAX];
+    let mut buffer = [0u8; READ_MAX];
+    let mut line = [0u8; LINE_MAX + 1];
+    run(
         &mut frames,
         &mut book,
         &mut space,

@@ -1,18 +1,16 @@
-// The lines that the replay program answers with, put into a buffer that the caller lends, and the sums of records and book: the lines of
-// a process's table, and, passed on, answers (crate answers), bytes in hex (crate hex) and sums (crate sums).
-
+// The texts that the replay program answers with, put into a buffer that the caller lends, without the end of the line. Each function
+// answers the place behind its text; what there is no room for is left out.
+mod answers;
+mod sums;
 mod table;
+mod texts;
 
 pub use answers::put_answer;
 pub use answers::put_break;
-pub use hex::put_bytes;
-pub use hex::put_sized;
-pub use hex::put_sums;
-pub use sums::book_sum;
-pub use sums::bytes_sum;
-pub use sums::records_sum;
-pub use table::frame_of;
-pub use table::put_name;
-pub use table::put_page;
-pub use table::put_pages;
-pub use table::put_part;
+pub use answers::put_copied;
+pub use answers::put_string;
+pub use answers::put_yes;
+pub use sums::put_sums;
+pub use table::put_table;
+pub use texts::put_bytes;
+pub use texts::put_named;

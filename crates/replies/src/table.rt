@@ -1,118 +1,44 @@
-// The lines of a process's table.
-ghost use mathlib.Core.Path.{_≡_};
-ghost use Prim.Native.Nat.{_+_, _-_, _*_, _≤_, _<_};
-ghost use lib.ListN.{length, take};
-ghost use Rattle.spec.specs.Tests.{ascii};
-ghost use Rattle.text.specs.Text.{Puts, fieldText};
-ghost use Rattle.replies.specs.Table.{stripped, signOf, signsText, nameText, partText, pageText, firstFrame};
-use answers::put_named;
+// The table of a process: its name, its segments and its bss, each with its pages, and how many pages there are. All lines but the
+// first begin with a space. It shows where each page lies, with a torn book too.
+ghost use Prim.Native.Nat.{_≤_};
+ghost use lib.ListN.{length};
+use crate::texts::put_named;
+use script::put;
 use spec::Found;
+use spec::Proc;
+use spec::UserSegment;
 use spec::VirtRange;
-use text::put;
-use text::put_field;
 
-// How many bytes of a name there are without the zeros at its end.
-fn name_size(name: [u8; 28]) -> usize
-    ensures { λ n. ⌜ (n ≤ 28) × (take n name ≡ stripped name) ⌝ }
-{
-    let mut n = 28;
-    while 0 < n {
-        if name[n - 1] != 0 {
-            return n;
-        }
-        n -= 1;
-    }
-    0
+// Where the text ends, and how many pages it shows.
+struct Shown {
+    at: usize,
+    pages: u64,
 }
 
 // A byte of a name as it is shown: a dot for what is no sign.
-fn sign(b: u8) -> u8
-    ensures { λ r. ⌜ r ≡ signOf b ⌝ }
-{
+fn sign(b: u8) -> u8 {
     if (32 < b) & (b < 127) { b } else { b'.' }
 }
 
-// Puts the first n bytes of a name as they are shown.
-fn put_signs(out: &mut [u8], at: usize, name: [u8; 28], n: usize) -> usize
-    requires { ⌜ (n ≤ 28) × (at + n ≤ length (now out)) ⌝ }
-    ensures { λ r. ⌜ Puts (now (out .entry)) at (signsText (take n name)) (now (out .exit)) r ⌝ }
-    ensures { λ r. ⌜ r ≡ at + n ⌝ }
-{
-    let mut end = at;
+// Puts a space and a name without the zeros at its end; nothing for no name.
+fn put_name(out: &mut [u8], at: usize, name: [u8; 28]) -> usize {
+    let mut shown = at;
+    let mut end = put(out, at, b" ");
     let mut i = 0;
-    while i < n {
-        let one = [sign(name[i])];
+    while i < 28 {
+        let b = name[i];
+        let one = [sign(b)];
         end = put(out, end, &one);
+        if b != 0 {
+            shown = end;
+        }
         i += 1;
     }
-    end
-}
-
-// Puts the first line: a process's number and its name.
-pub fn put_name(out: &mut [u8], number: u64, name: [u8; 28]) -> usize
-    requires { ⌜ 128 ≤ length (now out) ⌝ }
-    ensures { λ n. ⌜ Puts (now (out .entry)) 0 (nameText number name) (now (out .exit)) n ⌝ }
-    ensures { λ n. ⌜ (n ≤ length (now (out .exit))) × (n ≡ length (take n (now (out .exit)))) ⌝ }
-{
-    let n = name_size(name);
-    let a = put_named(out, 0, b"process ", number);
-    if n == 0 {
-        return put(out, a, b"\n");
-    }
-    let b = put(out, a, b" ");
-    let c = put_signs(out, b, name, n);
-    put(out, c, b"\n")
-}
-
-// How many bytes a range has; one that ends before it starts has none.
-fn size(r: VirtRange) -> u64
-    ensures { λ n. ⌜ n ≡ r .end - r .start ⌝ }
-{
-    if r.end < r.start {
-        return 0;
-    }
-    r.end - r.start
-}
-
-// Puts the line of a segment or the bss: its kind, start, end and size.
-pub fn put_part(out: &mut [u8], kind: &[u8], r: VirtRange) -> usize
-    requires { ⌜ (length (now kind) ≤ 6) × (128 ≤ length (now out)) ⌝ }
-    ensures { λ n. ⌜ Puts (now (out .entry)) 0 (partText (now (kind .entry)) r) (now (out .exit)) n ⌝ }
-    ensures { λ n. ⌜ (n ≤ length (now (out .exit))) × (n ≡ length (take n (now (out .exit)))) ⌝ }
-{
-    let a = put(out, 0, b"  ");
-    let b = put(out, a, kind);
-    let c = put_named(out, b, b" ", r.start);
-    let d = put_named(out, c, b" ", r.end);
-    put_field(out, d, b" size ", size(r))
-}
-
-// Puts the line of a page: its address and its frame.
-pub fn put_page(out: &mut [u8], page: u64, frame: Found) -> usize
-    requires { ⌜ 128 ≤ length (now out) ⌝ }
-    ensures { λ n. ⌜ Puts (now (out .entry)) 0 (pageText page frame) (now (out .exit)) n ⌝ }
-    ensures { λ n. ⌜ (n ≤ length (now (out .exit))) × (n ≡ length (take n (now (out .exit)))) ⌝ }
-{
-    let a = put_named(out, 0, b"    page ", page);
-    match frame {
-        Found::At(i) => put_field(out, a, b" frame ", i as u64),
-        Found::Nothing => put(out, a, b" frame none\n"),
-    }
-}
-
-// Puts the last line: how many pages there are.
-pub fn put_pages(out: &mut [u8], pages: u64) -> usize
-    requires { ⌜ 128 ≤ length (now out) ⌝ }
-    ensures { λ n. ⌜ Puts (now (out .entry)) 0 (fieldText (ascii "  pages ") pages) (now (out .exit)) n ⌝ }
-    ensures { λ n. ⌜ (n ≤ length (now (out .exit))) × (n ≡ length (take n (now (out .exit)))) ⌝ }
-{
-    put_field(out, 0, b"  pages ", pages)
+    shown
 }
 
 // The first frame of a process's page, in a book that may be torn.
-pub fn frame_of(book: &[u64], number: u64, page: u64) -> Found
-    ensures { λ r. ⌜ r ≡ firstFrame (now (book .entry)) 0 number page ⌝ }
-{
+fn frame_of(book: &[u64], number: u64, page: u64) -> Found {
     let mut i = 0;
     while i < book.len() {
         let w = book[i];
@@ -122,4 +48,108 @@ pub fn frame_of(book: &[u64], number: u64, page: u64) -> Found
         i += 1;
     }
     Found::Nothing
+}
+
+// Puts the line of a page: its address and its frame.
+fn put_page(out: &mut [u8], at: usize, book: &[u64], number: u64, page: u64) -> usize {
+    let end = put_named(out, at, b"\n    page ", page);
+    let found = frame_of(book, number, page);
+    match found {
+        Found::At(i) => put_named(out, end, b" frame ", i as u64),
+        Found::Nothing => put(out, end, b" frame none"),
+    }
+}
+
+fn least(a: u64, b: u64) -> u64
+    ensures { λ r. ⌜ r ≤ b ⌝ }
+{
+    if a < b {
+        return a;
+    }
+    b
+}
+
+// Puts the lines of a range's pages.
+fn put_pages(out: &mut [u8], s: Shown, book: &[u64], number: u64, r: VirtRange) -> Shown {
+    let mem::Rounded::To(start) = mem::checked_page_up(r.start) else {
+        return s;
+    };
+    let end = least(r.end, spec::UADDRTOP);
+    let mut at = s.at;
+    let mut pages = s.pages;
+    let mut page = start;
+    while page < end {
+        at = put_page(out, at, book, number, page);
+        page += spec::PAGE_SIZE_4K;
+        pages = std::num::wrapping_add_u64(pages, 1);
+    }
+    Shown {
+        at: at,
+        pages: pages,
+    }
+}
+
+// How many bytes a range has; one that ends before it starts has none.
+fn size(r: VirtRange) -> u64 {
+    if r.end < r.start {
+        return 0;
+    }
+    r.end - r.start
+}
+
+// Puts the line of a segment or the bss, and those of its pages.
+fn put_part(
+    out: &mut [u8],
+    s: Shown,
+    kind: &[u8],
+    book: &[u64],
+    number: u64,
+    r: VirtRange,
+) -> Shown {
+    let a = put(out, s.at, kind);
+    let b = put_named(out, a, b" ", r.start);
+    let c = put_named(out, b, b" ", r.end);
+    let d = put_named(out, c, b" size ", size(r));
+    let after = Shown {
+        at: d,
+        pages: s.pages,
+    };
+    put_pages(out, after, book, number, r)
+}
+
+// Puts the lines of a segment, if the record uses its place.
+fn put_segment(out: &mut [u8], s: Shown, book: &[u64], number: u64, segment: UserSegment) -> Shown {
+    let r = segment.range;
+    if segment.perm == spec::TEXT {
+        return put_part(out, s, b"\n  text", book, number, r);
+    }
+    if segment.perm == spec::RODATA {
+        return put_part(out, s, b"\n  rodata", book, number, r);
+    }
+    if segment.perm == spec::DATA {
+        return put_part(out, s, b"\n  data", book, number, r);
+    }
+    s
+}
+
+// Puts the table of process `number`, whose record is `p`.
+pub fn put_table(out: &mut [u8], book: &[u64], number: u64, p: Proc) -> usize
+    ensures { λ n. ⌜ n ≤ length (now (out .exit)) ⌝ }
+{
+    let name = p.text;
+    let segments = p.segments;
+    let bss = p.bss;
+    let end = put_named(out, 0, b"process ", number);
+    let mut s = Shown {
+        at: put_name(out, end, name),
+        pages: 0,
+    };
+    let mut i = 0;
+    while i < 16 {
+        let segment = segments[i];
+        s = put_segment(out, s, book, number, segment);
+        i += 1;
+    }
+    s = put_part(out, s, b"\n  bss", book, number, bss);
+    put_named(out, s.at, b"\n  pages ", s.pages)
 }

@@ -1,108 +1,114 @@
 // Bytes as a script writes them: pairs of hex digits, `-` for none, `'` and the bytes themselves, or `@` and a file's name.
-ghost use mathlib.Core.Path.{_≡_};
-ghost use mathlib.Core.List.{[], _∷_};
-ghost use mathlib.Core.Option.{none};
-ghost use Prim.Native.Nat.{_/_, _%_, _≤_, _<_};
-ghost use lib.ListN.{length, take, drop};
-ghost use Rattle.spec.specs.Tests.{_below_, _⇒_else_};
-ghost use Rattle.script.specs.Bytes.{formOf, digitOf, pairsOf, unhexed, glyphOf};
+ghost use Prim.Native.Nat.{_+_, _≤_};
+ghost use lib.ListN.{length};
+use crate::room::part;
+use crate::room::put;
 
-// The form in which a word gives bytes. Those that are quoted, and a file's name, stand behind its first byte.
-pub enum Form {
-    Nothing,
-    Quoted,
-    File,
-    Pairs,
+// The longest file. Who takes a file's bytes lends one byte more, by which a longer file is seen to be one.
+pub const FILE_MAX: usize = 2097152;
+
+// How many bytes were taken, or why there are none: the word is none that gives bytes, its file cannot be read, or there is no room.
+pub enum Taken {
+    Size(usize),
     Bad,
-}
-
-// The form of a word.
-pub fn form_of(word: &[u8]) -> Form
-    ensures { λ r. ⌜ r ≡ formOf (now (word .entry)) ⌝ }
-{
-    let n = word.len();
-    if n == 0 {
-        return Form::Bad;
-    }
-    let first = word[0];
-    if first == b'\'' {
-        return Form::Quoted;
-    }
-    if first == b'@' {
-        return Form::File;
-    }
-    if (first == b'-') & (n == 1) {
-        return Form::Nothing;
-    }
-    Form::Pairs
-}
-
-// What stands behind a word's first byte.
-pub fn behind(word: &[u8]) -> &[u8]
-    ensures { λ r. ⌜ now r ≡ drop 1 (now (word .entry)) ⌝ }
-{
-    if word.len() == 0 {
-        return &word[..0];
-    }
-    &word[1..]
+    Missing,
+    Large,
 }
 
 // The value of a hex digit of either case, or 16.
 fn digit(b: u8) -> u8
-    ensures { λ r. ⌜ (r ≤ 16) × (r ≡ digitOf b) ⌝ }
+    ensures { λ r. ⌜ r ≤ 16 ⌝ }
 {
-    if (b'0' <= b) & (b <= b'9') {
+    if b < b'0' {
+        return 16;
+    }
+    if b <= b'9' {
         return b - b'0';
     }
-    if (b'a' <= b) & (b <= b'f') {
-        return b - b'a' + 10;
+    if b < b'A' {
+        return 16;
     }
-    if (b'A' <= b) & (b <= b'F') {
+    if b <= b'F' {
         return b - b'A' + 10;
+    }
+    if b < b'a' {
+        return 16;
+    }
+    if b <= b'f' {
+        return b - b'a' + 10;
     }
     16
 }
 
-// Puts the bytes that pairs of hex digits give at the start of `dst`. False: there is an odd number of digits, another byte, or
-// more than `dst` holds; what the first half as many bytes of `dst` as there are digits then hold means nothing. The bytes behind them stay.
-pub fn unhex(dst: &mut [u8], word: &[u8]) -> bool
-    ensures { λ r. ⌜ unhexed r (take (length (now (word .entry)) / 2) (now (dst .exit))) ≡ (length (now (dst .entry)) below length (now (word .entry)) / 2 ⇒ none else pairsOf (now (word .entry))) ⌝ }
-    ensures { λ _. ⌜ drop (length (now (word .entry)) / 2) (now (dst .exit)) ≡ drop (length (now (word .entry)) / 2) (now (dst .entry)) ⌝ }
-{
+// Puts the bytes that pairs of hex digits give.
+fn pairs(dst: &mut [u8], word: &[u8]) -> Taken {
     let n = word.len() / 2;
-    if word.len() % 2 != 0 {
-        return false;
+    if (word.len() % 2 != 0) | (n == 0) {
+        return Taken::Bad;
     }
     if dst.len() < n {
-        return false;
+        return Taken::Large;
     }
     let mut i = 0;
     while i < n {
         let high = digit(word[2 * i]);
         let low = digit(word[2 * i + 1]);
         if 15 < high {
-            return false;
+            return Taken::Bad;
         }
         if 15 < low {
-            return false;
+            return Taken::Bad;
         }
         dst[i] = high * 16 + low;
         i += 1;
     }
-    true
+    Taken::Size(n)
 }
 
-// A hex digit, in lower case.
-fn glyph(d: u8) -> u8
-    requires { ⌜ d < 16 ⌝ }
-    ensures { λ r. ⌜ r ≡ glyphOf d ⌝ }
-{
-    if d < 10 { b'0' + d } else { b'a' + (d - 10) }
+// Reads a file to its end. It must be shorter than `dst`.
+fn read_file(fd: i32, dst: &mut [u8]) -> Taken {
+    let mut n = 0;
+    while n < dst.len() {
+        let rest = &mut dst[n..];
+        let got = libc::read(fd, rest);
+        if got < 0 {
+            return Taken::Missing;
+        }
+        let more = io::count(got, rest);
+        if more == 0 {
+            return Taken::Size(n);
+        }
+        n += more;
+    }
+    Taken::Large
 }
 
-// The two hex digits of a byte.
-pub fn hex_pair(b: u8) -> [u8; 2]
-    ensures { λ r. ⌜ r ≡ glyphOf (b / 16) ∷ glyphOf (b % 16) ∷ [] ⌝ }
-{
-    [glyph(b / 16), glyph(b % 16)]
+// Puts the bytes of the file at `path`.
+fn file(dst: &mut [u8], path: &[u8]) -> Taken {
+    let fd = os::open_read(path);
+    if fd < 0 {
+        return Taken::Missing;
+    }
+    let t = read_file(fd, dst);
+    libc::close(fd);
+    t
+}
+
+// Puts the bytes that a word gives at the start of `dst`.
+pub fn take(dst: &mut [u8], word: &[u8]) -> Taken {
+    if word.len() == 0 {
+        return Taken::Bad;
+    }
+    let first = word[0];
+    let behind = part(word, 1, word.len());
+    if first == b'\'' {
+        return Taken::Size(put(dst, 0, behind));
+    }
+    if first == b'@' {
+        return file(dst, behind);
+    }
+    if (first == b'-') & (word.len() == 1) {
+        return Taken::Size(0);
+    }
+    pairs(dst, word)
 }

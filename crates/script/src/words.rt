@@ -1,9 +1,10 @@
 // Words of a line and the decimal numbers that they are.
-ghost use mathlib.Core.Path.{_≡_};
-ghost use Prim.Native.Nat.{_+_, _≤_, _<_};
-ghost use lib.ListN.{length, drop};
-ghost use Rattle.script.specs.Words.{headOf, tailOf, afterOf, spacesOf, sameBytes};
-ghost use Rattle.script.specs.Words.{decimalOf};
+ghost use Prim.Native.Nat.{_≤_};
+ghost use lib.ListN.{length};
+use crate::room::part;
+
+// The longest line.
+pub const LINE_MAX: usize = 65536;
 
 // What a word is as a number: decimal, and at most 2^64 − 1.
 pub enum Number {
@@ -11,9 +12,15 @@ pub enum Number {
     Bad,
 }
 
+// The numbers behind a line's first word. Those that were not asked for are 0.
+pub enum Three {
+    Are(u64, u64, u64),
+    Bad,
+}
+
 // Where the first space stands, or the length.
 fn space(line: &[u8]) -> usize
-    ensures { λ r. ⌜ (r ≤ length (now (line .entry))) × (r ≡ length (headOf (now (line .entry)))) ⌝ }
+    ensures { λ r. ⌜ r ≤ length (now (line .entry)) ⌝ }
 {
     let mut i = 0;
     while i < line.len() {
@@ -26,22 +33,16 @@ fn space(line: &[u8]) -> usize
 }
 
 // The word that starts at place `at`: the bytes up to the next space.
-pub fn word_at(line: &[u8], at: usize) -> &[u8]
-    ensures { λ r. ⌜ now r ≡ headOf (drop at (now (line .entry))) ⌝ }
-{
-    if line.len() < at {
-        return &line[..0];
-    }
-    let rest = &line[at..];
-    let n = space(rest);
-    &rest[..n]
+pub fn word_at(line: &[u8], at: usize) -> &[u8] {
+    let rest = part(line, at, line.len());
+    part(rest, 0, space(rest))
 }
 
 // Where the word after the one at place `at` starts, or the length.
 pub fn next(line: &[u8], at: usize) -> usize
-    ensures { λ r. ⌜ (r ≤ length (now (line .entry))) × (drop r (now (line .entry)) ≡ tailOf (drop at (now (line .entry)))) ⌝ }
+    ensures { λ r. ⌜ r ≤ length (now (line .entry)) ⌝ }
 {
-    if line.len() < at {
+    if line.len() <= at {
         return line.len();
     }
     let rest = &line[at..];
@@ -54,7 +55,7 @@ pub fn next(line: &[u8], at: usize) -> usize
 
 // Where word `k` starts, counted from 0, or the length.
 pub fn place(line: &[u8], k: usize) -> usize
-    ensures { λ r. ⌜ (r ≤ length (now (line .entry))) × (drop r (now (line .entry)) ≡ afterOf k (now (line .entry))) ⌝ }
+    ensures { λ r. ⌜ r ≤ length (now (line .entry)) ⌝ }
 {
     let mut at = 0;
     let mut left = k;
@@ -66,16 +67,13 @@ pub fn place(line: &[u8], k: usize) -> usize
 }
 
 // Word `k`, counted from 0, or no bytes where there is none.
-pub fn word(line: &[u8], k: usize) -> &[u8]
-    ensures { λ r. ⌜ now r ≡ headOf (afterOf k (now (line .entry))) ⌝ }
-{
-    let at = place(line, k);
-    word_at(line, at)
+pub fn word(line: &[u8], k: usize) -> &[u8] {
+    word_at(line, place(line, k))
 }
 
 // How many spaces a line has: one less than its words.
 pub fn spaces(line: &[u8]) -> usize
-    ensures { λ r. ⌜ r ≡ spacesOf (now (line .entry)) ⌝ }
+    ensures { λ r. ⌜ r ≤ length (now (line .entry)) ⌝ }
 {
     let mut n = 0;
     let mut i = 0;
@@ -90,9 +88,7 @@ pub fn spaces(line: &[u8]) -> usize
 }
 
 // Whether two words are equal.
-pub fn same(a: &[u8], b: &[u8]) -> bool
-    ensures { λ r. ⌜ r ≡ sameBytes (now (a .entry)) (now (b .entry)) ⌝ }
-{
+pub fn same(a: &[u8], b: &[u8]) -> bool {
     if a.len() != b.len() {
         return false;
     }
@@ -107,9 +103,7 @@ pub fn same(a: &[u8], b: &[u8]) -> bool
 }
 
 // A word as a decimal number: digits only, at least one, and at most 2^64 − 1.
-pub fn decimal(word: &[u8]) -> Number
-    ensures { λ r. ⌜ r ≡ decimalOf (now (word .entry)) ⌝ }
-{
+fn decimal(word: &[u8]) -> Number {
     if word.len() == 0 {
         return Number::Bad;
     }
@@ -131,4 +125,34 @@ pub fn decimal(word: &[u8]) -> Number
         n = n * 10 + d;
     }
     Number::Is(n)
+}
+
+// The word that starts at place `at`, as a number.
+pub fn number_at(line: &[u8], at: usize) -> Number {
+    decimal(word_at(line, at))
+}
+
+// Word `k` as a number.
+pub fn word_number(line: &[u8], k: usize) -> Number {
+    decimal(word(line, k))
+}
+
+// Words 1 to `count`, at most 3, as numbers.
+pub fn numbers(line: &[u8], count: usize) -> Three {
+    let Number::Is(a) = word_number(line, 1) else {
+        return Three::Bad;
+    };
+    if count < 2 {
+        return Three::Are(a, 0, 0);
+    }
+    let Number::Is(b) = word_number(line, 2) else {
+        return Three::Bad;
+    };
+    if count < 3 {
+        return Three::Are(a, b, 0);
+    }
+    let Number::Is(c) = word_number(line, 3) else {
+        return Three::Bad;
+    };
+    Three::Are(a, b, c)
 }

@@ -105,7 +105,35 @@ def files():
         sum
         to 1 {DATA} @tests/compare/example.elf
         sum
-        start 2 'x @tests/compare/no-such-file
         name @tests/compare/example.elf
+    """)
+    o.note('a file that is missing, a folder, and one that does not end')
+    o.text(f"""
+        to 1 {DATA} @tests/compare/no-such-file
+        to 1 {DATA} @tests/compare
+        to 1 {DATA} @
+        to 1 {DATA} @/dev/zero
+        name @tests/compare/no-such-file
+        name @/dev/zero
+        push 1 0 {TOP} @tests/compare/no-such-file
+        push 1 0 {TOP} 'a @/dev/zero
+        replace 1 'x @tests/compare/no-such-file 0
+        replace 1 @/dev/zero 00 0
+        start 2 'x @tests/compare/no-such-file
+        start 2 'x @/dev/zero
+    """)
+    o.note('the first word that gives nothing says why, the image of a start coming last')
+    o.text("""
+        start x @tests/compare/no-such-file @/dev/zero
+        start 2 @tests/compare/no-such-file @/dev/zero
+        start 2 'x @tests/compare/no-such-file 'a @/dev/zero
+        start 2 'x @/dev/zero 'a 6
+        start 2 @/dev/zero 6 @tests/compare/no-such-file
+        replace 1 'x @/dev/zero x
+        replace x 'x @/dev/zero 0
+        push 1 0 x @/dev/zero
+        push 1 0 16 @/dev/zero @tests/compare/no-such-file
+        to x 0 @/dev/zero
+        sum
     """)
     return o

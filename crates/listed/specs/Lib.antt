@@ -1,0 +1,2 @@
+-- The list of segments that numbers give.
+pub mod Triples

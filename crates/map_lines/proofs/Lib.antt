@@ -1,3 +1,0 @@
-pub mod Filling
-pub mod Paging
-pub mod Mapping

@@ -1,4 +1,0 @@
-pub mod ByteTable
-pub mod Decimals
-pub mod Pairs
-pub mod Splits

@@ -1,3 +1,0 @@
--- What the contracts of this crate cite besides the specification.
-pub mod Rule
-pub mod Name
