@@ -158,6 +158,8 @@ def resolve(file, path, seen=()):
         return here[first, rest[0]]
     if rest and ('', first) in here and here['', first].kind == 'mod':
         return resolve(source(file.crate, '.'.join(filter(None, [file.module, first]))), rest, seen)
+    if first in uses(file) and uses(file)[first][0][0] == 'crate':
+        return resolve(file, uses(file)[first][0] + rest, seen)
     if rest and first in crates():
         exported = [i for i in items() if i.file.crate == first and i.public == 'C' and [i.name] == rest]
         return exported[0] if exported else resolve(source(first, ''), rest, seen)
