@@ -26,8 +26,9 @@ fn access_call(
     key: &[u8],
     n: usize,
 ) -> Step {
+    let procs = w.procs;
     if same(key, b"range") & (n == 4) {
-        return access::range(frames, book, w, line);
+        return says(w, access::range(frames, book, procs, line));
     }
     if same(key, b"from") & (n == 3) {
         return access::from(frames, book, space, w, line);
@@ -36,7 +37,7 @@ fn access_call(
         return access::to(frames, book, space, w, line);
     }
     if same(key, b"string") & (n == 3) {
-        return access::string(frames, book, space, w, line);
+        return says(w, access::string(frames, book, space, procs, line));
     }
     bad(w)
 }
@@ -110,17 +111,18 @@ fn shown_line(
     key: &[u8],
     n: usize,
 ) -> Step {
+    let procs = w.procs;
     if same(key, b"rule") & (n == 4) {
-        return shown::rule(w, line);
+        return says(w, shown::rule(line));
     }
     if same(key, b"name") & (n == 1) {
-        return shown::name(space, w, line);
+        return says(w, shown::name(space, line));
     }
     if same(key, b"sum") & (n == 0) {
         return says(w, Reply::Shows(Shown::Sums));
     }
     if same(key, b"map") & (n == 1) {
-        return shown::map(w, line);
+        return says(w, shown::map(procs, line));
     }
     lent_call(frames, book, space, w, line, key, n)
 }
