@@ -11,6 +11,7 @@ use crate::world::says;
 use crate::world::wrong;
 use script::Taken;
 use script::Three;
+use spec::Procs;
 
 // What every byte of a lent buffer first is.
 const BLANK: u8 = 238;
@@ -19,24 +20,23 @@ const BLANK: u8 = 238;
 const BUFFER_MAX: u64 = 65536;
 
 // The answer of a range: yes or no.
-fn ranged(frames: &mut [u8], book: &mut [u64], w: World, line: &[u8], write: bool) -> Step {
+fn ranged(frames: &[u8], book: &[u64], procs: Procs, line: &[u8], write: bool) -> Reply {
     let Three::Are(number, addr, len) = script::numbers(line, 3) else {
-        return bad(w);
+        return Reply::Bad;
     };
-    let procs = w.procs;
     let answer = calls::user_range_ok(frames, book, procs, number, addr, len, write);
-    says(w, Reply::Shows(Shown::YesOrNo(answer)))
+    Reply::Shows(Shown::YesOrNo(answer))
 }
 
 // range NUMBER ADDRESS LENGTH r|w
-pub fn range(frames: &mut [u8], book: &mut [u64], w: World, line: &[u8]) -> Step {
+pub fn range(frames: &[u8], book: &[u64], procs: Procs, line: &[u8]) -> Reply {
     if script::same(script::word(line, 4), b"w") {
-        return ranged(frames, book, w, line, true);
+        return ranged(frames, book, procs, line, true);
     }
     if script::same(script::word(line, 4), b"r") {
-        return ranged(frames, book, w, line, false);
+        return ranged(frames, book, procs, line, false);
     }
-    bad(w)
+    Reply::Bad
 }
 
 // Copies into a buffer, which is blank first.
@@ -89,33 +89,26 @@ pub fn to(frames: &mut [u8], book: &mut [u64], space: &mut Space, w: World, line
 
 // Copies a string into a buffer, which is blank first.
 fn copy_string(
-    frames: &mut [u8],
-    book: &mut [u64],
+    frames: &[u8],
+    book: &[u64],
     buffer: &mut [u8],
-    w: World,
+    procs: Procs,
     number: u64,
     src: u64,
-) -> Step {
+) -> Reply {
     script::fill(buffer, BLANK);
-    let procs = w.procs;
     let answer = calls::try_copy_str_from_user(frames, book, procs, number, buffer, src);
-    says(w, Reply::Shows(Shown::Filled(answer, buffer.len())))
+    Reply::Shows(Shown::Filled(answer, buffer.len()))
 }
 
 // string NUMBER ADDRESS LENGTH
-pub fn string(
-    frames: &mut [u8],
-    book: &mut [u64],
-    space: &mut [u8],
-    w: World,
-    line: &[u8],
-) -> Step {
+pub fn string(frames: &[u8], book: &[u64], space: &mut [u8], procs: Procs, line: &[u8]) -> Reply {
     let Three::Are(number, src, len) = script::numbers(line, 3) else {
-        return bad(w);
+        return Reply::Bad;
     };
     if len > BUFFER_MAX {
-        return bad(w);
+        return Reply::Bad;
     }
     let buffer = script::lent(space, len as usize);
-    copy_string(frames, book, buffer, w, number, src)
+    copy_string(frames, book, buffer, procs, number, src)
 }

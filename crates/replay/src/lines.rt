@@ -14,7 +14,7 @@ use crate::world::World;
 use crate::world::bad;
 use crate::world::says;
 use script::LINE_MAX;
-use script::same;
+use script::asks;
 
 // A call of access to user memory.
 fn access_call(
@@ -23,20 +23,19 @@ fn access_call(
     space: &mut Space,
     w: World,
     line: &[u8],
-    key: &[u8],
-    n: usize,
 ) -> Step {
-    if same(key, b"range") & (n == 4) {
-        return access::range(frames, book, w, line);
+    let procs = w.procs;
+    if asks(line, b"range", 4, 4) {
+        return says(w, access::range(frames, book, procs, line));
     }
-    if same(key, b"from") & (n == 3) {
+    if asks(line, b"from", 3, 3) {
         return access::from(frames, book, space, w, line);
     }
-    if same(key, b"to") & (n == 3) {
+    if asks(line, b"to", 3, 3) {
         return access::to(frames, book, space, w, line);
     }
-    if same(key, b"string") & (n == 3) {
-        return access::string(frames, book, space, w, line);
+    if asks(line, b"string", 3, 3) {
+        return says(w, access::string(frames, book, space, procs, line));
     }
     bad(w)
 }
@@ -48,41 +47,31 @@ fn process_call(
     space: &mut Space,
     w: World,
     line: &[u8],
-    key: &[u8],
-    n: usize,
 ) -> Step {
-    if same(key, b"break") & (n == 2) {
+    if asks(line, b"break", 2, 2) {
         return process::brk(frames, book, w, line);
     }
-    if same(key, b"fork") & (1 < n) & (n % 3 == 2) {
+    if asks(line, b"fork", 2, LINE_MAX) {
         return process::fork(frames, book, w, line);
     }
-    if same(key, b"end") & (n == 1) {
+    if asks(line, b"end", 1, 1) {
         return process::end(frames, book, w, line);
     }
-    access_call(frames, book, space, w, line, key, n)
+    access_call(frames, book, space, w, line)
 }
 
 // A call with an image or arguments, or else another one.
-fn call(
-    frames: &mut [u8],
-    book: &mut [u64],
-    space: &mut Space,
-    w: World,
-    line: &[u8],
-    key: &[u8],
-    n: usize,
-) -> Step {
-    if same(key, b"start") & (2 < n) {
+fn call(frames: &mut [u8], book: &mut [u64], space: &mut Space, w: World, line: &[u8]) -> Step {
+    if asks(line, b"start", 3, LINE_MAX) {
         return program::start(frames, book, space, w, line);
     }
-    if same(key, b"replace") & (n == 4) {
+    if asks(line, b"replace", 4, 4) {
         return program::replace(frames, book, space, w, line);
     }
-    if same(key, b"push") & (2 < n) {
+    if asks(line, b"push", 3, LINE_MAX) {
         return program::push(frames, book, space, w, line);
     }
-    process_call(frames, book, space, w, line, key, n)
+    process_call(frames, book, space, w, line)
 }
 
 // A call, over as much of frames and book as is lent.
@@ -92,12 +81,10 @@ fn lent_call(
     space: &mut Space,
     w: World,
     line: &[u8],
-    key: &[u8],
-    n: usize,
 ) -> Step {
     let bytes = script::lent(frames, w.lent_bytes);
     let words = script::lent_words(book, w.lent_words);
-    call(bytes, words, space, w, line, key, n)
+    call(bytes, words, space, w, line)
 }
 
 // A line of a rule by itself or of what is held, or else a call.
@@ -107,44 +94,35 @@ fn shown_line(
     space: &mut Space,
     w: World,
     line: &[u8],
-    key: &[u8],
-    n: usize,
 ) -> Step {
-    if same(key, b"rule") & (n == 4) {
-        return shown::rule(w, line);
+    let procs = w.procs;
+    if asks(line, b"rule", 4, 4) {
+        return says(w, shown::rule(line));
     }
-    if same(key, b"name") & (n == 1) {
-        return shown::name(space, w, line);
+    if asks(line, b"name", 1, 1) {
+        return says(w, shown::name(space, line));
     }
-    if same(key, b"sum") & (n == 0) {
+    if asks(line, b"sum", 0, 0) {
         return says(w, Reply::Shows(Shown::Sums));
     }
-    if same(key, b"map") & (n == 1) {
-        return shown::map(w, line);
+    if asks(line, b"map", 1, 1) {
+        return says(w, shown::map(procs, line));
     }
-    lent_call(frames, book, space, w, line, key, n)
+    lent_call(frames, book, space, w, line)
 }
 
 // A line of frames and book, or else another one.
-fn run(
-    frames: &mut Frames,
-    book: &mut Book,
-    space: &mut Space,
-    w: World,
-    line: &[u8],
-    key: &[u8],
-    n: usize,
-) -> Step {
-    if same(key, b"frames") & (0 < n) & (n < 3) {
+fn run(frames: &mut Frames, book: &mut Book, space: &mut Space, w: World, line: &[u8]) -> Step {
+    if asks(line, b"frames", 1, 2) {
         return lent::frames(frames, book, w, line);
     }
-    if same(key, b"lend") & (n == 2) {
+    if asks(line, b"lend", 2, 2) {
         return lent::lend(w, line);
     }
-    if same(key, b"word") & (n == 2) {
+    if asks(line, b"word", 2, 2) {
         return lent::word(book, w, line);
     }
-    shown_line(frames, book, space, w, line, key, n)
+    shown_line(frames, book, space, w, line)
 }
 
 // Runs a line: what it leaves, and its answer.
@@ -164,6 +142,5 @@ pub fn answer(
     if LINE_MAX < line.len() {
         return says(w, Reply::Large(LINE_MAX));
     }
-    let key = script::word(line, 0);
-    run(frames, book, space, w, line, key, script::spaces(line))
+    run(frames, book, space, w, line)
 }

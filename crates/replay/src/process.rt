@@ -84,6 +84,9 @@ pub fn fork(frames: &mut [u8], book: &mut [u64], w: World, line: &[u8]) -> Step 
     let Three::Are(number, child, _) = script::numbers(line, 2) else {
         return bad(w);
     };
+    if script::spaces(line) % 3 != 2 {
+        return bad(w);
+    }
     let mut numbers = [0u64; LIST_MAX];
     let Count::Are(n) = list(&mut numbers, line) else {
         return bad(w);

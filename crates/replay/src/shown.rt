@@ -2,17 +2,14 @@
 use crate::world::Reply;
 use crate::world::Shown;
 use crate::world::Space;
-use crate::world::Step;
-use crate::world::World;
-use crate::world::bad;
 use crate::world::refused;
-use crate::world::says;
-use crate::world::wrong;
+use crate::world::why;
 use script::Number;
 use script::Taken;
 use script::Three;
 use segment::Bss;
 use spec::Answer;
+use spec::Procs;
 
 // The bss that two words of a line give.
 enum Words {
@@ -34,55 +31,54 @@ fn bss_of(line: &[u8]) -> Words {
 }
 
 // rule START END FREE ADDRESS
-pub fn rule(w: World, line: &[u8]) -> Step {
+pub fn rule(line: &[u8]) -> Reply {
     let Words::Give(bss) = bss_of(line) else {
-        return bad(w);
+        return Reply::Bad;
     };
     let Number::Is(free) = script::word_number(line, 3) else {
-        return bad(w);
+        return Reply::Bad;
     };
     let Number::Is(addr) = script::word_number(line, 4) else {
-        return bad(w);
+        return Reply::Bad;
     };
     let b = segment::ibrk(bss, addr, free);
     if b.error != 0 {
-        return refused(w, b.error);
+        return refused(b.error);
     }
     let after = b.bss;
     let Bss::Set(r) = after else {
-        return refused(w, spec::EBADARG);
+        return refused(spec::EBADARG);
     };
-    says(w, Reply::Shows(Shown::Moved(b.value, r)))
+    Reply::Shows(Shown::Moved(b.value, r))
 }
 
 // Shows a name: it is put at the start of the space.
-fn show(space: &mut Space, w: World, text: &[u8; 28]) -> Step {
+fn show(space: &mut Space, text: &[u8; 28]) -> Reply {
     let n = script::put(space, 0, text);
-    says(w, Reply::Shows(Shown::Copied(Answer::Done, n)))
+    Reply::Shows(Shown::Copied(Answer::Done, n))
 }
 
 // name BYTES
-pub fn name(space: &mut Space, w: World, line: &[u8]) -> Step {
+pub fn name(space: &mut Space, line: &[u8]) -> Reply {
     let t = script::take(space, script::word(line, 1));
     let Taken::Size(n) = t else {
-        return wrong(w, t);
+        return why(t);
     };
     let mut text = [0u8; 28];
     kstr::kstrcpy(&mut text, script::first(space, n));
-    show(space, w, &text)
+    show(space, &text)
 }
 
 // map NUMBER
-pub fn map(w: World, line: &[u8]) -> Step {
+pub fn map(procs: Procs, line: &[u8]) -> Reply {
     let Number::Is(number) = script::word_number(line, 1) else {
-        return bad(w);
+        return Reply::Bad;
     };
     if !front::record::is_number(number) {
-        return refused(w, spec::NUMBER);
+        return refused(spec::NUMBER);
     }
-    let procs = w.procs;
     if !front::record::lives(procs, number) {
-        return refused(w, spec::DEAD);
+        return refused(spec::DEAD);
     }
-    says(w, Reply::Shows(Shown::Table(number)))
+    Reply::Shows(Shown::Table(number))
 }

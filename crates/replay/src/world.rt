@@ -99,17 +99,22 @@ pub fn done(w: World) -> Step {
 }
 
 // A refusal.
-pub fn refused(w: World, number: u64) -> Step {
-    says(w, Reply::Says(Answer::Refused(number)))
+pub fn refused(number: u64) -> Reply {
+    Reply::Says(Answer::Refused(number))
+}
+
+// Why a word gives no bytes.
+pub fn why(t: Taken) -> Reply {
+    match t {
+        Taken::Missing => Reply::Missing,
+        Taken::Large => Reply::Large(FILE_MAX),
+        _ => Reply::Bad,
+    }
 }
 
 // A word that gives no bytes.
 pub fn wrong(w: World, t: Taken) -> Step {
-    match t {
-        Taken::Missing => says(w, Reply::Missing),
-        Taken::Large => says(w, Reply::Large(FILE_MAX)),
-        _ => bad(w),
-    }
+    says(w, why(t))
 }
 
 // What is held once a call has left its records.

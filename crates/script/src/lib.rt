@@ -18,6 +18,7 @@ pub use room::put;
 pub use words::LINE_MAX;
 pub use words::Number;
 pub use words::Three;
+pub use words::asks;
 pub use words::next;
 pub use words::number_at;
 pub use words::numbers;

@@ -102,6 +102,12 @@ pub fn same(a: &[u8], b: &[u8]) -> bool {
     true
 }
 
+// Whether a line's first word is `key`, with so many words behind it.
+pub fn asks(line: &[u8], key: &[u8], least: usize, most: usize) -> bool {
+    let n = spaces(line);
+    same(word(line, 0), key) & (least <= n) & (n <= most)
+}
+
 // A word as a decimal number: digits only, at least one, and at most 2^64 − 1.
 fn decimal(word: &[u8]) -> Number {
     if word.len() == 0 {
