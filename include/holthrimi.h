@@ -11,11 +11,11 @@
  *   - what is not const overlaps nothing else that the call is given, and nothing else touches it until the call returns;
  *   - a bool is 0 or 1.
  * The library keeps nothing between calls, allocates nothing, and needs memcpy, memmove and memset. It follows the System V calling
- * convention of x86-64, with its red zone and SSE registers. Of stack, replace was measured to use 62 KiB, start 43, fork 36 and the other
- * calls 22 to 30.
+ * convention of x86-64, with its red zone and SSE registers. Of stack, replace was measured to use 62 KiB, push 53, break 50, start 39,
+ * fork 30 and the other calls 36 to 43.
  *
- * Numbers. A page is 4,096 bytes. UTZERO is 65,536; user addresses end at 2^47, where the stack of 16,384 bytes ends too; limit is
- * 140,737,488,334,848, one guard page below the stack.
+ * Numbers. A page is 4,096 bytes. The machine's four numbers are handed to every call, by value (struct holthrimi_setup); limit is one
+ * guard page below the stack.
  */
 #ifndef HOLTHRIMI_H
 #define HOLTHRIMI_H
@@ -47,6 +47,22 @@ enum {
     HOLTHRIMI_RODATA = 2,
     HOLTHRIMI_DATA = 3
 };
+
+/*
+ * The machine's numbers: where user text may begin; the top of the user stack, and its size; and the end of the user address space.
+ * All are multiples of 4,096; utzero and ustksize at least 4,096; ustksize at most 65,536 and below ustktop; utzero + 8,192 at most
+ * ustktop - ustksize; ustktop at most uaddrtop, and that at most 2^47. Every call refuses others with 38, directly after 1. The same
+ * numbers go to every call over the same frames, book and records.
+ */
+struct holthrimi_setup {
+    uint64_t utzero;
+    uint64_t ustktop;
+    uint64_t ustksize;
+    uint64_t uaddrtop;
+};
+
+/* The deposit machine's. */
+#define HOLTHRIMI_DEPOSIT ((struct holthrimi_setup){65536, (uint64_t)1 << 47, 16384, (uint64_t)1 << 47})
 
 /* User addresses from start up to, but not including, end. */
 struct holthrimi_range {
@@ -97,7 +113,7 @@ struct holthrimi_answer {
     struct holthrimi_regs regs;
 };
 
-/* The numbers of refusals. 1 to 5 come first in every call, in this order; then each call's own, in the order named with it. */
+/* The numbers of refusals. 1, 38 and 2 to 5 come first in every call, in this order; then each call's own, in the order named with it. */
 enum {
     HOLTHRIMI_SIZES = 1,     /* frame bytes aren't 4,096 * words, words outside 1 to 1,024, or argument lengths don't sum to their bytes */
     HOLTHRIMI_TORN = 2,      /* the book is not sound: its words and the records don't agree */
@@ -111,21 +127,25 @@ enum {
     HOLTHRIMI_ENOVMEM = 33,  /* arguments over the limit; break; too few frames */
     HOLTHRIMI_ESOVERLAP = 34, /* a break above limit */
     HOLTHRIMI_EFAULT = 35,   /* bad address: a range, or a push below address 0 */
-    HOLTHRIMI_TOP = 36       /* top is not a multiple of 16 */
+    HOLTHRIMI_TOP = 36,      /* top is not a multiple of 16 */
+    HOLTHRIMI_SETUP_LINES = 37, /* holthrimi_read_setup: bytes that are not as described */
+    HOLTHRIMI_SETUP = 38     /* the machine's numbers break a condition */
 };
 
 /* ---- the ten calls
  *
- * The first arguments are the same in each: frames and their bytes, book and its words, records, and the process's number.
+ * The first arguments are the same in each: the machine's numbers, frames and their bytes, book and its words, records, and the
+ * process's number.
  */
 
 /*
  * Starts a process under `number`, which must not live, from an ELF image. Its name is what follows the last '/' of name, copied as
  * holthrimi_kstrcpy copies. Its arguments are `bytes` cut by `lengths`: the first lengths[0] bytes, and so on. Pages are placed
  * ascending, each in the highest-numbered free frame: the image's, the bss, the stack; then the arguments are pushed.
- * Refused, after 1, 2, 3 and 5: 32, 33 (arguments), 30, 31, 33 (frames). Accepted: regs, to enter the program with.
+ * Refused, after 1, 38, 2, 3 and 5: 32, 33 (arguments), 30, 31, 33 (frames). Accepted: regs, to enter the program with.
  */
-struct holthrimi_answer holthrimi_start(uint8_t *frames, size_t frame_bytes, uint64_t *book, size_t words,
+struct holthrimi_answer holthrimi_start(struct holthrimi_setup setup,
+                                        uint8_t *frames, size_t frame_bytes, uint64_t *book, size_t words,
                                         struct holthrimi_procs *procs, uint64_t number, const uint8_t *image, size_t image_bytes,
                                         const uint8_t *name, size_t name_bytes, const uint8_t *bytes, size_t count,
                                         const uint64_t *lengths, size_t nargs);
@@ -133,73 +153,83 @@ struct holthrimi_answer holthrimi_start(uint8_t *frames, size_t frame_bytes, uin
 /*
  * Replaces a process's program. `argv` is the user address of an array of pointers to its arguments, which a null ends; they are read
  * from its old memory. Its own frames are freed first.
- * Refused, after 1 to 4: 30, 31, then 35, which ends the process, or 33 (arguments) in reading order, then 33, which ends the process,
- * if own and free frames don't suffice. Accepted: regs.
+ * Refused, after 1, 38 and 2 to 4: 30, 31, then 35, which ends the process, or 33 (arguments) in reading order, then 33, which ends the
+ * process, if own and free frames don't suffice. Accepted: regs.
  */
-struct holthrimi_answer holthrimi_replace(uint8_t *frames, size_t frame_bytes, uint64_t *book, size_t words,
+struct holthrimi_answer holthrimi_replace(struct holthrimi_setup setup,
+                                          uint8_t *frames, size_t frame_bytes, uint64_t *book, size_t words,
                                           struct holthrimi_procs *procs, uint64_t number, const uint8_t *image, size_t image_bytes,
                                           const uint8_t *name, size_t name_bytes, uint64_t argv);
 
 /*
  * Pushes arguments onto a process's stack: their strings end at `top`, and below them lie pointers to them and a null, from a multiple
  * of 8 on, which is regs.argv; regs.sp is that rounded down to 16, and regs.pc as given.
- * Refused, after 1 to 4: 36, 32, 33, and 35, which ends the process, with no byte written.
+ * Refused, after 1, 38 and 2 to 4: 36, 32, 33, and 35, which ends the process, with no byte written.
  */
-struct holthrimi_answer holthrimi_push(uint8_t *frames, size_t frame_bytes, uint64_t *book, size_t words,
+struct holthrimi_answer holthrimi_push(struct holthrimi_setup setup,
+                                       uint8_t *frames, size_t frame_bytes, uint64_t *book, size_t words,
                                        struct holthrimi_procs *procs, uint64_t number, uint64_t pc, uint64_t top,
                                        const uint8_t *bytes, size_t count, const uint64_t *lengths, size_t nargs);
 
 /*
  * Moves the end of a process's bss to `addr` rounded up to a page: new pages are zeroed, pages past it freed, and the bytes between
  * addr and its page's end kept. Address 0 changes nothing, and value is the bss's start; otherwise value is 0.
- * Refused, after 1 to 4: 33 below the bss's start, 33 past 64 bits, 34, 33 if there are too few frames.
+ * Refused, after 1, 38 and 2 to 4: 33 below the bss's start, 33 past 64 bits, 34, 33 if there are too few frames.
  */
-struct holthrimi_answer holthrimi_break(uint8_t *frames, size_t frame_bytes, uint64_t *book, size_t words,
+struct holthrimi_answer holthrimi_break(struct holthrimi_setup setup,
+                                        uint8_t *frames, size_t frame_bytes, uint64_t *book, size_t words,
                                         struct holthrimi_procs *procs, uint64_t number, uint64_t addr);
 
 /*
  * Forks a process as `child`, which must not live: it takes a copy of every page, now, and the record with its name.
- * Refused, after 1 to 5 (3 judges both numbers, 4 the parent, 5 the child): 33 if the free frames don't hold the copy.
+ * Refused, after 1, 38 and 2 to 5 (3 judges both numbers, 4 the parent, 5 the child): 33 if the free frames don't hold the copy.
  */
-struct holthrimi_answer holthrimi_fork(uint8_t *frames, size_t frame_bytes, uint64_t *book, size_t words,
+struct holthrimi_answer holthrimi_fork(struct holthrimi_setup setup,
+                                       uint8_t *frames, size_t frame_bytes, uint64_t *book, size_t words,
                                        struct holthrimi_procs *procs, uint64_t number, uint64_t child);
 
-/* Ends a process: its frames are free and keep their bytes, and its record is zero. Refused: 1 to 4. */
-struct holthrimi_answer holthrimi_end(uint8_t *frames, size_t frame_bytes, uint64_t *book, size_t words,
+/* Ends a process: its frames are free and keep their bytes, and its record is zero. Refused: 1, 38 and 2 to 4. */
+struct holthrimi_answer holthrimi_end(struct holthrimi_setup setup,
+                                      uint8_t *frames, size_t frame_bytes, uint64_t *book, size_t words,
                                       struct holthrimi_procs *procs, uint64_t number);
 
 /*
  * Whether a process may read, or with `write` write, `length` bytes from `addr` on: value is 1 for yes and 0 for no. addr + length must
- * not exceed 2^47; length 0 then passes, mapped or not; otherwise every page touched must be mapped, and be data for writing.
- * It changes nothing and ends nothing. Refused: 1 to 4.
+ * not exceed uaddrtop; length 0 then passes, mapped or not; otherwise every page touched must be mapped, and be data for writing.
+ * It changes nothing and ends nothing. Refused: 1, 38 and 2 to 4.
  */
-struct holthrimi_answer holthrimi_user_range_ok(const uint8_t *frames, size_t frame_bytes, const uint64_t *book, size_t words,
+struct holthrimi_answer holthrimi_user_range_ok(struct holthrimi_setup setup,
+                                                const uint8_t *frames, size_t frame_bytes, const uint64_t *book, size_t words,
                                                 const struct holthrimi_procs *procs, uint64_t number, uint64_t addr,
                                                 uint64_t length, bool write);
 
-/* Copies `count` bytes of a process from `src` on to dst. Refused, after 1 to 4: 35, which ends the process, with no byte copied. */
-struct holthrimi_answer holthrimi_copy_from_user(uint8_t *frames, size_t frame_bytes, uint64_t *book, size_t words,
+/* Copies `count` bytes of a process from `src` on to dst. Refused, after 1, 38 and 2 to 4: 35, which ends the process, with no byte copied. */
+struct holthrimi_answer holthrimi_copy_from_user(struct holthrimi_setup setup,
+                                                 uint8_t *frames, size_t frame_bytes, uint64_t *book, size_t words,
                                                  struct holthrimi_procs *procs, uint64_t number, uint8_t *dst, size_t count,
                                                  uint64_t src);
 
-/* Copies `count` bytes to a process from `dst` on. Refused, after 1 to 4: 35, which ends the process, with no byte copied. */
-struct holthrimi_answer holthrimi_copy_to_user(uint8_t *frames, size_t frame_bytes, uint64_t *book, size_t words,
+/* Copies `count` bytes to a process from `dst` on. Refused, after 1, 38 and 2 to 4: 35, which ends the process, with no byte copied. */
+struct holthrimi_answer holthrimi_copy_to_user(struct holthrimi_setup setup,
+                                               uint8_t *frames, size_t frame_bytes, uint64_t *book, size_t words,
                                                struct holthrimi_procs *procs, uint64_t number, uint64_t dst, const uint8_t *bytes,
                                                size_t count);
 
 /*
  * Copies a string of a process at `src` to dst up to a NUL, which isn't stored; the rest of dst stays. Value is its length, or `count`
  * where there is no NUL within that many bytes. Pages are checked one by one, as they are reached; with count 0, none is.
- * Refused, after 1 to 4: 35 at a bad page; the bytes before it stay copied, and the process lives.
+ * Refused, after 1, 38 and 2 to 4: 35 at a bad page; the bytes before it stay copied, and the process lives.
  */
-struct holthrimi_answer holthrimi_try_copy_str_from_user(const uint8_t *frames, size_t frame_bytes, const uint64_t *book,
+struct holthrimi_answer holthrimi_try_copy_str_from_user(struct holthrimi_setup setup,
+                                                         const uint8_t *frames, size_t frame_bytes, const uint64_t *book,
                                                          size_t words, const struct holthrimi_procs *procs, uint64_t number,
                                                          uint8_t *dst, size_t count, uint64_t src);
 
 /* ---- functions that are no calls */
 
-/* 1 or 2, as every call gives them for frames, book and records, or 0. */
-uint64_t holthrimi_check(const uint8_t *frames, size_t frame_bytes, const uint64_t *book, size_t words,
+/* 1, 38 or 2, as every call gives them for frames, book and records, or 0. */
+uint64_t holthrimi_check(struct holthrimi_setup setup,
+                         const uint8_t *frames, size_t frame_bytes, const uint64_t *book, size_t words,
                          const struct holthrimi_procs *procs);
 
 /*
@@ -212,7 +242,7 @@ uint64_t holthrimi_check(const uint8_t *frames, size_t frame_bytes, const uint64
 uint64_t holthrimi_parse(const uint8_t *image, size_t image_bytes);
 
 /*
- * What a start needs of an image: number is 30, 31 or 0; with 30, elf is the image's own number, or 0 if it is the layout's. Then the
+ * What a start needs of an image: number is 38, 30, 31 or 0; with 30, elf is the image's own number, or 0 if it is the layout's. Then the
  * entry point; the record's segments, `count` of the image, then the stack; the bss; and the pages that a start takes, with the
  * stack. All but number and elf are zeros if it is refused.
  */
@@ -226,12 +256,12 @@ struct holthrimi_planned {
     uint64_t pages;
 };
 
-struct holthrimi_planned holthrimi_plan(const uint8_t *image, size_t image_bytes);
+struct holthrimi_planned holthrimi_plan(struct holthrimi_setup setup, const uint8_t *image, size_t image_bytes);
 
 /*
- * The break's rule by itself, over a bss with any numbers in it, or with `set` false none, and a count of free frames. error is 0, or
- * in this order: 32 no bss; 33 below start; 33 past 64 bits; 34 above limit; 33 too few frames. value is the start for address 0.
- * The bss handed back is as it was, or ends at addr rounded up; zeros for none.
+ * The break's rule by itself, over a bss with any numbers in it, or with `set` false none, and a count of free frames. error is 0, or in
+ * this order: 38 the setup; 32 no bss; 33 below start; 33 past 64 bits; 34 above limit; 33 too few frames. value is the start for
+ * address 0. The bss handed back is as it was, or ends at addr rounded up; zeros for none.
  */
 struct holthrimi_rule {
     uint64_t error;
@@ -239,16 +269,41 @@ struct holthrimi_rule {
     struct holthrimi_range bss;
 };
 
-struct holthrimi_rule holthrimi_ibrk(bool set, uint64_t start, uint64_t end, uint64_t addr, uint64_t free);
+struct holthrimi_rule holthrimi_ibrk(struct holthrimi_setup setup, bool set, uint64_t start, uint64_t end, uint64_t addr,
+                                     uint64_t free);
 
 /*
  * The stack that `nargs` arguments take whose strings, each with its NUL, have `strings` bytes: those rounded up to 8, + 8 * (nargs + 1)
- * + 8; or 2^64 - 1 if 64 bits don't hold it. Up to 4,096 may be pushed.
+ * + 8; or 2^64 - 1 if 64 bits don't hold it. Up to a quarter of the stack may be pushed.
  */
 uint64_t holthrimi_stack_size(uint64_t strings, uint64_t nargs);
 
-/* 1 if lengths don't sum to `count`, 32 for a NUL in an argument, 33 if the stack that they take is above 4,096; or 0. */
-uint64_t holthrimi_args_error(const uint8_t *bytes, size_t count, const uint64_t *lengths, size_t nargs);
+/*
+ * 1 if lengths don't sum to `count`, 38 for the setup, 32 for a NUL in an argument, 33 if the stack that they take is above a quarter of
+ * ustksize; or 0.
+ */
+uint64_t holthrimi_args_error(struct holthrimi_setup setup, const uint8_t *bytes, size_t count, const uint64_t *lengths,
+                              size_t nargs);
+
+/*
+ * The machine's numbers in a file: four lines, UTZERO=65536 and so for USTKTOP, USTKSIZE and UADDRTOP, in this order, decimal, one to 15
+ * digits, the first not 0, each closed by one line feed, with no byte after the fourth. number is 37 for other bytes; then 38 for numbers
+ * that break a condition; or 0. The setup is zeros if they are refused.
+ */
+struct holthrimi_setup_read {
+    uint64_t number;
+    struct holthrimi_setup setup;
+};
+
+struct holthrimi_setup_read holthrimi_read_setup(const uint8_t *bytes, size_t count);
+
+/*
+ * Puts the four lines of a setup into a buffer, and gives their length. A buffer under HOLTHRIMI_SETUP_TEXT bytes, which the longest
+ * take, is left as it is, and the answer is 0. An accepted setup's lines read back as it.
+ */
+enum { HOLTHRIMI_SETUP_TEXT = 117 };
+
+size_t holthrimi_write_setup(struct holthrimi_setup setup, uint8_t *out, size_t room);
 
 /*
  * Copies a name: up to 27 bytes as they are, the rest of the 28 zeroed; a longer one is cut at the largest place up to 24 where no byte

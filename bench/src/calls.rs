@@ -3,7 +3,7 @@ use crate::clock::{repeated, timed};
 use crate::ours::{self, Args};
 use crate::region::{PAGE, Region};
 use crate::rust;
-use holthrimi::USTKTOP;
+use holthrimi::Setup;
 use std::hint::black_box;
 
 const NAME: &[u8] = b"reader";
@@ -231,7 +231,7 @@ pub fn push<'a>(n: usize, count: usize) -> Call<'a> {
     Call::new(
         format!("push, {count} empty arguments"),
         Some(n),
-        move |w| repeated(|| w.push(n as u64, 0, USTKTOP, black_box(&args.bytes), black_box(&args.lengths)).unwrap()),
-        move |_| repeated(|| rust::push(0, USTKTOP as usize, black_box(&list))),
+        move |w| repeated(|| w.push(n as u64, 0, Setup::DEPOSIT.ustktop, black_box(&args.bytes), black_box(&args.lengths)).unwrap()),
+        move |_| repeated(|| rust::push(0, Setup::DEPOSIT.ustktop as usize, black_box(&list))),
     )
 }

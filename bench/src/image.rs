@@ -1,6 +1,6 @@
 //! Images, made the same for both sides.
 
-pub const UTZERO: usize = holthrimi::UTZERO as usize;
+pub const UTZERO: usize = holthrimi::Setup::DEPOSIT.utzero as usize;
 
 /// The 184-byte example.
 pub fn example() -> Vec<u8> {

@@ -1,6 +1,6 @@
 //! Our side: frames, book and records lent to the proved library's calls (the crate holthrimi), and the loops of libmeasured.a.
 use crate::region::Region;
-use holthrimi::{Lent, PAGE, Procs};
+use holthrimi::{Lent, PAGE, Procs, Setup};
 
 unsafe extern "C" {
     fn measured_zero(d: *mut u8, n: usize);
@@ -42,13 +42,13 @@ pub type World = Lent<'static>;
 pub fn world(region: &Region, frames: usize) -> World {
     let bytes = &mut region.bytes()[..frames * PAGE];
     bytes.fill(0);
-    Lent { frames: bytes, book: vec![0; frames].leak(), procs: Box::leak(Box::default()) }
+    Lent { setup: Setup::DEPOSIT, frames: bytes, book: vec![0; frames].leak(), procs: Box::leak(Box::default()) }
 }
 
 /// What a call finds, for the check that it begins with: of the frames that looks at the length alone.
 pub fn found(w: &World) -> World {
     let frames = vec![0; w.frames.len()].leak();
-    Lent { frames, book: w.book.to_vec().leak(), procs: Box::leak(Box::new(*w.procs)) }
+    Lent { setup: w.setup, frames, book: w.book.to_vec().leak(), procs: Box::leak(Box::new(*w.procs)) }
 }
 
 /// Arguments as bytes and lengths.

@@ -2,7 +2,7 @@
 use crate::clock::{Time, repeated, times};
 use crate::region::{PAGE, Region};
 use crate::{image, ours, rust};
-use holthrimi::{Procs, USTKSIZE, USTKTOP, UTZERO, UserSegment, VirtRange};
+use holthrimi::{Procs, Setup, UserSegment, VirtRange};
 use std::cell::RefCell;
 use std::hint::black_box;
 
@@ -39,10 +39,11 @@ fn full_book(n: usize, nproc: usize) -> (Vec<u64>, Procs) {
     let mut words = Vec::new();
     for (k, p) in procs.all[..nproc].iter_mut().enumerate() {
         let image = n / nproc + usize::from(k < n % nproc) - 4;
-        let middle = UTZERO + page * (image / 2) as u64;
-        let end = UTZERO + page * image as u64;
+        let Setup { utzero, ustktop, ustksize, .. } = Setup::DEPOSIT;
+        let middle = utzero + page * (image / 2) as u64;
+        let end = utzero + page * image as u64;
         let segment = |start, end, perm| UserSegment { range: VirtRange { start, end }, perm };
-        let segments = [segment(UTZERO, middle, 1), segment(middle, end, 3), segment(USTKTOP - USTKSIZE, USTKTOP, 3)];
+        let segments = [segment(utzero, middle, 1), segment(middle, end, 3), segment(ustktop - ustksize, ustktop, 3)];
         p.segments[..3].copy_from_slice(&segments);
         p.text[..6].copy_from_slice(b"reader");
         p.bss = VirtRange { start: end, end };

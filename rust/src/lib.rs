@@ -15,14 +15,8 @@ mod sys;
 pub const PAGE: usize = 4096;
 /// The most frames that may be lent.
 pub const MAX_FRAMES: usize = 1024;
-/// The first user address that an image may use.
-pub const UTZERO: u64 = 65536;
-/// Where user addresses end, and the stack with them.
-pub const USTKTOP: u64 = 1 << 47;
-/// Bytes of a process's stack.
-pub const USTKSIZE: u64 = 16384;
-/// The highest address that an image or a bss may end at: one guard page lies between it and the stack.
-pub const LIMIT: u64 = USTKTOP - USTKSIZE - 4096;
+/// The most bytes of a process's stack.
+pub const MAX_STACK: u64 = 65536;
 
 /// The permissions of segments and pages: text may be read and executed,
 pub const TEXT: u64 = 1;
@@ -51,12 +45,57 @@ pub mod number {
     pub const EBADARG: u64 = 32;
     /// Arguments over the limit; a break that can't be; too few frames.
     pub const ENOVMEM: u64 = 33;
-    /// A break above [`LIMIT`](super::LIMIT).
+    /// A break above [`Setup::limit`](super::Setup::limit).
     pub const ESOVERLAP: u64 = 34;
     /// A bad address: a range, or a push below address 0.
     pub const EFAULT: u64 = 35;
     /// A top of stack that isn't a multiple of 16.
     pub const TOP: u64 = 36;
+    /// Lines of the machine's numbers that are not as described.
+    pub const SETUP_LINES: u64 = 37;
+    /// The machine's numbers break a condition.
+    pub const SETUP: u64 = 38;
+}
+
+/// The machine's numbers: where user text may begin, the top and the size of the user stack, and the end of the user address space. A
+/// call refuses numbers that break a condition (`include/holthrimi.h`) with 38.
+#[repr(C)]
+#[derive(Clone, Copy, Debug, PartialEq, Eq)]
+pub struct Setup {
+    pub utzero: u64,
+    pub ustktop: u64,
+    pub ustksize: u64,
+    pub uaddrtop: u64,
+}
+
+impl Setup {
+    /// The deposit machine's.
+    pub const DEPOSIT: Setup = Setup { utzero: 65536, ustktop: 1 << 47, ustksize: 16384, uaddrtop: 1 << 47 };
+
+    /// The highest address that an image or a bss may end at: one guard page lies between it and the stack.
+    pub const fn limit(self) -> u64 {
+        self.ustktop.saturating_sub(self.ustksize).saturating_sub(4096)
+    }
+
+    /// What arguments may take of the stack, a quarter of it.
+    pub const fn arg_limit(self) -> u64 {
+        self.ustksize / 4
+    }
+
+    /// The numbers that four lines give, `UTZERO=65536` and so on; refused with 37 for bytes that are not as described, then with 38.
+    pub fn read(lines: &[u8]) -> Result<Setup> {
+        let r = unsafe { sys::holthrimi_read_setup(lines.as_ptr(), lines.len()) };
+        match r.number {
+            0 => Ok(r.setup),
+            number => Err(Refusal::Refused(number)),
+        }
+    }
+
+    /// Its four lines, put into a buffer that has room for the longest.
+    pub fn lines(self, out: &mut [u8; 117]) -> &[u8] {
+        let n = unsafe { sys::holthrimi_write_setup(self, out.as_mut_ptr(), out.len()) };
+        &out[..n]
+    }
 }
 
 /// A range of user addresses, from `start` up to, but not including, `end`.
@@ -139,8 +178,10 @@ fn told(answer: sys::Answer) -> Result<sys::Answer> {
     }
 }
 
-/// What is lent to every call. Frame bytes are 4,096 for each word of the book, 1 to 1,024 words; book and records are zero at first.
+/// What is lent to every call, with the machine's numbers, which are the same throughout. Frame bytes are 4,096 for each word of the
+/// book, 1 to 1,024 words; book and records are zero at first.
 pub struct Lent<'a> {
+    pub setup: Setup,
     pub frames: &'a mut [u8],
     pub book: &'a mut [u64],
     pub procs: &'a mut Procs,
@@ -149,14 +190,14 @@ pub struct Lent<'a> {
 /// The first arguments of a call, taken apart.
 macro_rules! lent {
     ($s:expr) => {
-        ($s.frames.as_mut_ptr(), $s.frames.len(), $s.book.as_mut_ptr(), $s.book.len(), &mut *$s.procs)
+        ($s.setup, $s.frames.as_mut_ptr(), $s.frames.len(), $s.book.as_mut_ptr(), $s.book.len(), &mut *$s.procs)
     };
 }
 
 /// The same of a call that changes none of them.
 macro_rules! looked {
     ($s:expr) => {
-        ($s.frames.as_ptr(), $s.frames.len(), $s.book.as_ptr(), $s.book.len(), &*$s.procs)
+        ($s.setup, $s.frames.as_ptr(), $s.frames.len(), $s.book.as_ptr(), $s.book.len(), &*$s.procs)
     };
 }
 
@@ -164,12 +205,13 @@ macro_rules! looked {
 // length: not null, aligned, and alone where it is `&mut`. The library's contracts ask nothing else.
 impl Lent<'_> {
     /// Starts process `number`, which must not live, from an ELF image. Its arguments are `bytes` cut by `lengths`.
-    /// Refused with 1, 2, 3, 5, 32, 33 (arguments), 30, 31 or 33 (frames), in this order.
+    /// Refused with 1, 38, 2, 3, 5, 32, 33 (arguments), 30, 31 or 33 (frames), in this order.
     pub fn start(&mut self, number: u64, image: &[u8], name: &[u8], bytes: &[u8], lengths: &[u64]) -> Result<UserRegs> {
-        let (f, fl, b, bl, p) = lent!(self);
+        let (u, f, fl, b, bl, p) = lent!(self);
         let (i, n, a, l) = (image, name, bytes, lengths);
         told(unsafe {
             sys::holthrimi_start(
+                u,
                 f,
                 fl,
                 b,
@@ -190,73 +232,73 @@ impl Lent<'_> {
     }
 
     /// Replaces a process's program; `argv` is the user address of its array of pointers to arguments.
-    /// Refused with 1 to 4, 30, 31, 33 (arguments); ended with 35, or with 33 if own and free frames don't suffice.
+    /// Refused with 1, 38, 2 to 4, 30, 31, 33 (arguments); ended with 35, or with 33 if own and free frames don't suffice.
     pub fn replace(&mut self, number: u64, image: &[u8], name: &[u8], argv: u64) -> Result<UserRegs> {
-        let (f, fl, b, bl, p) = lent!(self);
+        let (u, f, fl, b, bl, p) = lent!(self);
         told(unsafe {
-            sys::holthrimi_replace(f, fl, b, bl, p, number, image.as_ptr(), image.len(), name.as_ptr(), name.len(), argv)
+            sys::holthrimi_replace(u, f, fl, b, bl, p, number, image.as_ptr(), image.len(), name.as_ptr(), name.len(), argv)
         })
         .map(|t| t.regs)
     }
 
-    /// Pushes arguments onto a process's stack: their strings end at `top`, their pointers and a null lie below. Refused with 1 to 4,
+    /// Pushes arguments onto a process's stack: their strings end at `top`, their pointers and a null lie below. Refused with 1, 38, 2 to 4,
     /// 36, 32, 33; ended with 35.
     pub fn push(&mut self, number: u64, pc: u64, top: u64, bytes: &[u8], lengths: &[u64]) -> Result<UserRegs> {
-        let (f, fl, b, bl, p) = lent!(self);
+        let (u, f, fl, b, bl, p) = lent!(self);
         let (a, l) = (bytes, lengths);
-        told(unsafe { sys::holthrimi_push(f, fl, b, bl, p, number, pc, top, a.as_ptr(), a.len(), l.as_ptr(), l.len()) })
+        told(unsafe { sys::holthrimi_push(u, f, fl, b, bl, p, number, pc, top, a.as_ptr(), a.len(), l.as_ptr(), l.len()) })
             .map(|t| t.regs)
     }
 
     /// Moves the end of a process's bss to `addr`, rounded up to a page. Address 0 changes nothing and gives the bss's start.
-    /// Refused with 1 to 4, 33, 34.
+    /// Refused with 1, 38, 2 to 4, 33, 34.
     pub fn brk(&mut self, number: u64, addr: u64) -> Result<u64> {
-        let (f, fl, b, bl, p) = lent!(self);
-        told(unsafe { sys::holthrimi_break(f, fl, b, bl, p, number, addr) }).map(|t| t.value)
+        let (u, f, fl, b, bl, p) = lent!(self);
+        told(unsafe { sys::holthrimi_break(u, f, fl, b, bl, p, number, addr) }).map(|t| t.value)
     }
 
-    /// Forks a process as `child`, which must not live. Refused with 1 to 5, 33.
+    /// Forks a process as `child`, which must not live. Refused with 1, 38, 2 to 5, 33.
     pub fn fork(&mut self, number: u64, child: u64) -> Result<()> {
-        let (f, fl, b, bl, p) = lent!(self);
-        told(unsafe { sys::holthrimi_fork(f, fl, b, bl, p, number, child) }).map(|_| ())
+        let (u, f, fl, b, bl, p) = lent!(self);
+        told(unsafe { sys::holthrimi_fork(u, f, fl, b, bl, p, number, child) }).map(|_| ())
     }
 
-    /// Ends a process: its frames are free and keep their bytes. Refused with 1 to 4.
+    /// Ends a process: its frames are free and keep their bytes. Refused with 1, 38, 2 to 4.
     pub fn end(&mut self, number: u64) -> Result<()> {
-        let (f, fl, b, bl, p) = lent!(self);
-        told(unsafe { sys::holthrimi_end(f, fl, b, bl, p, number) }).map(|_| ())
+        let (u, f, fl, b, bl, p) = lent!(self);
+        told(unsafe { sys::holthrimi_end(u, f, fl, b, bl, p, number) }).map(|_| ())
     }
 
-    /// Whether a process may read, or write, `len` bytes from `addr` on. Refused with 1 to 4.
+    /// Whether a process may read, or write, `len` bytes from `addr` on. Refused with 1, 38, 2 to 4.
     pub fn user_range_ok(&self, number: u64, addr: u64, len: u64, write: bool) -> Result<bool> {
-        let (f, fl, b, bl, p) = looked!(self);
-        told(unsafe { sys::holthrimi_user_range_ok(f, fl, b, bl, p, number, addr, len, write) }).map(|t| t.value == 1)
+        let (u, f, fl, b, bl, p) = looked!(self);
+        told(unsafe { sys::holthrimi_user_range_ok(u, f, fl, b, bl, p, number, addr, len, write) }).map(|t| t.value == 1)
     }
 
-    /// Copies bytes of a process from `src` on into the whole of `dst`. Refused with 1 to 4; ended with 35, and no byte copied.
+    /// Copies bytes of a process from `src` on into the whole of `dst`. Refused with 1, 38, 2 to 4; ended with 35, and no byte copied.
     pub fn copy_from_user(&mut self, number: u64, dst: &mut [u8], src: u64) -> Result<()> {
-        let (f, fl, b, bl, p) = lent!(self);
-        told(unsafe { sys::holthrimi_copy_from_user(f, fl, b, bl, p, number, dst.as_mut_ptr(), dst.len(), src) }).map(|_| ())
+        let (u, f, fl, b, bl, p) = lent!(self);
+        told(unsafe { sys::holthrimi_copy_from_user(u, f, fl, b, bl, p, number, dst.as_mut_ptr(), dst.len(), src) }).map(|_| ())
     }
 
-    /// Copies bytes to a process from `dst` on. Refused with 1 to 4; ended with 35, and no byte copied.
+    /// Copies bytes to a process from `dst` on. Refused with 1, 38, 2 to 4; ended with 35, and no byte copied.
     pub fn copy_to_user(&mut self, number: u64, dst: u64, bytes: &[u8]) -> Result<()> {
-        let (f, fl, b, bl, p) = lent!(self);
-        told(unsafe { sys::holthrimi_copy_to_user(f, fl, b, bl, p, number, dst, bytes.as_ptr(), bytes.len()) }).map(|_| ())
+        let (u, f, fl, b, bl, p) = lent!(self);
+        told(unsafe { sys::holthrimi_copy_to_user(u, f, fl, b, bl, p, number, dst, bytes.as_ptr(), bytes.len()) }).map(|_| ())
     }
 
     /// Copies a string of a process into `dst` up to its NUL, which isn't stored, and gives its length, or that of `dst`. Refused with
-    /// 1 to 4, or with 35 at a bad page: the bytes before it stay copied, and the process lives.
+    /// 1, 38, 2 to 4, or with 35 at a bad page: the bytes before it stay copied, and the process lives.
     pub fn try_copy_str_from_user(&self, number: u64, dst: &mut [u8], src: u64) -> Result<usize> {
-        let (f, fl, b, bl, p) = looked!(self);
-        told(unsafe { sys::holthrimi_try_copy_str_from_user(f, fl, b, bl, p, number, dst.as_mut_ptr(), dst.len(), src) })
+        let (u, f, fl, b, bl, p) = looked!(self);
+        told(unsafe { sys::holthrimi_try_copy_str_from_user(u, f, fl, b, bl, p, number, dst.as_mut_ptr(), dst.len(), src) })
             .map(|t| t.value as usize)
     }
 
-    /// Whether frames, book and records are such that calls go on: refused with 1 or 2.
+    /// Whether frames, book and records are such that calls go on: refused with 1, 38 or 2.
     pub fn check(&self) -> Result<()> {
-        let (f, fl, b, bl, p) = looked!(self);
-        match unsafe { sys::holthrimi_check(f, fl, b, bl, p) } {
+        let (u, f, fl, b, bl, p) = looked!(self);
+        match unsafe { sys::holthrimi_check(u, f, fl, b, bl, p) } {
             0 => Ok(()),
             number => Err(Refusal::Refused(number)),
         }
@@ -274,9 +316,9 @@ pub struct Plan {
     pub pages: u64,
 }
 
-/// The plan of an image; refused with 30 or 31.
-pub fn plan(image: &[u8]) -> Result<Plan> {
-    let p = unsafe { sys::holthrimi_plan(image.as_ptr(), image.len()) };
+/// The plan of an image; refused with 38, 30 or 31.
+pub fn plan(setup: Setup, image: &[u8]) -> Result<Plan> {
+    let p = unsafe { sys::holthrimi_plan(setup, image.as_ptr(), image.len()) };
     if p.number != 0 {
         return Err(Refusal::Refused(p.number));
     }
@@ -292,10 +334,10 @@ pub fn parse(image: &[u8]) -> Result<()> {
 }
 
 /// The break's rule by itself, over an optional bss with any numbers in it and a count of free frames: its value, and the bss
-/// afterwards; refused with 32, 33 or 34.
-pub fn ibrk(bss: Option<VirtRange>, addr: u64, free: u64) -> Result<(u64, VirtRange)> {
+/// afterwards; refused with 38, 32, 33 or 34.
+pub fn ibrk(setup: Setup, bss: Option<VirtRange>, addr: u64, free: u64) -> Result<(u64, VirtRange)> {
     let r = bss.unwrap_or_default();
-    let b = unsafe { sys::holthrimi_ibrk(bss.is_some(), r.start, r.end, addr, free) };
+    let b = unsafe { sys::holthrimi_ibrk(setup, bss.is_some(), r.start, r.end, addr, free) };
     match b.error {
         0 => Ok((b.value, b.bss)),
         number => Err(Refusal::Refused(number)),
@@ -307,9 +349,9 @@ pub fn stack_size(strings: u64, nargs: u64) -> u64 {
     unsafe { sys::holthrimi_stack_size(strings, nargs) }
 }
 
-/// Whether arguments can be pushed; refused with 1, 32 or 33.
-pub fn check_args(bytes: &[u8], lengths: &[u64]) -> Result<()> {
-    match unsafe { sys::holthrimi_args_error(bytes.as_ptr(), bytes.len(), lengths.as_ptr(), lengths.len()) } {
+/// Whether arguments can be pushed; refused with 1, 38, 32 or 33.
+pub fn check_args(setup: Setup, bytes: &[u8], lengths: &[u64]) -> Result<()> {
+    match unsafe { sys::holthrimi_args_error(setup, bytes.as_ptr(), bytes.len(), lengths.as_ptr(), lengths.len()) } {
         0 => Ok(()),
         number => Err(Refusal::Refused(number)),
     }

@@ -1,6 +1,6 @@
 // The static library's functions, as include/holthrimi.h has them.
 
-use crate::{Procs, UserRegs, UserSegment, VirtRange};
+use crate::{Procs, Setup, UserRegs, UserSegment, VirtRange};
 
 #[repr(C)]
 pub struct Answer {
@@ -28,30 +28,38 @@ pub struct Rule {
     pub bss: VirtRange,
 }
 
+#[repr(C)]
+pub struct SetupRead {
+    pub number: u64,
+    pub setup: Setup,
+}
+
 #[rustfmt::skip]
 extern "C" {
-    pub fn holthrimi_start(f: *mut u8, fl: usize, b: *mut u64, bl: usize, p: *mut Procs, number: u64, image: *const u8, image_len: usize,
+    pub fn holthrimi_start(u: Setup, f: *mut u8, fl: usize, b: *mut u64, bl: usize, p: *mut Procs, number: u64, image: *const u8, image_len: usize,
         name: *const u8, name_len: usize, bytes: *const u8, bytes_len: usize, lengths: *const u64, lengths_len: usize) -> Answer;
-    pub fn holthrimi_replace(f: *mut u8, fl: usize, b: *mut u64, bl: usize, p: *mut Procs, number: u64, image: *const u8, image_len: usize,
+    pub fn holthrimi_replace(u: Setup, f: *mut u8, fl: usize, b: *mut u64, bl: usize, p: *mut Procs, number: u64, image: *const u8, image_len: usize,
         name: *const u8, name_len: usize, argv: u64) -> Answer;
-    pub fn holthrimi_push(f: *mut u8, fl: usize, b: *mut u64, bl: usize, p: *mut Procs, number: u64, pc: u64, top: u64, bytes: *const u8,
+    pub fn holthrimi_push(u: Setup, f: *mut u8, fl: usize, b: *mut u64, bl: usize, p: *mut Procs, number: u64, pc: u64, top: u64, bytes: *const u8,
         bytes_len: usize, lengths: *const u64, lengths_len: usize) -> Answer;
-    pub fn holthrimi_break(f: *mut u8, fl: usize, b: *mut u64, bl: usize, p: *mut Procs, number: u64, addr: u64) -> Answer;
-    pub fn holthrimi_fork(f: *mut u8, fl: usize, b: *mut u64, bl: usize, p: *mut Procs, number: u64, child: u64) -> Answer;
-    pub fn holthrimi_end(f: *mut u8, fl: usize, b: *mut u64, bl: usize, p: *mut Procs, number: u64) -> Answer;
-    pub fn holthrimi_user_range_ok(f: *const u8, fl: usize, b: *const u64, bl: usize, p: *const Procs, number: u64, addr: u64, len: u64,
+    pub fn holthrimi_break(u: Setup, f: *mut u8, fl: usize, b: *mut u64, bl: usize, p: *mut Procs, number: u64, addr: u64) -> Answer;
+    pub fn holthrimi_fork(u: Setup, f: *mut u8, fl: usize, b: *mut u64, bl: usize, p: *mut Procs, number: u64, child: u64) -> Answer;
+    pub fn holthrimi_end(u: Setup, f: *mut u8, fl: usize, b: *mut u64, bl: usize, p: *mut Procs, number: u64) -> Answer;
+    pub fn holthrimi_user_range_ok(u: Setup, f: *const u8, fl: usize, b: *const u64, bl: usize, p: *const Procs, number: u64, addr: u64, len: u64,
         write: bool) -> Answer;
-    pub fn holthrimi_copy_from_user(f: *mut u8, fl: usize, b: *mut u64, bl: usize, p: *mut Procs, number: u64, dst: *mut u8,
+    pub fn holthrimi_copy_from_user(u: Setup, f: *mut u8, fl: usize, b: *mut u64, bl: usize, p: *mut Procs, number: u64, dst: *mut u8,
         dst_len: usize, src: u64) -> Answer;
-    pub fn holthrimi_copy_to_user(f: *mut u8, fl: usize, b: *mut u64, bl: usize, p: *mut Procs, number: u64, dst: u64, bytes: *const u8,
+    pub fn holthrimi_copy_to_user(u: Setup, f: *mut u8, fl: usize, b: *mut u64, bl: usize, p: *mut Procs, number: u64, dst: u64, bytes: *const u8,
         bytes_len: usize) -> Answer;
-    pub fn holthrimi_try_copy_str_from_user(f: *const u8, fl: usize, b: *const u64, bl: usize, p: *const Procs, number: u64, dst: *mut u8,
+    pub fn holthrimi_try_copy_str_from_user(u: Setup, f: *const u8, fl: usize, b: *const u64, bl: usize, p: *const Procs, number: u64, dst: *mut u8,
         dst_len: usize, src: u64) -> Answer;
-    pub fn holthrimi_check(f: *const u8, fl: usize, b: *const u64, bl: usize, p: *const Procs) -> u64;
+    pub fn holthrimi_check(u: Setup, f: *const u8, fl: usize, b: *const u64, bl: usize, p: *const Procs) -> u64;
     pub fn holthrimi_parse(image: *const u8, image_len: usize) -> u64;
-    pub fn holthrimi_plan(image: *const u8, image_len: usize) -> Planned;
-    pub fn holthrimi_ibrk(set: bool, start: u64, end: u64, addr: u64, free: u64) -> Rule;
+    pub fn holthrimi_plan(u: Setup, image: *const u8, image_len: usize) -> Planned;
+    pub fn holthrimi_ibrk(u: Setup, set: bool, start: u64, end: u64, addr: u64, free: u64) -> Rule;
+    pub fn holthrimi_read_setup(bytes: *const u8, bytes_len: usize) -> SetupRead;
+    pub fn holthrimi_write_setup(u: Setup, out: *mut u8, out_len: usize) -> usize;
     pub fn holthrimi_stack_size(strings: u64, nargs: u64) -> u64;
-    pub fn holthrimi_args_error(bytes: *const u8, bytes_len: usize, lengths: *const u64, lengths_len: usize) -> u64;
+    pub fn holthrimi_args_error(u: Setup, bytes: *const u8, bytes_len: usize, lengths: *const u64, lengths_len: usize) -> u64;
     pub fn holthrimi_kstrcpy(dst: *mut [u8; 28], src: *const u8, src_len: usize);
 }

@@ -1,5 +1,6 @@
-// The recorded scripts of tests/replay, whose answers are the published Rust's, run through the library: every answer, and by `sum` every
-// record, book word and frame byte. How a script is read and answered is the oracle's code; the calls here are the library's.
+// The recorded scripts of tests/replay, whose answers are the published Rust's, or under other machine numbers than document 01's those of
+// tests/compare/model.py, run through the library: every answer, and by `sum` every record, book word and frame byte. How a script is read
+// and answered is the oracle's code; the calls here are the library's.
 
 #[allow(dead_code)] // An answer `assert` is the Rust's alone.
 #[path = "../../tests/oracle/src/script.rs"]
@@ -7,11 +8,12 @@ mod script;
 #[path = "../../tests/oracle/src/text.rs"]
 mod text;
 
-use holthrimi::{Lent, Procs, Refusal, UserRegs, VirtRange, PAGE};
+use holthrimi::{Lent, Procs, Refusal, Setup, UserRegs, VirtRange, PAGE};
 use script::{same_list, within, Answer, Calls, Record, Regs, Stop};
 use std::fs;
 
 struct World {
+    setup: Setup,
     frames: Vec<u8>,
     book: Vec<u64>,
     procs: Procs,
@@ -21,7 +23,12 @@ struct World {
 
 impl World {
     fn lent(&mut self) -> Lent<'_> {
-        Lent { frames: &mut self.frames[..self.bytes], book: &mut self.book[..self.words], procs: &mut self.procs }
+        Lent {
+            setup: self.setup,
+            frames: &mut self.frames[..self.bytes],
+            book: &mut self.book[..self.words],
+            procs: &mut self.procs,
+        }
     }
 }
 
@@ -43,7 +50,7 @@ fn lengths(args: &[&[u8]]) -> Vec<u64> {
 impl Calls for World {
     fn new(count: usize, fill: u8) -> Self {
         let (bytes, words) = (count * PAGE, count);
-        World { frames: vec![fill; bytes], book: vec![0; words], procs: Procs::default(), bytes, words }
+        World { setup: Setup::DEPOSIT, frames: vec![fill; bytes], book: vec![0; words], procs: Procs::default(), bytes, words }
     }
     fn frames(&self) -> &[u8] {
         &self.frames
@@ -58,6 +65,13 @@ impl Calls for World {
     }
     fn lend(&mut self, bytes: usize, words: usize) {
         (self.bytes, self.words) = (bytes, words);
+    }
+    fn numbers(&mut self, [utzero, ustktop, ustksize, uaddrtop]: [u64; 4]) -> Option<Answer<()>> {
+        self.setup = Setup { utzero, ustktop, ustksize, uaddrtop };
+        Some(Ok(()))
+    }
+    fn numbers_of(&mut self, lines: &[u8]) -> Option<Answer<()>> {
+        Some(told(Setup::read(lines)).map(|setup| self.setup = setup))
     }
     fn start(&mut self, n: u64, name: &[u8], image: &[u8], args: &[&[u8]]) -> Answer<Regs> {
         told(self.lent().start(n, image, name, &args.concat(), &lengths(args))).map(regs)
@@ -98,9 +112,9 @@ impl Calls for World {
             r => told(r.map(Some)),
         }
     }
-    fn rule(bss: Option<[u64; 2]>, free: u64, addr: u64) -> Answer<(u64, [u64; 2])> {
+    fn rule(&self, bss: Option<[u64; 2]>, free: u64, addr: u64) -> Answer<(u64, [u64; 2])> {
         let bss = bss.map(|[start, end]| VirtRange { start, end });
-        told(holthrimi::ibrk(bss, addr, free)).map(|(value, bss)| (value, [bss.start, bss.end]))
+        told(holthrimi::ibrk(self.setup, bss, addr, free)).map(|(value, bss)| (value, [bss.start, bss.end]))
     }
     fn name(name: &[u8]) -> Answer<[u8; 28]> {
         Ok(holthrimi::kstrcpy(name))

@@ -1,17 +1,20 @@
 #!/usr/bin/env python3
 """Runs the same scripts through two commands and reports the first difference.
 
-    compare.py random SEED COUNT A B [--small]   COUNT random calls, in histories of 40
-    compare.py directed A B [FILE ..]            the directed scripts of tests/replay, or the files named
-    compare.py images SEED COUNT A B             the listing: every one-byte change and every prefix of the
-                                                 184-byte image, the images of tests/replay/images.txt, and
-                                                 COUNT random images
-    compare.py write SEED COUNT [--small]        the random script on standard output
+    compare.py random SEED COUNT A B [--small] [--sets]   COUNT random calls, in histories of 40
+    compare.py directed A B [--sets] [FILE ..]            the directed scripts of tests/replay, or the files named
+    compare.py images SEED COUNT A B                      the listing: every one-byte change and every prefix of the
+                                                          184-byte image, the images of tests/replay/images.txt, and
+                                                          COUNT random images
+    compare.py write SEED COUNT [--small] [--sets]        the random script on standard output
 
 A and B are commands, each in one word, that read a script on standard input and
 write an answer for each line: `target/oracle/release/oracle`, `target/bin/replay`,
 `tests/compare/model.py`. For images they read one image; a command that ends in
 ` lists` reads an image a line instead. They run in the repository's root.
+
+--sets: other sets of the machine's numbers too, three histories of four and all directed scripts. The
+oracle has document 01's numbers alone, so it is compared without.
 """
 import os
 import random
@@ -27,7 +30,9 @@ REPLAY = os.path.join(ROOT, 'tests', 'replay')
 sys.path.insert(0, HERE)
 from elf import change  # noqa: E402
 from histories import History  # noqa: E402
+from papers.setup import DEPOSIT, read  # noqa: E402
 from random_images import EXAMPLE, any_image, random_image  # noqa: E402
+from random_sets import random_set  # noqa: E402
 from script import bytes_of, shown  # noqa: E402
 
 CALLS_A_HISTORY = 40
@@ -118,11 +123,17 @@ def report(lines, a, b, where, first):
     print('a script of %d lines that differs: %s' % (len(small), file))
 
 
+def handed(line):
+    """The set that an accepted line `numbers` hands over."""
+    words = line.split(b' ')[1:]
+    return tuple(map(int, words)) if len(words) == 4 else tuple(read(bytes_of(*words)))
+
+
 class Count:
     """What was called and answered."""
 
     def __init__(self):
-        self.calls, self.kinds, self.sums = Counter(), Counter(), 0
+        self.calls, self.kinds, self.sums, self.sets = Counter(), Counter(), 0, set()
 
     def add(self, lines, got):
         for line, answer in zip(asked(lines), got):
@@ -136,24 +147,29 @@ class Count:
                 self.kinds[kind] += 1
             elif name == 'sum':
                 self.sums += 1
+            elif name == 'numbers' and answer == b'ok':
+                self.sets.add(handed(line))
 
     def show(self, what, seconds):
         made = sum(self.calls.values())
-        print('%s: no difference in %d calls and %d sums, %.0f s' % (what, made, self.sums, seconds))
+        sets = ' under %d other sets' % len(self.sets) if self.sets else ''
+        print('%s: no difference in %d calls and %d sums%s, %.0f s' % (what, made, self.sums, sets, seconds))
         print('  calls: ' + ', '.join('%s %d' % (n, self.calls[n]) for n in COUNTED if self.calls[n]))
         order = sorted(self.kinds, key=lambda k: (k.split()[0], int(k.split()[1]) if ' ' in k else 0))
         print('  answers: ' + ', '.join('%s: %d' % (k, self.kinds[k]) for k in order))
 
 
-def history(seed, k, small):
-    return History(random.Random('%s/%d' % (seed, k)), CALLS_A_HISTORY, small).lines
+def history(seed, k, small, sets):
+    r = random.Random('%s/%d' % (seed, k))
+    setup = random_set(r) if sets and r.random() < 0.75 else DEPOSIT
+    return History(r, CALLS_A_HISTORY, small, setup).lines
 
 
-def compare_random(seed, count, a, b, small, explain=True):
+def compare_random(seed, count, a, b, small, sets=False, explain=True):
     begin, total = time.time(), Count()
     k = 0
     while sum(total.calls.values()) < count:
-        many = [history(seed, k + i, small) for i in range(HISTORIES_A_RUN)]
+        many = [history(seed, k + i, small, sets) for i in range(HISTORIES_A_RUN)]
         lines = [line for h in many for line in h]
         x, y, at = difference(lines, a, b)
         if at is not None and not explain:
@@ -172,19 +188,25 @@ def compare_random(seed, count, a, b, small, explain=True):
     return True
 
 
-def directed_scripts():
-    """The scripts that directed.py writes: all of tests/replay but the recorded random histories."""
+def script_lines(file):
+    with open(file, 'rb') as f:
+        return f.read().split(b'\n')
+
+
+def directed_scripts(sets):
+    """The scripts that directed.py writes: all of tests/replay but the recorded random histories. Without `sets`, those without a
+    line `numbers`."""
     names = sorted(n for n in os.listdir(REPLAY) if n.endswith('.txt') and not n.startswith('random-'))
-    return [os.path.join(REPLAY, n) for n in names]
+    files = [os.path.join(REPLAY, n) for n in names]
+    return [f for f in files if sets or not any(line.startswith(b'numbers') for line in script_lines(f))]
 
 
-def compare_directed(a, b, files, explain=True):
+def compare_directed(a, b, files, sets=False, explain=True):
     begin, total = time.time(), Count()
-    files = files or directed_scripts()
+    files = files or directed_scripts(sets)
     fine = True
     for file in files:
-        with open(file, 'rb') as f:
-            lines = f.read().split(b'\n')
+        lines = script_lines(file)
         x, y, at = difference(lines, a, b)
         if at is not None and not explain:
             return False
@@ -236,18 +258,18 @@ def compare_images(seed, count, a, b):
 
 
 def main(argv):
-    small = '--small' in argv
-    argv = [a for a in argv if a != '--small']
+    small, sets = '--small' in argv, '--sets' in argv
+    argv = [a for a in argv if a not in ('--small', '--sets')]
     if len(argv) == 5 and argv[0] == 'random':
-        return compare_random(argv[1], int(argv[2]), argv[3], argv[4], small)
+        return compare_random(argv[1], int(argv[2]), argv[3], argv[4], small, sets)
     if len(argv) >= 3 and argv[0] == 'directed':
-        return compare_directed(argv[1], argv[2], argv[3:])
+        return compare_directed(argv[1], argv[2], argv[3:], sets)
     if len(argv) == 5 and argv[0] == 'images':
         return compare_images(argv[1], int(argv[2]), argv[3], argv[4])
     if len(argv) == 3 and argv[0] == 'write':
         made, k = 0, 0
         while made < int(argv[2]):
-            lines = history(argv[1], k, small)
+            lines = history(argv[1], k, small, sets)
             sys.stdout.buffer.write(b'\n'.join(lines) + b'\n')
             made += sum(line.split(b' ')[0].decode() in COUNTED for line in lines)
             k += 1

@@ -1,5 +1,6 @@
 #!/usr/bin/env python3
-"""Writes the directed scripts, tests/replay/NAME.txt (boundaries/), and example.elf, which one of them reads.
+"""Writes the directed scripts, tests/replay/NAME.txt (boundaries/), and the files that two of them read, example.elf
+and school.numbers.
 
     directed.py            writes them
     directed.py --check    says whether they are as it would write them
@@ -7,17 +8,19 @@
 import os
 import sys
 
-from boundaries import access, brk, fork, form, frames, images, numbers, push, replace, start
+from boundaries import access, brk, fork, form, frames, images, numbers, push, replace, sets, start, texts
+from papers.setup import written
 from random_images import EXAMPLE
 
 HERE = os.path.dirname(os.path.abspath(__file__))
 REPLAY = os.path.join(os.path.dirname(HERE), 'replay')
-SCRIPTS = [images.images, start.examples, start.args, push.push, brk.brk, frames.frames, access.access, access.strings, replace.replace,
-           start.names, fork.fork, numbers.numbers, frames.sizes, brk.rule, frames.history, form.form, form.files]
+SCRIPTS = [images.images, start.examples, start.args, push.push, brk.brk, frames.frames, access.access, access.strings,
+           replace.replace, start.names, fork.fork, numbers.numbers, frames.sizes, brk.rule, frames.history, form.form, form.files,
+           sets.sets, texts.texts]
 
 
 def main(argv):
-    files = {os.path.join(HERE, 'example.elf'): EXAMPLE}
+    files = {os.path.join(HERE, 'example.elf'): EXAMPLE, os.path.join(HERE, 'school.numbers'): written(texts.SCHOOL)}
     for script in SCRIPTS:
         out = script()
         files[os.path.join(REPLAY, out.name + '.txt')] = out.content().encode()

@@ -1,6 +1,8 @@
 """ELF images, made field by field. Values are cut to their fields."""
 import struct
 
+from papers.setup import DEPOSIT
+
 TEXT, RODATA, DATA = 5, 4, 6      # flags
 
 
@@ -16,9 +18,10 @@ def program(flags, offset, address, file, memory, type=1, align=4096):
     return struct.pack('<II6Q', type, flags, *words)
 
 
-def example(code, data):
-    """Document 01's 184-byte image: four bytes of code and four of data follow its headers."""
-    return header(65712, 2) + program(TEXT, 0, 65536, 180, 180) + program(DATA, 180, 69812, 4, 8000) + code + data
+def example(code, data, base=DEPOSIT.utzero):
+    """Document 01's 184-byte image, linked at `base`: four bytes of code and four of data follow its headers."""
+    heads = program(TEXT, 0, base, 180, 180) + program(DATA, 180, base + 4276, 4, 8000)
+    return header(base + 176, 2) + heads + code + data
 
 
 def field(image, at, width):

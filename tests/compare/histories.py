@@ -1,19 +1,35 @@
 """Random histories of calls, from a generator of random numbers.
 
 A history is a list of script lines. The model runs along while it is made, only to know which processes live and where their
-segments lie, so that addresses are apt; no answer of the model goes into a history.
+segments lie, so that addresses are apt; no answer of the model goes into a history. A history may be under another set of the
+machine's numbers than document 01's; the oracle has none of these.
 """
 import struct
 
-from document01.layout import stack_size
-from document01.machine import ARG_LIMIT, DATA, LIMIT, MAX, PAGE, STACK, USTKTOP, UTZERO, down, up
-from document01.names import elem
-from random_images import EXAMPLE, any_image, random_image
+from papers.layout import stack_size
+from papers.machine import DATA, MAX, PAGE, down, up
+from papers.names import elem
+from papers.setup import DEPOSIT, written
+from random_images import any_image, example_at, random_image
+from random_sets import near_set, random_set
 from script import Script, shown
 
-CONSTANTS = [0, 1, 8, 16, PAGE - 1, PAGE, UTZERO - 1, UTZERO, LIMIT - PAGE, LIMIT - 1, LIMIT, LIMIT + 1, STACK[0] - 1,
-             STACK[0], USTKTOP - 8, USTKTOP - 1, USTKTOP, USTKTOP + 1, 2**63, MAX - PAGE, MAX - PAGE + 1,
-             MAX - PAGE + 2, MAX - 7, MAX]
+
+def constants(setup):
+    """Addresses that mean something under a set, each once."""
+    utzero, top, _, end = setup
+    limit, low = setup.limit, setup.low
+    return list(dict.fromkeys([
+        0, 1, 8, 16, PAGE - 1, PAGE, utzero - 1, utzero, limit - PAGE, limit - 1, limit, limit + 1, low - 1, low, top - 8, top - 1,
+        top, top + 1, 2**63, MAX - PAGE, MAX - PAGE + 1, MAX - PAGE + 2, MAX - 7, MAX, end - 1, end, end + 1]))
+
+
+def most_empty(setup):
+    """How many empty arguments a start takes at most."""
+    count = 0
+    while stack_size(count + 1, count + 1) <= setup.arg_limit:
+        count += 1
+    return count
 
 
 def full_parts(record):
@@ -21,10 +37,12 @@ def full_parts(record):
 
 
 class History:
-    """`small` keeps images, answers and frames short, for recorded samples."""
+    """`small` keeps images, answers and frames short, for recorded samples. The calls are under `setup`."""
 
-    def __init__(self, r, calls, small=False):
-        self.r, self.small = r, small
+    def __init__(self, r, calls, small=False, setup=DEPOSIT):
+        self.r, self.small, self.setup = r, small, setup
+        self.constants = constants(setup)
+        self.steps = self.STEPS + ([] if setup == DEPOSIT else [(History.other_numbers, 3)])
         self.model = Script()
         self.lines = []
         n = r.choice([r.randint(7, 40), r.randint(14, 40), r.randint(20, 60), r.randint(41, 120)])
@@ -34,7 +52,11 @@ class History:
             n = r.choice([r.randint(8, 14), r.randint(15, 24)])
         elif r.random() < 0.02:
             n = r.choice([0, 1024, 1025])
+        if n <= 120:
+            n = max(n + (setup.ustksize - DEPOSIT.ustksize) // PAGE, 0)
         self.emit('frames %d %d' % (n, r.choice([0, 1, 255, r.randrange(256)])))
+        if setup != DEPOSIT:
+            self.numbers(setup)
         self.sums = 1 if n <= 40 else 0.2
         if small:
             self.sums = 0.25
@@ -61,6 +83,11 @@ class History:
         if self.r.random() < self.sums:
             self.emit('sum')
         return answer
+
+    def numbers(self, setup):
+        """Hand a set over, as it is or as the lines of a file."""
+        as_lines = setup.ok() and self.r.random() < 0.5
+        self.emit('numbers ' + (shown(written(setup)) if as_lines else '%d %d %d %d' % setup))
 
     # What calls are made of
 
@@ -95,7 +122,7 @@ class History:
             page = r.randrange(start, end, PAGE)
             a = page + r.choice([0, 1, 8, r.randrange(PAGE), r.randrange(PAGE), PAGE - 1, PAGE - 8])
         elif way < 0.96:
-            a = r.choice(CONSTANTS)
+            a = r.choice(self.constants)
         else:
             a = r.getrandbits(r.choice([16, 17, 47, 48, 64]))
         return max(0, min(a, MAX))
@@ -108,7 +135,8 @@ class History:
         if not self.small or r.random() < 0.1:
             choices += [PAGE, PAGE + 1, r.randint(0, 5 * PAGE)]
         if most == MAX:
-            choices += [USTKTOP - a, USTKTOP - a + 1, USTKTOP, MAX - a, MAX - a + 1, MAX]
+            top = self.setup.uaddrtop
+            choices += [top - a, top - a + 1, top, MAX - a, MAX - a + 1, MAX]
         elif self.small:
             choices = [c for c in choices if c <= 64] or [1]
         return r.choice([c for c in choices if 0 <= c <= most])
@@ -143,9 +171,10 @@ class History:
             return out
         if way < 0.95:    # around the limit
             out = [b'q' * r.choice([0, 1, 7, r.randint(0, 600)]) for _ in range(r.randint(0, 6))]
-            left = ARG_LIMIT - stack_size(sum(len(a) + 1 for a in out), len(out))
+            left = self.setup.arg_limit - stack_size(sum(len(a) + 1 for a in out), len(out))
             return out + [b'y' * max(left + r.randint(-20, 4), 0)]
-        return [b''] * r.choice([452, 453, 454, 455])
+        most = most_empty(self.setup)
+        return [b''] * r.choice([most - 1, most, most + 1, most + 2])
 
     def size(self):
         if self.small:
@@ -153,7 +182,7 @@ class History:
         return 'big' if self.r.random() < 0.15 else 'plain'
 
     def image(self):
-        return shown(any_image(self.r, self.size()))
+        return shown(any_image(self.r, self.size(), self.setup))
 
     # Calls
 
@@ -161,12 +190,13 @@ class History:
         r = self.r
         if not self.alive() and r.random() < 0.85:
             return self.start(good=r.random() < 0.8)
-        r.choices([f for f, _ in self.STEPS], [k for _, k in self.STEPS])[0](self)
+        r.choices([f for f, _ in self.steps], [k for _, k in self.steps])[0](self)
 
     def start(self, good=False):
         image = self.image()
         if good:
-            image = shown(EXAMPLE if self.r.random() < 0.5 else random_image(self.r, self.size()))
+            image = shown(example_at(self.setup.utzero) if self.r.random() < 0.5
+                          else random_image(self.r, self.size(), self.setup))
         self.call('start', self.new_number(), shown(self.name()), image, *map(shown, self.args()))
 
     def replace(self):
@@ -200,7 +230,7 @@ class History:
             array = array[:-8]
         where = at + len(block) + r.choice([0, 0, 0, 1, 5])
         if r.random() < 0.1:
-            where = end - len(array)
+            where = max(end - len(array), 0)
         for a, b in ((at, block), (where, array)):
             if self.w.records[n] and (start <= a and a + len(b) <= end or r.random() < 0.05):
                 self.call('to', n, a, shown(b))
@@ -208,10 +238,11 @@ class History:
 
     def push(self):
         r, n = self.r, self.number()
-        inside = USTKTOP - 16 * r.randint(0, 700)
-        top = r.choice([USTKTOP, inside, inside, inside, inside, self.address(n) // 16 * 16,
-            self.address(n) // 16 * 16, self.address(n), 16 * r.randint(0, 8), STACK[0] + 16 * r.randint(0, 12)])
-        self.call('push', n, r.choice([0, 65536, r.getrandbits(64)]), top, *map(shown, self.args()))
+        utzero, top, size, _ = self.setup
+        inside = top - 16 * r.randint(0, min(700, size // 16))
+        top = r.choice([top, inside, inside, inside, inside, self.address(n) // 16 * 16,
+            self.address(n) // 16 * 16, self.address(n), 16 * r.randint(0, 8), self.setup.low + 16 * r.randint(0, 12)])
+        self.call('push', n, r.choice([0, utzero, r.getrandbits(64)]), top, *map(shown, self.args()))
 
     def brk(self):
         r, n = self.r, self.number()
@@ -230,10 +261,10 @@ class History:
         words = [n, self.new_number()]
         record = self.record(n)
         if r.random() < 0.25:
-            lent = [list(s) for s in record.segments] if record else [list(STACK)]
+            lent = [list(s) for s in record.segments] if record else [list(self.setup.stack)]
             odd = r.random()
             if odd < 0.3:
-                lent[r.randrange(len(lent))][r.randrange(3)] = r.choice([0, 1, 2, 3, 4, UTZERO, PAGE, MAX])
+                lent[r.randrange(len(lent))][r.randrange(3)] = r.choice([0, 1, 2, 3, 4, self.setup.utzero, PAGE, MAX])
             elif odd < 0.4:
                 lent.append([0, 0, 0])
             elif odd < 0.5 and len(lent) > 1:
@@ -285,10 +316,11 @@ class History:
         if used and r.random() < 0.8:
             i = r.choice(used)
         old = w.book[i]
-        word = old or 65536 + 16 + 3
+        utzero, end = self.setup.utzero, self.setup.uaddrtop
+        word = old or utzero + 16 + 3
         new = r.choice([0, word ^ 1, word ^ 3, word + 4, word + 16, word - 16, word + PAGE, down(word) + 3,
-            down(word) + 16 * 17 + 3, word % PAGE, word % PAGE + UTZERO - PAGE, word % PAGE + USTKTOP,
-            word % PAGE + USTKTOP - PAGE, r.getrandbits(64), MAX, r.choice(w.book)])
+            down(word) + 16 * 17 + 3, word % PAGE, word % PAGE + utzero - PAGE, word % PAGE + end,
+            word % PAGE + end - PAGE, r.getrandbits(64), MAX, r.choice(w.book)])
         self.emit('word %d %d' % (i, new % 2**64))
         for _ in range(r.randint(1, 2)):
             self.step_once()
@@ -317,18 +349,31 @@ class History:
                 self.step_once()
             self.emit('lend %d %d' % (PAGE * n, n))
 
+    def other_numbers(self):
+        """Hand over other numbers, try some calls, and hand the history's own again. Another stack is handed over while a process
+        lives, whose book is then torn: no start under it leaves a process behind."""
+        r = self.r
+        other = random_set(r) if self.alive() and r.random() < 0.3 else near_set(r, self.setup)
+        if min(other) < 0 or other.ok() and other.stack != self.setup.stack and not self.alive():
+            return
+        self.numbers(other)
+        for _ in range(r.randint(1, 3)):
+            self.step_once()
+        self.numbers(self.setup)
+
     def step_once(self):
         self.r.choice([self.start, self.replace, self.push, self.brk, self.fork, self.end, self.range, self.copy_from,
                        self.copy_to, self.string])()
 
     def rule(self):
         r = self.r
-        start = r.choice([r.randrange(UTZERO, 2**20), r.choice(CONSTANTS), r.getrandbits(64)])
-        end = r.choice([up(start) % 2**64, min(up(start) + PAGE * r.randint(0, 5), MAX), r.choice(CONSTANTS),
+        utzero = self.setup.utzero
+        start = r.choice([r.randrange(utzero, utzero + 2**20 - 2**16), r.choice(self.constants), r.getrandbits(64)])
+        end = r.choice([up(start) % 2**64, min(up(start) + PAGE * r.randint(0, 5), MAX), r.choice(self.constants),
             r.getrandbits(64)])
         free = r.choice([0, 1, 2, 5, r.getrandbits(10), 2**52 - 1, 2**52, 2**52 + 1, MAX])
         a = r.choice([0, start, start - 1, start + 1, end, end + 1, end - 1, end + PAGE * min(free, 2**36),
-                      end + PAGE * min(free, 2**36) + 1, r.choice(CONSTANTS), r.getrandbits(64)])
+                      end + PAGE * min(free, 2**36) + 1, r.choice(self.constants), r.getrandbits(64)])
         bss = ('none', 'none') if r.random() < 0.05 else (start, end)
         self.call('rule', *bss, free, min(max(a, 0), MAX))
 

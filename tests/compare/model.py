@@ -1,5 +1,5 @@
 #!/usr/bin/env python3
-"""The model: document 01 as a program (document01/), which answers scripts and lists images.
+"""The model: the papers as a program (papers/), which answers scripts and lists images.
 
     model.py          a script on standard input, an answer for each line
     model.py list     an image on standard input, the listing
@@ -7,7 +7,7 @@
 """
 import sys
 
-from document01.listing import listing
+from papers.listing import listing
 from script import Script, bytes_of
 
 

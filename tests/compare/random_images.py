@@ -1,12 +1,19 @@
-"""Random images, and damaged ones, from a generator of random numbers."""
-from document01.machine import DATA, LIMIT, MAX, PAGE, RODATA, TEXT, UTZERO, up
+"""Random images, and damaged ones, from a generator of random numbers, linked for a set of the machine's numbers."""
 from elf import change, example, field, header, program
+from papers.machine import DATA, MAX, PAGE, RODATA, TEXT, up
+from papers.setup import DEPOSIT
 
 FLAGS = {TEXT: 5, RODATA: 4, DATA: 6}
-EXAMPLE = example(b'\x1f\x20\x03\xd5', b'data')
 
 
-def random_image(r, size='plain'):
+def example_at(base):
+    return example(b'\x1f\x20\x03\xd5', b'data', base)
+
+
+EXAMPLE = example_at(DEPOSIT.utzero)
+
+
+def random_image(r, size='plain', setup=DEPOSIT):
     """An ELF image of 1 to 16 headers, mostly one that loads; `small` ones have up to 3, `big` ones more bytes."""
     count = r.choice([1, 1, 2, 2, 2, 3, 3, 4, 5, 6, 8, 12, 15, 16])
     if size == 'small':
@@ -17,7 +24,7 @@ def random_image(r, size='plain'):
         body += r.randbytes(r.randrange(9000))
     table = 64 if r.random() < 0.8 else 64 + len(body)
     total = 64 + 56 * count + len(body)
-    page = UTZERO // PAGE + r.choice([0, 0, 0, 1, 5])
+    page = setup.utzero // PAGE + r.choice([0, 0, 0, 1, 5])
     data = count - 1 if r.random() < 0.7 else 0       # which header is the data, if any
     table_bytes, texts = b'', []
     for i in range(count):
@@ -40,8 +47,8 @@ def random_image(r, size='plain'):
         more = r.choice([0, 0, 1, fill, fill, fill + 1, r.randrange(3 * PAGE)])
         memsz = max(filesz + (0 if dense else more), 1)
         if i == count - 1 and r.random() < 0.04:      # at the very top
-            vaddr = LIMIT - PAGE + offset % PAGE
-            memsz = LIMIT - vaddr + r.choice([0, 0, 1])
+            vaddr = setup.limit - PAGE + offset % PAGE
+            memsz = setup.limit - vaddr + r.choice([0, 0, 1])
             filesz = min(filesz, memsz)
         if r.random() < 0.02:
             memsz += r.choice([PAGE * 1024, 2**40, 2**63])
@@ -51,7 +58,7 @@ def random_image(r, size='plain'):
             texts.append((vaddr, filesz))
         page = up(vaddr + memsz) // PAGE + r.choice([0, 0, 0, 1])
     places = [a for v, n in texts for a in (up4(v), (v + n - 1) // 4 * 4) if v <= a < v + n]
-    entry = r.choice(places) if places else UTZERO
+    entry = r.choice(places) if places else setup.utzero
     head = header(entry, count, table)
     return head + table_bytes + body if table == 64 else head + body + table_bytes
 
@@ -65,7 +72,7 @@ HEADER_FIELDS = [(4, 1), (5, 1), (6, 1), (16, 2), (18, 2), (20, 4), (24, 8), (32
 PROGRAM_FIELDS = [(0, 4), (4, 4), (8, 8), (16, 8), (32, 8), (32, 8), (40, 8), (40, 8), (48, 8)]
 
 
-def damaged(r, image):
+def damaged(r, image, setup):
     """The image with something wrong in it, or nothing."""
     for _ in range(r.choice([1, 1, 1, 2])):
         n = len(image)
@@ -77,26 +84,26 @@ def damaged(r, image):
             image = change(image, r.randrange(n), 1, r.getrandbits(8))
         elif way < 0.5 and n >= 64:
             at, size = r.choice(HEADER_FIELDS)
-            image = change(image, at, size, near(r, image, field(image, at, size)))
+            image = change(image, at, size, near(r, image, field(image, at, size), setup))
         elif count:
             at, size = r.choice(PROGRAM_FIELDS)
             at += field(image, 32, 8) + 56 * r.randrange(count)
             if at + size <= n:
-                image = change(image, at, size, near(r, image, field(image, at, size)))
+                image = change(image, at, size, near(r, image, field(image, at, size), setup))
     return image
 
 
-def near(r, image, old):
+def near(r, image, old, setup):
     """A value for a field: near the old one or at a boundary."""
     return r.choice([old + 1, old - 1, old + 4, old + PAGE, old - PAGE, old ^ 1 << r.randrange(64), 0, 1, len(image),
-                     len(image) + 1, UTZERO, UTZERO - 1, LIMIT, LIMIT + 1, 2**64 - PAGE, 2**64 - PAGE + 1, MAX,
-                     r.getrandbits(3), r.getrandbits(64)])
+                     len(image) + 1, setup.utzero, setup.utzero - 1, setup.limit, setup.limit + 1, 2**64 - PAGE,
+                     2**64 - PAGE + 1, MAX, r.getrandbits(3), r.getrandbits(64)])
 
 
-def any_image(r, size='plain'):
+def any_image(r, size='plain', setup=DEPOSIT):
     way = r.random()
     if way < 0.3:
-        return EXAMPLE
+        return example_at(setup.utzero)
     if way < 0.65:
-        return random_image(r, size)
-    return damaged(r, r.choice([EXAMPLE, random_image(r, size)]))
+        return random_image(r, size, setup)
+    return damaged(r, r.choice([example_at(setup.utzero), random_image(r, size, setup)]), setup)

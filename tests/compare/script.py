@@ -1,10 +1,11 @@
 """Scripts of calls, as docs/REPLAY.md describes them, and the model's answers to them."""
 import zlib
 
-from document01.calls import World
-from document01.machine import KINDS, MAX, PAGE, Ended, Refused, down, up
-from document01.names import kstrcpy
-from document01.segments import rule
+from papers.calls import World
+from papers.machine import KINDS, MAX, PAGE, Ended, Refused, down, up
+from papers.names import kstrcpy
+from papers.segments import rule
+from papers.setup import Setup, read
 
 BLANK = 238
 LINE_MAX = BUFFER_MAX = 65536
@@ -141,6 +142,13 @@ class Script:
         self.w = World(n, *fill)
         return 'ok'
 
+    def numbers(self, words):
+        if len(words) == 4:
+            self.w.setup = Setup(*map(number, words))
+        else:
+            self.w.setup = read(*take(words, bytes_of))
+        return 'ok'
+
     def lend(self, words):
         size, count = take(words, number, number)
         if size > PAGE * self.w.n or count > self.w.n:
@@ -208,7 +216,7 @@ class Script:
             bss, rest = None, words[2:]
         else:
             bss, rest = tuple(take(words[:2], number, number)), words[2:]
-        value, new = rule(bss, *take(rest, number, number))
+        value, new = rule(self.w.setup, bss, *take(rest, number, number))
         return 'ok %d %d %d' % (value, *new)
 
     def name(self, words):
@@ -221,6 +229,6 @@ class Script:
     def map(self, words):
         return held(self.w, *take(words, number))
 
-    CALLS = {b'frames': frames, b'lend': lend, b'word': word, b'start': start, b'replace': replace, b'push': push,
-             b'break': brk, b'fork': fork, b'end': end, b'range': range, b'from': copy_from, b'to': copy_to,
+    CALLS = {b'frames': frames, b'numbers': numbers, b'lend': lend, b'word': word, b'start': start, b'replace': replace,
+             b'push': push, b'break': brk, b'fork': fork, b'end': end, b'range': range, b'from': copy_from, b'to': copy_to,
              b'string': string, b'rule': rule, b'name': name, b'sum': sum, b'map': map}

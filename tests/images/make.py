@@ -17,7 +17,7 @@ import sys
 
 from cases import header, layout, order, segments, whole
 from cases.built import CASES, EXAMPLE
-from document01.listing import listing
+from papers.listing import listing
 
 HERE = pathlib.Path(__file__).resolve().parent
 CRATE = HERE.parent.parent / 'crates' / 'listing_cases'

@@ -14,7 +14,9 @@ static uint8_t frames[WORDS * HOLTHRIMI_PAGE];
 static uint64_t book[WORDS];
 static struct holthrimi_procs procs;
 
-#define LENT frames, sizeof frames, book, WORDS, &procs
+static struct holthrimi_setup setup = {65536, (uint64_t)1 << 47, 16384, (uint64_t)1 << 47};
+
+#define LENT setup, frames, sizeof frames, book, WORDS, &procs
 
 static int checks, failed;
 
@@ -108,19 +110,30 @@ int main(void) {
     CHECK(sizeof(struct holthrimi_proc) == 432 && sizeof procs == 6912 && sizeof a == 56);
 
     write_image();
-    struct holthrimi_planned plan = holthrimi_plan(image, IMAGE);
+    struct holthrimi_planned plan = holthrimi_plan(setup, image, IMAGE);
     CHECK(plan.number == 0 && plan.entry == 65712 && plan.count == 2 && plan.pages == 7);
     CHECK(plan.bss.start == 69816 && plan.bss.end == 77824);
     CHECK(plan.segments[0].perm == HOLTHRIMI_TEXT && plan.segments[1].perm == HOLTHRIMI_DATA);
     CHECK(plan.segments[2].range.end == top && plan.segments[3].perm == 0);
     CHECK(holthrimi_parse(image, IMAGE) == 0 && holthrimi_parse(image, 63) == 11);
-    CHECK(holthrimi_plan(image, 63).number == 30 && holthrimi_plan(image, 63).elf == 11);
+    CHECK(holthrimi_plan(setup, image, 63).number == 30 && holthrimi_plan(setup, image, 63).elf == 11);
+
+    /* The machine's numbers in four lines, written and read. */
+    const char *lines = "UTZERO=65536\nUSTKTOP=140737488355328\nUSTKSIZE=16384\nUADDRTOP=140737488355328\n";
+    uint8_t written[HOLTHRIMI_SETUP_TEXT];
+    size_t n = holthrimi_write_setup(setup, written, sizeof written);
+    CHECK(n == strlen(lines) && memcmp(written, lines, n) == 0 && holthrimi_write_setup(setup, written, sizeof written - 1) == 0);
+    struct holthrimi_setup_read read = holthrimi_read_setup(written, n);
+    CHECK(read.number == 0 && memcmp(&read.setup, &setup, sizeof setup) == 0);
+    CHECK(holthrimi_read_setup(written, n - 1).number == HOLTHRIMI_SETUP_LINES);
+    written[7] = '5';
+    CHECK(holthrimi_read_setup(written, n).number == HOLTHRIMI_SETUP);
 
     /* Start: two arguments, which end at the top of the stack. */
     const uint8_t *name = (const uint8_t *)"/bin/lex";
     const uint8_t *bytes = (const uint8_t *)"lexmot";
     const uint64_t lengths[2] = {3, 3};
-    CHECK(holthrimi_args_error(bytes, 6, lengths, 2) == 0 && holthrimi_stack_size(8, 2) == 40);
+    CHECK(holthrimi_args_error(setup, bytes, 6, lengths, 2) == 0 && holthrimi_stack_size(8, 2) == 40);
     a = holthrimi_start(LENT, 1, image, IMAGE, name, 8, bytes, 6, lengths, 2);
     struct holthrimi_regs regs = a.regs;
     CHECK(accepted(a) && regs.pc == 65712 && regs.argc == 2 && regs.argv == top - 32 && regs.sp == top - 32);
@@ -138,7 +151,15 @@ int main(void) {
     CHECK(refused(holthrimi_start(LENT, 2, image, IMAGE, name, 8, bytes, 5, lengths, 2), HOLTHRIMI_SIZES));
     CHECK(refused(holthrimi_start(LENT, 2, image, 63, name, 8, bytes, 6, lengths, 2), HOLTHRIMI_EBADEXEC));
     CHECK(refused(holthrimi_end(LENT, 17), HOLTHRIMI_NUMBER) && refused(holthrimi_end(LENT, 2), HOLTHRIMI_DEAD));
-    CHECK(refused(holthrimi_end(frames, sizeof frames - 1, book, WORDS, &procs, 1), HOLTHRIMI_SIZES));
+    CHECK(refused(holthrimi_end(setup, frames, sizeof frames - 1, book, WORDS, &procs, 1), HOLTHRIMI_SIZES));
+    setup.uaddrtop += 4096;
+    CHECK(refused(holthrimi_end(LENT, 1), HOLTHRIMI_SETUP) && holthrimi_check(LENT) == HOLTHRIMI_SETUP);
+    CHECK(holthrimi_plan(setup, image, IMAGE).number == HOLTHRIMI_SETUP);
+    CHECK(holthrimi_ibrk(setup, false, 0, 0, 0, 0).error == HOLTHRIMI_SETUP);
+    CHECK(holthrimi_args_error(setup, bytes, 6, lengths, 1) == HOLTHRIMI_SIZES);
+    CHECK(holthrimi_args_error(setup, bytes, 6, lengths, 2) == HOLTHRIMI_SETUP);
+    setup.uaddrtop -= 4096;
+    CHECK(holthrimi_check(LENT) == 0);
     CHECK(refused(holthrimi_push(LENT, 1, 65712, top - 8, bytes, 6, lengths, 2), HOLTHRIMI_TOP));
     CHECK(free_frames() == WORDS - 7 && peek(1, 69812) == 'd');
 
@@ -150,9 +171,9 @@ int main(void) {
     CHECK(accepted(holthrimi_break(LENT, 1, 77826)) && peek(1, 77830) == 'k' && procs.all[0].bss.end == 81920);
     CHECK(refused(holthrimi_break(LENT, 1, 69815), HOLTHRIMI_ENOVMEM));
     CHECK(refused(holthrimi_break(LENT, 1, 140737488334849), HOLTHRIMI_ESOVERLAP));
-    CHECK(holthrimi_ibrk(true, 69816, 81920, 81921, 0).error == HOLTHRIMI_ENOVMEM);
-    CHECK(holthrimi_ibrk(true, 69816, 81920, 81921, 1).bss.end == 86016);
-    CHECK(holthrimi_ibrk(false, 0, 0, 0, 0).error == HOLTHRIMI_EBADARG);
+    CHECK(holthrimi_ibrk(setup, true, 69816, 81920, 81921, 0).error == HOLTHRIMI_ENOVMEM);
+    CHECK(holthrimi_ibrk(setup, true, 69816, 81920, 81921, 1).bss.end == 86016);
+    CHECK(holthrimi_ibrk(setup, false, 0, 0, 0, 0).error == HOLTHRIMI_EBADARG);
     printf("break: the bss ends at %llu\n", (unsigned long long)procs.all[0].bss.end);
 
     /* Fork: the child has its parent's bytes, and its own from then on. */

@@ -1,5 +1,5 @@
 #!/usr/bin/env python3
-"""Runs a replay program on every script here, and compares what it answers with the oracle's answers.
+"""Runs a replay program on every script here, and compares what it answers with the recorded answers.
 
   against.py PROGRAM [ARGUMENT..]     as against.py ../../target/bin/replay
 
@@ -17,6 +17,7 @@ HERE = os.path.dirname(os.path.abspath(__file__))
 ROOT = os.path.dirname(os.path.dirname(HERE))
 sys.path.insert(0, os.path.join(ROOT, 'tests', 'compare'))
 import feed  # noqa: E402
+from papers.setup import Setup, written  # noqa: E402
 from script import FILE_MAX, LINE_MAX, Script  # noqa: E402
 
 STACK = 8 << 20
@@ -74,6 +75,12 @@ def made(folder):
         b'to 1 69632 @' + folder.encode(), b'to 1 69632 ' + empty, b'to 1 69632 @', b'to 1 69632 @' + b'x' * 5000,
         b'to 1 ' + low + b' ' + elf, b'to 1 69632 ' + over, b'from 1 ' + low + b' 184', b'name ' + name, b'name ' + most,
         b'replace 1 ' + name + b' ' + elf + b' 140737488355304', b'to 1 69632 ' + most, b'sum'])
+    school = written(Setup(4096, 65536, 8192, 65536))
+    yield 'numbers', b'\n'.join([
+        b'rule 0 0 0 0', b'rule 0 53248 99 53249', b'numbers ' + file('school', school), b'rule 0 53248 99 53249', b'start 1 - -',
+        b'numbers ' + file('long', school + bytes(FILE_MAX - len(school))), b'numbers ' + over, b'numbers ' + empty, b'numbers ' + elf,
+        b'numbers ' + file('broken', school.replace(b'8192', b'8193')), b'rule 0 53248 99 53249', b'numbers 0 0 0 0', b'rule 0 0 0 0',
+        b'start 1 - -', b'frames 7', b'rule 0 53248 99 53249', b'start 1 - ' + elf, b'sum'])
     yield 'tails', b'frames 1\n\n\n#\nsum\nend 1\r\nsum\0\nname \'\xff\xfe\nmap 1'
     yield 'nothing', b''
     yield 'a line feed', b'\n'

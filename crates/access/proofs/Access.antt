@@ -10,10 +10,10 @@ use Rattle.spec.specs.declared.Answer.the-variants.{Value, Refused}
 
 module _ (m : Machine) (free : ℕ) where
   -- a range by itself
-  pub range-yes : (write : Bool) (addr len : ℕ) → userRangeOk (m .mem) write addr len ≡ true → weigh m free (user-range-ok addr len write) ≡ plainly (Value 1)
+  pub range-yes : (write : Bool) (addr len : ℕ) → userRangeOk (m .setup) (m .mem) write addr len ≡ true → weigh m free (user-range-ok addr len write) ≡ plainly (Value 1)
   range-yes write addr len e = rw e
 
-  pub range-no : (write : Bool) (addr len : ℕ) → userRangeOk (m .mem) write addr len ≡ false → weigh m free (user-range-ok addr len write) ≡ plainly (Value 0)
+  pub range-no : (write : Bool) (addr len : ℕ) → userRangeOk (m .setup) (m .mem) write addr len ≡ false → weigh m free (user-range-ok addr len write) ≡ plainly (Value 0)
   range-no write addr len e = rw e
 
 -- a string, from what its copy x came to

@@ -6,10 +6,12 @@ ghost use Rattle.spec.specs.World.{Does};
 ghost use Rattle.front.specs.Numbers.{stateOf, call};
 use spec::Answer;
 use spec::Procs;
+use spec::Setup;
 
 // Whether process `number` could read, or write, `len` bytes from `addr` on: 1 for yes and 0 for no. It ends nothing and changes
-// nothing. Refused with 1 to 4.
+// nothing. Refused with 1, 38 or 2 to 4.
 pub fn user_range_ok(
+    setup: Setup,
     frames: &[u8],
     book: &[u64],
     procs: Procs,
@@ -18,12 +20,13 @@ pub fn user_range_ok(
     len: u64,
     write: bool,
 ) -> Answer
-    ensures { λ r. ⌜ Does (stateOf (now (frames .entry)) (now (book .entry)) procs) (call number (user-range-ok addr len write)) (stateOf (now (frames .entry)) (now (book .entry)) procs) (plainly r) ⌝ }
+    ensures { λ r. ⌜ Does (stateOf setup (now (frames .entry)) (now (book .entry)) procs) (call number (user-range-ok addr len write)) (stateOf setup (now (frames .entry)) (now (book .entry)) procs) (plainly r) ⌝ }
 {
     let mut tags = [0u64; 272];
     let mut bases = [0u64; 273];
     let mut table = [0u16; 1024];
     let e = front::numbers::plain_ready(
+        setup,
         frames,
         book,
         procs,
@@ -36,7 +39,7 @@ pub fn user_range_ok(
     if e != 0 {
         return Answer::Refused(e);
     }
-    if uaccess::user_range_ok(book, &tags, &bases, &table, number, addr, len, write) {
+    if uaccess::user_range_ok(setup, book, &tags, &bases, &table, number, addr, len, write) {
         return Answer::Value(1);
     }
     Answer::Value(0)

@@ -5,7 +5,7 @@ use mathlib.Core.Path.{_≡_, refl, sym, ap, _∙_}
 use mathlib.Core.Bool.{Bool, _||_}
 use mathlib.Core.List.{List, [], _∷_, _++_}
 use lib.ListN.{length, take, drop, length-append, length-drop, take-append-drop}
-use lib.Seq.{length-take-le, take-length, take-append-le, drop-append-le}
+use lib.Seq.{length-take-le}
 use Rattle.spec.specs.Tests.{_is_, any, has, sum}
 use Rattle.spec.proofs.Lists.{any-append}
 use Rattle.spec.specs.Numbers.{leBytes}
@@ -44,16 +44,3 @@ pub cut-pointers : (s : ℕ) (bytes lengths : List ℕ) → sum lengths ≡ leng
 cut-pointers s bytes [] e = refl
 cut-pointers s bytes (n ∷ ns) e =
     rw (length-take-le n bytes (omega arith)) (ap (λ (x : List ℕ). leBytes 8 s ++ x) (cut-pointers (s + n + 1) (drop n bytes) ns (cut-rest bytes n ns e)))
-
--- one argument more
-pub sum-snoc : (ns : List ℕ) (n : ℕ) → sum (ns ++ n ∷ []) ≡ sum ns + n
-sum-snoc [] n = omega arith
-sum-snoc (m ∷ ns) n = omega (arith, sum-snoc ns n)
-
-pub cut-snoc : (bytes b lengths : List ℕ) → sum lengths ≡ length bytes → argsOf (bytes ++ b) (lengths ++ length b ∷ []) ≡ argsOf bytes lengths ++ b ∷ []
-cut-snoc [] b [] e = rw (take-length b)
-cut-snoc (x ∷ bytes) b [] e = absurd (omega arith)
-cut-snoc bytes b (n ∷ ns) e =
-    let h : n ≤ length bytes = omega arith in
-    rw (take-append-le n bytes b h, drop-append-le n bytes b h)
-    (ap (λ (x : List (List ℕ)). take n bytes ∷ x) (cut-snoc (drop n bytes) b ns (cut-rest bytes n ns e)))

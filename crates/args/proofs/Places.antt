@@ -8,13 +8,13 @@ use lib.Dec.{leb}
 use lib.ListN.{length, take}
 use lib.Seq.{take-append-seam}
 use borrow.Author.Tests.{ltb-false, leb-true, leb-false, lt-ltb, le-ltb}
-use Rattle.spec.specs.Numbers.{ustktop, ustksize, argLimit}
+use Rattle.spec.specs.Numbers.{argLimit, SetupOk}
 use Rattle.spec.specs.Frames.{put}
-use Rattle.spec.specs.Exec.{argsOf, strings, argsError, stringsAt, argvAt, registers, belowZero}
+use Rattle.spec.specs.Exec.{strings, argsError, stringsAt, argvAt, registers, belowZero}
 use Rattle.spec.proofs.Bools.{split}
 use Rattle.spec.proofs.Args.{args-means}
+use Rattle.spec.specs.declared.Setup.{Setup}
 use Rattle.args.specs.Sizes.{belowZeroBy, argvBy, registersBy}
-use Rattle.args.proofs.Cut.{cut-count}
 
 -- ---- the test of a push below address 0
 
@@ -31,47 +31,44 @@ low-words top size count =
 pub low-room : (top size count : ℕ) → belowZeroBy top size count ≡ false → 8 * (count + 1) ≤ (top - size) / 8 * 8
 low-room top size count e = ltb-false ((top - size) / 8 * 8) (8 * (count + 1)) e
 
--- ---- the specification's places, of bytes cut by lengths, by the size of the strings
+-- ---- the specification's places, by the size of the strings and the count of arguments
 
-module _ (bytes lengths : List ℕ) (size : ℕ) (sized : length (strings (argsOf bytes lengths)) ≡ size) where
-  pub strings-at : (top : ℕ) → stringsAt top (argsOf bytes lengths) ≡ top - size
+module _ (args : List (List ℕ)) (size count : ℕ) (sized : length (strings args) ≡ size) (counted : length args ≡ count) where
+  pub strings-at : (top : ℕ) → stringsAt top args ≡ top - size
   strings-at top = ap (λ (n : ℕ). top - n) sized
 
-  pub argv-at : (top : ℕ) → argvAt top (argsOf bytes lengths) ≡ argvBy top size (length lengths)
-  argv-at top = ap₂ (argvBy top) sized (cut-count bytes lengths)
+  pub argv-at : (top : ℕ) → argvAt top args ≡ argvBy top size count
+  argv-at top = ap₂ (argvBy top) sized counted
 
-  pub below-zero-at : (top : ℕ) → belowZero top (argsOf bytes lengths) ≡ belowZeroBy top size (length lengths)
-  below-zero-at top = ap₂ (belowZeroBy top) sized (cut-count bytes lengths)
+  pub below-zero-at : (top : ℕ) → belowZero top args ≡ belowZeroBy top size count
+  below-zero-at top = ap₂ (belowZeroBy top) sized counted
 
-  pub registers-at : (pc top : ℕ) → registers pc top (argsOf bytes lengths) ≡ registersBy pc top size (length lengths)
-  registers-at pc top = ap₂ (registersBy pc top) sized (cut-count bytes lengths)
+  pub registers-at : (pc top : ℕ) → registers pc top args ≡ registersBy pc top size count
+  registers-at pc top = ap₂ (registersBy pc top) sized counted
 
 -- ---- arguments that pass
 
--- a buffer of a quarter of the stack holds the strings
-pub passed-strings : (args : List (List ℕ)) → argsError args ≡ 0 → length (strings args) ≤ argLimit
-passed-strings args e = omega (arith, args-means args e .1)
+module _ (setup : Setup) where
+  -- a push of them below a top of the limit's height or more stays below it: pointers first, then strings up to top
+  pub record Pushed (top : ℕ) (args : List (List ℕ)) : Type 0 where
+    pub above-zero : belowZero top args ≡ false
+    pub low : top - argLimit setup ≤ argvAt top args
+    pub apart : argvAt top args + 8 * (length args + 1) ≤ stringsAt top args
+    pub high : stringsAt top args + length (strings args) ≡ top
 
--- and a push below a top of that height or more stays below it: pointers first, then strings up to top
-pub record Pushed (top : ℕ) (args : List (List ℕ)) : Type 0 where
-  pub above-zero : belowZero top args ≡ false
-  pub low : top - argLimit ≤ argvAt top args
-  pub apart : argvAt top args + 8 * (length args + 1) ≤ stringsAt top args
-  pub high : stringsAt top args + length (strings args) ≡ top
-
-passed-places : (top : ℕ) (args : List (List ℕ)) → argsError args ≡ 0 → argLimit ≤ top → Pushed top args
-passed-places top args e h =
-    let room = args-means args e .1 in
-    record {
-      above-zero = le-ltb (stringsAt top args / 8 * 8) (8 * (length args + 1)) (omega arith);
-      low = omega arith;
-      apart = omega arith;
-      high = omega arith;
-    }
+  passed-places : (top : ℕ) (args : List (List ℕ)) → argsError setup args ≡ 0 → argLimit setup ≤ top → Pushed top args
+  passed-places top args e h =
+      let room = args-means setup args e .1 in
+      record {
+        above-zero = le-ltb (stringsAt top args / 8 * 8) (8 * (length args + 1)) (omega arith);
+        low = omega arith;
+        apart = omega arith;
+        high = omega arith;
+      }
 
 -- at the stack's top it stays inside the stack
-pub passed-stack : (args : List (List ℕ)) → argsError args ≡ 0 → Pushed ustktop args × (ustktop - ustksize ≤ argvAt ustktop args)
-passed-stack args e = let p = passed-places ustktop args e (omega arith) in (p, omega (arith, p .low))
+pub passed-stack : (setup : Setup) (ok : SetupOk setup) (args : List (List ℕ)) → argsError setup args ≡ 0 → Pushed setup (setup .ustktop) args × (setup .ustktop - setup .ustksize ≤ argvAt (setup .ustktop) args)
+passed-stack setup ok args e = let p = passed-places setup (setup .ustktop) args e (omega arith) in (p, omega (arith, p .low))
 
 -- ---- what a buffer begins with, once bytes are put at its start
 pub put-begins : (d s b : List ℕ) (n : ℕ) → b ≡ put d 0 s → n ≡ length s → take n b ≡ s

@@ -10,6 +10,7 @@ use Rattle.spec.specs.Tests.{_isnt_, _below_, _⇒_else_, sum}
 use Rattle.spec.specs.Numbers.{leBytes}
 use Rattle.spec.specs.Exec.{argsOf, strings, argsError}
 use Rattle.spec.specs.declared.UserRegs.{UserRegs}
+use Rattle.spec.specs.declared.Setup.{Setup}
 use Rattle.args.specs.declared.ArgsSize.{ArgsSize}
 
 -- a number, or the highest of 64 bits where it is above that
@@ -17,10 +18,10 @@ abbrev pub saturated : ℕ → ℕ
 saturated n = n below 2 ^ 64 ⇒ n else 2 ^ 64 - 1
 
 -- `args_size`: 1 for lengths that don't sum to their bytes, or the arguments' refusal; or 0 with the size of the strings
-unfoldable pub argsSize : List ℕ → List ℕ → ArgsSize
-argsSize bytes lengths =
+unfoldable pub argsSize : Setup → List ℕ → List ℕ → ArgsSize
+argsSize setup bytes lengths =
     sum lengths isnt length bytes ⇒ record { error = 1; strings = 0 } else
-    argsError (argsOf bytes lengths) isnt 0 ⇒ record { error = argsError (argsOf bytes lengths); strings = 0 } else
+    argsError setup (argsOf bytes lengths) isnt 0 ⇒ record { error = argsError setup (argsOf bytes lengths); strings = 0 } else
     record { error = 0; strings = length (strings (argsOf bytes lengths)) }
 
 -- the specification's `pointers`, by the lengths of arguments

@@ -7,6 +7,7 @@ ghost use lib.ListN.{length};
 ghost use Rattle.spec.specs.Tests.{_is_, has, sum};
 ghost use Rattle.spec.specs.Exec.{stackSize};
 ghost use Rattle.args.specs.Sizes.{saturated, argsSize, belowZeroBy, registersBy};
+use spec::Setup;
 
 // The highest number of 64 bits, and how many words of 8 bytes have a size that they hold.
 const MAX: u64 = 0xffff_ffff_ffff_ffff;
@@ -69,9 +70,10 @@ pub fn stack_size(strings: u64, nargs: u64) -> u64
 
 // Checks that arguments can be pushed onto a stack, and tells the size of their strings. Arguments may use at most a quarter of
 // the stack, and may not hold a NUL.
-pub fn args_size(bytes: &[u8], lengths: &[u64]) -> ArgsSize
-    ensures { λ r. ⌜ r ≡ argsSize (now (bytes .entry)) (now (lengths .entry)) ⌝ }
+pub fn args_size(setup: Setup, bytes: &[u8], lengths: &[u64]) -> ArgsSize
+    ensures { λ r. ⌜ r ≡ argsSize setup (now (bytes .entry)) (now (lengths .entry)) ⌝ }
 {
+    let limit = setup.ustksize / 4;
     if !lengths_fit(bytes, lengths) {
         return ArgsSize {
             error: spec::SIZES,
@@ -87,7 +89,7 @@ pub fn args_size(bytes: &[u8], lengths: &[u64]) -> ArgsSize
     }
     let nargs = lengths.len() as u64;
     let strings = bytes.len() as u64 + nargs;
-    if stack_size(strings, nargs) > spec::ARG_LIMIT {
+    if stack_size(strings, nargs) > limit {
         return ArgsSize {
             error: spec::ENOVMEM,
             strings: 0,

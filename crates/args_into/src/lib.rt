@@ -1,15 +1,19 @@
-// The bytes of arguments that go onto a stack, as r9's push_args lays them out, put into a buffer: their strings, each with its NUL,
-// and the pointers to them with the null after them. Start and push write the buffer to user memory at once.
+// The bytes of arguments that go onto a stack, as r9's push_args makes them, put into a buffer: their strings, each with its NUL, and
+// behind them the pointers to them with the null after them. Start, replace and push write each of the two to user memory at once.
 
 ghost use mathlib.Core.Path.{_≡_};
-ghost use mathlib.Core.List.{[], _∷_, _++_};
-ghost use Prim.Native.Nat.{_+_, _*_, _^_, _≤_, _<_};
-ghost use lib.ListN.{length};
+ghost use mathlib.Core.List.{List, [], _∷_, _++_};
+ghost use Prim.Native.Nat.{ℕ, _+_, _*_, _^_, _≤_, _<_};
+ghost use lib.ListN.{length, take};
 ghost use Rattle.spec.specs.Tests.{sum};
 ghost use Rattle.spec.specs.Numbers.{leBytes};
 ghost use Rattle.spec.specs.Frames.{put};
 ghost use Rattle.spec.specs.Exec.{argsOf, strings};
 ghost use Rattle.args.specs.Sizes.{pointersBy};
+ghost use Rattle.args_into.specs.Laid.{Standing, Laid};
+
+// A buffer of this size holds the strings and the pointers of arguments that pass.
+pub const BUFFER_SIZE: usize = spec::MAX_ARGS as usize;
 
 // `d` becomes `s`, as `copy_from_slice`.
 fn copy(d: &mut [u8], s: &[u8])
@@ -33,8 +37,8 @@ fn string_into(buf: &mut [u8], at: usize, s: &[u8])
     buf[end] = 0;
 }
 
-// Puts the strings of arguments, each with its NUL, into `buf` from its start on, as push_args lays them out, and tells their size.
-pub fn strings_into(buf: &mut [u8], bytes: &[u8], lengths: &[u64]) -> usize
+// Puts the strings of arguments, each with its NUL, into `buf` from its start on, and tells their size.
+fn strings_into(buf: &mut [u8], bytes: &[u8], lengths: &[u64]) -> usize
     requires { ⌜ (sum (now lengths) ≡ length (now bytes)) × (length (now bytes) + length (now lengths) ≤ length (now buf)) ⌝ }
     ensures { λ _. ⌜ now (buf .exit) ≡ put (now (buf .entry)) 0 (strings (argsOf (now (bytes .entry)) (now (lengths .entry)))) ⌝ }
     ensures { λ r. ⌜ r ≡ length (strings (argsOf (now (bytes .entry)) (now (lengths .entry)))) ⌝ }
@@ -77,12 +81,10 @@ fn pointer_into(buf: &mut [u8], at: usize, p: u64)
     copy(&mut buf[at..end], &b);
 }
 
-// Puts pointers to strings of these lengths, the first at address `first`, and the null after them into `buf` from its start on,
-// as push_args lays them out, and tells their size.
-pub fn pointers_into(buf: &mut [u8], first: u64, lengths: &[u64]) -> usize
+// Puts pointers to strings of these lengths, the first at address `first`, and the null after them into `buf` from its start on.
+fn pointers_into(buf: &mut [u8], first: u64, lengths: &[u64])
     requires { ⌜ (8 * (length (now lengths) + 1) ≤ length (now buf)) × (first + sum (now lengths) + length (now lengths) < 2 ^ 64) ⌝ }
     ensures { λ _. ⌜ now (buf .exit) ≡ put (now (buf .entry)) 0 (pointersBy first (now (lengths .entry))) ⌝ }
-    ensures { λ r. ⌜ r ≡ 8 * (length (now (lengths .entry)) + 1) ⌝ }
 {
     let mut s = first;
     let mut i = 0;
@@ -92,5 +94,32 @@ pub fn pointers_into(buf: &mut [u8], first: u64, lengths: &[u64]) -> usize
         i += 1;
     }
     pointer_into(buf, 8 * i, 0);
-    8 * (i + 1)
+}
+
+// Puts arguments into `buf`: their strings, and behind them the pointers to them, for a push below `top`. Tells the strings' size.
+pub fn args_into(buf: &mut [u8], top: u64, bytes: &[u8], lengths: &[u64]) -> usize
+    requires { ⌜ (sum (now lengths) ≡ length (now bytes)) × (length (now bytes) + length (now lengths) + 8 * (length (now lengths) + 1) ≤ length (now buf)) × (length (now bytes) + length (now lengths) ≤ top) ⌝ }
+    ensures { λ r. ⌜ Laid top (argsOf (now (bytes .entry)) (now (lengths .entry))) r (now (buf .exit)) ⌝ }
+{
+    let size = strings_into(buf, bytes, lengths);
+    pointers_into(&mut buf[size..], top - (size as u64), lengths);
+    size
+}
+
+// Puts the pointers to the `count` strings that stand in the first `size` bytes of `buf`, each with its NUL, behind them, for a push
+// below `top`. A string's address is found by going past the NUL of the one before.
+pub fn pointers_behind(buf: &mut [u8], top: u64, size: usize, count: usize)
+    requires { ⌜ ((args : List (List ℕ)) × Standing args (take size (now buf)) count) ⌝ }
+    requires { ⌜ (size + 8 * (count + 1) ≤ length (now buf)) × (size ≤ top) ⌝ }
+    ensures { λ _. ⌜ ((args : List (List ℕ)) → Standing args (take size (now (buf .entry))) count → Laid top args size (now (buf .exit))) ⌝ }
+{
+    let first = top - (size as u64);
+    let mut from = 0;
+    let mut i = 0;
+    while i < count {
+        pointer_into(buf, size + 8 * i, first + (from as u64));
+        from += strings::to_nul(&buf[from..size]) + 1;
+        i += 1;
+    }
+    pointer_into(buf, size + 8 * i, 0);
 }

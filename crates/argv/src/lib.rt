@@ -1,21 +1,21 @@
 // The arguments of replace, as r9's copy_argv in exec.rs reads them from user memory: from the null-terminated array of pointers at
-// a user address (crate pointers), in reading order: pointer, string, limit, next (crate copy_arg). They are bytes and lengths, where the
-// Rust has `Vec<Vec<u8>>`.
+// a user address (crate pointers), in reading order: pointer, string, limit, next (crate copy_arg). They are strings with their NULs, one
+// behind the other, where the Rust has `Vec<Vec<u8>>`.
 
 ghost use mathlib.Core.Path.{_≡_};
-ghost use Prim.Native.Nat.{_*_, _/_, _≤_};
-ghost use lib.ListN.{length, take};
-ghost use Rattle.spec.specs.Tests.{sum};
-ghost use Rattle.spec.specs.Numbers.{argLimit};
+ghost use Prim.Native.Nat.{_*_, _≤_};
+ghost use lib.ListN.{length};
+ghost use Rattle.spec.specs.Numbers.{SetupOk, argLimit};
 ghost use Rattle.spec.specs.Frames.{memOf};
 ghost use Rattle.spec.specs.Exec.{copyArgv};
 ghost use Rattle.sound.specs.Table.{Ready};
 ghost use Rattle.book.specs.Lent.{store};
-ghost use Rattle.argv.specs.Reading.{argvOf};
+ghost use Rattle.argv.specs.Reading.{Read};
 use pointers::Pointer;
+use spec::Setup;
 
-// What copy_argv comes to, for Option<Result<Vec<Vec<u8>>>>: 35 or 33, or 0 with the arguments, which are the first `used` of the
-// lent bytes and the first `count` of the lent lengths.
+// What copy_argv comes to, for Option<Result<Vec<Vec<u8>>>>: 35 or 33, or 0 with the arguments, which are `count` strings in the first
+// `used` bytes of the lent buffer.
 pub struct Argv {
     pub error: u64,
     pub used: usize,
@@ -25,6 +25,7 @@ pub struct Argv {
 // The strings that the null-terminated array of pointers at user address `argv` points to, copied in, stopping with 33 as soon as
 // they won't fit on the new stack. 35 for a bad address, which ends the process, once the caller says so.
 pub fn copy_argv(
+    setup: Setup,
     frames: &[u8],
     book: &[u64],
     tags: &[u64; 272],
@@ -32,20 +33,17 @@ pub fn copy_argv(
     table: &[u16; 1024],
     number: u64,
     argv: u64,
-    bytes: &mut [u8],
-    lengths: &mut [u64],
+    buf: &mut [u8],
 ) -> Argv
     requires { ⌜ (length (now frames) ≡ 4096 * length (now book)) × Ready (now book) (now tags) (now bases) (now table) ⌝ }
-    requires { ⌜ (argLimit ≤ length (now bytes)) × (argLimit / 8 ≤ length (now lengths)) ⌝ }
-    ensures { λ r. ⌜ argvOf r (now (bytes .exit)) (now (lengths .exit)) ≡ copyArgv (memOf (store (now (frames .entry)) (now (book .entry))) number) argv ⌝ }
-    ensures { λ r. ⌜ (r .used ≤ length (now (bytes .exit))) × (r .count ≤ length (now (lengths .exit))) × (sum (take (r .count) (now (lengths .exit))) ≡ r .used) ⌝ }
+    requires { ⌜ (argLimit setup ≤ length (now buf)) × SetupOk setup ⌝ }
+    ensures { λ r. ⌜ Read (copyArgv setup (memOf (store (now (frames .entry)) (now (book .entry))) number) argv) r (now (buf .exit)) ⌝ }
 {
-    let mut buf = [0u8; 4096];
     let mut used = 0;
     let mut count = 0;
     loop {
         let at = pointers::pointer_addr(argv, count);
-        let p = pointers::read_pointer(frames, book, tags, bases, table, number, at);
+        let p = pointers::read_pointer(setup, frames, book, tags, bases, table, number, at);
         match p {
             Pointer::Bad => {
                 return Argv {
@@ -63,6 +61,7 @@ pub fn copy_argv(
             }
             Pointer::At(s) => {
                 let r = copy_arg::copy_arg(
+                    setup,
                     frames,
                     book,
                     tags,
@@ -70,9 +69,7 @@ pub fn copy_argv(
                     table,
                     number,
                     s,
-                    &mut buf,
-                    bytes,
-                    lengths,
+                    buf,
                     used,
                     count,
                 );
@@ -84,7 +81,7 @@ pub fn copy_argv(
                         count: 0,
                     };
                 }
-                used += r.size;
+                used += r.size + 1;
                 count += 1;
             }
         }

@@ -13,6 +13,7 @@ use Rattle.spec.specs.Frames.{Store, pagesOf, place, release}
 use Rattle.spec.specs.Segment.{Break, ibrk}
 use Rattle.spec.specs.Machine.{weighBreak}
 use Rattle.spec.specs.World.{State, brk}
+use Rattle.spec.specs.declared.Setup.{Setup}
 use Rattle.spec.specs.declared.VirtRange.{VirtRange}
 use Rattle.spec.specs.declared.Answer.the-variants.{Value, Refused}
 use Rattle.spec.proofs.Bools.{within-not}
@@ -41,8 +42,8 @@ shrinks-place m n old new h = let z : (new - old) / 4096 ≡ 0 = omega arith in 
 -- ---- the answer
 
 -- the rule over what the code found is the rule over what the process holds
-pub break-rule : (b : Break) (bss bss′ : VirtRange) (addr free free′ : ℕ) → b ≡ ibrk (some bss) addr free → bss ≡ bss′ → free ≡ free′ → b ≡ ibrk (some bss′) addr free′
-break-rule b bss bss′ addr free free′ rule same count = rule ∙ ap₂ (λ (x : VirtRange) (f : ℕ). ibrk (some x) addr f) same count
+pub break-rule : (setup : Setup) (b : Break) (bss bss′ : VirtRange) (addr free free′ : ℕ) → b ≡ ibrk setup (some bss) addr free → bss ≡ bss′ → free ≡ free′ → b ≡ ibrk setup (some bss′) addr free′
+break-rule setup b bss bss′ addr free free′ rule same count = rule ∙ ap₂ (λ (x : VirtRange) (f : ℕ). ibrk setup (some x) addr f) same count
 
 module _ (b x : Break) (rule : b ≡ x) where
   pub break-refused : (b .error ≡ 0 → ⊥) → weighBreak x ≡ Refused (b .error)

@@ -13,10 +13,12 @@ ghost use Rattle.spec.specs.Frames.{pagesOf, place, release};
 ghost use Rattle.spec.specs.Machine.{break, plainly};
 ghost use Rattle.spec.specs.World.{brk, Does};
 ghost use Rattle.book.specs.Lent.{store};
+ghost use Rattle.spec.specs.declared.Setup.{Setup};
 ghost use Rattle.front.specs.Numbers.{stateOf, call};
 use front::left::Left;
 use spec::Answer;
 use spec::Procs;
+use spec::Setup;
 
 // The pages of a bss whose end moves from `old` to `new`: those past the new end are freed, and new ones are zeroed.
 fn move_pages(frames: &mut [u8], book: &mut [u64], number: u64, old: u64, new: u64)
@@ -36,7 +38,7 @@ fn move_pages(frames: &mut [u8], book: &mut [u64], number: u64, old: u64, new: u
 fn move_break(frames: &mut [u8], book: &mut [u64], procs: Procs, number: u64, top: u64) -> Procs
     requires { ⌜ (length (now frames) ≡ 4096 * length (now book)) × (valid number ≡ true) ⌝ }
     requires { ⌜ (procAt procs number .bss .end % 4096 ≡ 0) × (top % 4096 ≡ 0) × (top < 2 ^ 63) ⌝ }
-    ensures { λ r. ⌜ stateOf (now (frames .exit)) (now (book .exit)) r ≡ brk (stateOf (now (frames .entry)) (now (book .entry)) procs) number (procAt procs number) top ⌝ }
+    ensures { λ r. ⌜ ((setup : Setup) → stateOf setup (now (frames .exit)) (now (book .exit)) r ≡ brk (stateOf setup (now (frames .entry)) (now (book .entry)) procs) number (procAt procs number) top) ⌝ }
 {
     let mut p = front::record::proc_at(procs, number);
     let start = p.bss.start;
@@ -47,14 +49,22 @@ fn move_break(frames: &mut [u8], book: &mut [u64], procs: Procs, number: u64, to
 }
 
 // Moves the end of the bss of process `number` to `addr`, rounded up to a page. Growing places zeroed pages, and shrinking frees
-// them. An `addr` of 0 answers the bss's start. Refused with 1 to 4 or by `ibrk`'s rule, it changes nothing.
-pub fn brk(frames: &mut [u8], book: &mut [u64], procs: Procs, number: u64, addr: u64) -> Left
-    ensures { λ r. ⌜ Does (stateOf (now (frames .entry)) (now (book .entry)) procs) (call number (break addr)) (stateOf (now (frames .exit)) (now (book .exit)) (r .procs)) (plainly (r .answer)) ⌝ }
+// them. An `addr` of 0 answers the bss's start. Refused with 1, 38, 2 to 4 or by `ibrk`'s rule, it changes nothing.
+pub fn brk(
+    setup: Setup,
+    frames: &mut [u8],
+    book: &mut [u64],
+    procs: Procs,
+    number: u64,
+    addr: u64,
+) -> Left
+    ensures { λ r. ⌜ Does (stateOf setup (now (frames .entry)) (now (book .entry)) procs) (call number (break addr)) (stateOf setup (now (frames .exit)) (now (book .exit)) (r .procs)) (plainly (r .answer)) ⌝ }
 {
     let mut tags = [0u64; 272];
     let mut bases = [0u64; 273];
     let mut table = [0u16; 1024];
     let e = front::numbers::plain_ready(
+        setup,
         frames,
         book,
         procs,
@@ -73,7 +83,7 @@ pub fn brk(frames: &mut [u8], book: &mut [u64], procs: Procs, number: u64, addr:
     let p = front::record::proc_at(procs, number);
     let bss = p.bss;
     let free = sound::free_frames(book, &bases) as u64;
-    let b = segment::ibrk(segment::Bss::Set(bss), addr, free);
+    let b = segment::ibrk(setup, segment::Bss::Set(bss), addr, free);
     let error = b.error;
     let value = b.value;
     if error != 0 {

@@ -1,5 +1,5 @@
-// The ten calls: the library's front door. Each takes frames and book lent, records by value and its own arguments, checks all of
-// them, and answers. No caller has anything to check: no call has a `requires`. What a call leaves and answers is what `after` and
+// The ten calls: the library's front door. Each takes the setup by value, frames and book lent, records by value and its own
+// arguments, checks all of them, and answers. No caller has anything to check: no call has a `requires`. What a call leaves and answers is what `after` and
 // `answer` of the specification say, refusals too.
 
 pub use access::copy_from_user;

@@ -5,6 +5,8 @@ ghost use mathlib.Core.Path.{_≡_};
 ghost use mathlib.Core.Bool.{true, false};
 ghost use Prim.Native.Nat.{_+_, _-_, _*_, _%_, _^_, _≤_, _<_, min};
 ghost use lib.ListN.{length};
+ghost use Rattle.spec.specs.Numbers.{SetupOk};
+ghost use Rattle.spec.specs.declared.Setup.{Setup};
 ghost use Rattle.spec.specs.Frames.{memOf, pokes};
 ghost use Rattle.spec.specs.Access.{cellOk, userRangeOk, bytesAt};
 ghost use Rattle.sound.specs.Table.{Ready};
@@ -63,7 +65,7 @@ pub fn read_user(
     buf: &mut [u8],
 )
     requires { ⌜ (length (now frames) ≡ 4096 * length (now book)) × Ready (now book) (now tags) (now bases) (now table) ⌝ }
-    requires { ⌜ userRangeOk (memOf (store (now frames) (now book)) number) false addr (length (now buf)) ≡ true ⌝ }
+    requires { ⌜ ((setup : Setup) × SetupOk setup × (userRangeOk setup (memOf (store (now frames) (now book)) number) false addr (length (now buf)) ≡ true)) ⌝ }
     ensures { λ _. ⌜ now (buf .exit) ≡ bytesAt (memOf (store (now (frames .entry)) (now (book .entry))) number) addr (length (now (buf .entry))) ⌝ }
 {
     let mut i = 0;
@@ -113,7 +115,7 @@ pub fn write_user(
     bytes: &[u8],
 )
     requires { ⌜ (length (now frames) ≡ 4096 * length (now book)) × Ready (now book) (now tags) (now bases) (now table) ⌝ }
-    requires { ⌜ userRangeOk (memOf (store (now frames) (now book)) number) true addr (length (now bytes)) ≡ true ⌝ }
+    requires { ⌜ ((setup : Setup) × SetupOk setup × (userRangeOk setup (memOf (store (now frames) (now book)) number) true addr (length (now bytes)) ≡ true)) ⌝ }
     ensures { λ _. ⌜ store (now (frames .exit)) (now (book .entry)) ≡ pokes (store (now (frames .entry)) (now (book .entry))) number addr (now (bytes .entry)) ⌝ }
 {
     let mut i = 0;

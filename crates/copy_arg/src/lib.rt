@@ -1,16 +1,18 @@
-// One more argument of replace, as r9's copy_argv in exec.rs reads it: a string of user memory, put behind the arguments so far if
-// it is within the limit with them. Nothing is put where it is refused.
+// One more argument of replace, as r9's copy_argv in exec.rs reads it: a string of user memory, put behind the strings so far with its
+// NUL if it is within the limit with them.
 
 ghost use mathlib.Core.Path.{_≡_};
-ghost use Prim.Native.Nat.{_+_, _*_, _/_, _≤_, _<_};
-ghost use lib.ListN.{length, set};
-ghost use Rattle.spec.specs.Numbers.{argLimit};
-ghost use Rattle.spec.specs.Frames.{memOf, put};
+ghost use Prim.Native.Nat.{_*_, _≤_, _<_};
+ghost use lib.ListN.{length};
+ghost use Rattle.spec.specs.Numbers.{SetupOk, argLimit};
+ghost use Rattle.spec.specs.Frames.{memOf};
 ghost use Rattle.spec.specs.Access.{copyStr};
 ghost use Rattle.spec.specs.Exec.{argBuffer, stackSize};
 ghost use Rattle.sound.specs.Table.{Ready};
 ghost use Rattle.book.specs.Lent.{store};
-ghost use Rattle.copy_arg.specs.Strings.{moreOf, withString};
+ghost use Rattle.copy_arg.specs.Strings.{Told, Added};
+use spec::Setup;
+use uaccess::Str;
 
 // What one more string comes to: 35 or 33, or 0 with its length.
 pub struct More {
@@ -18,18 +20,10 @@ pub struct More {
     pub size: usize,
 }
 
-// Puts the argument `s` behind `used` bytes and `count` lengths.
-fn push(bytes: &mut [u8], lengths: &mut [u64], used: usize, count: usize, s: &[u8])
-    requires { ⌜ (used + length (now s) ≤ length (now bytes)) × (count < length (now lengths)) ⌝ }
-    ensures { λ _. ⌜ (now (bytes .exit) ≡ put (now (bytes .entry)) used (now (s .entry))) × (now (lengths .exit) ≡ set (now (lengths .entry)) count (length (now (s .entry)))) ⌝ }
-{
-    let end = used + s.len();
-    pagealloc::frames::copy(&mut bytes[used..end], s);
-    lengths[count] = s.len() as u64;
-}
-
-// Reads the string at user address `s` by way of `buf`, and puts it behind the arguments so far if it is within the limit with them.
-pub fn copy_arg(
+// Reads the string at user address `s` behind `used` bytes of `buf`, and tells what a copy into a buffer of the limit comes to. What
+// is longer than the room there is read on over the bytes before it, since it is refused by then.
+fn read_string(
+    setup: Setup,
     frames: &[u8],
     book: &[u64],
     tags: &[u64; 272],
@@ -38,21 +32,83 @@ pub fn copy_arg(
     number: u64,
     s: u64,
     buf: &mut [u8],
-    bytes: &mut [u8],
-    lengths: &mut [u64],
+    used: usize,
+) -> Str
+    requires { ⌜ (length (now frames) ≡ 4096 * length (now book)) × Ready (now book) (now tags) (now bases) (now table) ⌝ }
+    requires { ⌜ (argLimit setup ≤ length (now buf)) × (used < argLimit setup) × SetupOk setup ⌝ }
+    ensures { λ r. ⌜ Told (argLimit setup) (copyStr setup (memOf (store (now (frames .entry)) (now (book .entry))) number) (argBuffer setup) s) used (now (buf .entry)) r (now (buf .exit)) ⌝ }
+{
+    let limit = (setup.ustksize / 4) as usize;
+    let room = limit - used;
+    let str = uaccess::try_copy_str_from_user(
+        setup,
+        frames,
+        book,
+        tags,
+        bases,
+        table,
+        number,
+        &mut buf[used..limit],
+        s,
+    );
+    if str.size < room {
+        return str;
+    }
+    // The byte before could be read, so this can't overflow.
+    let next = s + (room as u64);
+    let rest = uaccess::try_copy_str_from_user(
+        setup,
+        frames,
+        book,
+        tags,
+        bases,
+        table,
+        number,
+        &mut buf[..used],
+        next,
+    );
+    Str {
+        whole: rest.whole,
+        size: room + rest.size,
+    }
+}
+
+// Reads the string at user address `s`, and puts it and its NUL behind `used` bytes of `count` strings if it is within the limit with
+// them. If it is not, nothing is promised of the buffer.
+pub fn copy_arg(
+    setup: Setup,
+    frames: &[u8],
+    book: &[u64],
+    tags: &[u64; 272],
+    bases: &[u64; 273],
+    table: &[u16; 1024],
+    number: u64,
+    s: u64,
+    buf: &mut [u8],
     used: usize,
     count: usize,
 ) -> More
     requires { ⌜ (length (now frames) ≡ 4096 * length (now book)) × Ready (now book) (now tags) (now bases) (now table) ⌝ }
-    requires { ⌜ (length (now buf) ≡ argLimit) × (argLimit ≤ length (now bytes)) × (argLimit / 8 ≤ length (now lengths)) ⌝ }
-    requires { ⌜ stackSize (used + count) count ≤ argLimit ⌝ }
-    ensures { λ r. ⌜ moreOf r (now (bytes .exit)) (now (lengths .exit)) ≡ withString (copyStr (memOf (store (now (frames .entry)) (now (book .entry))) number) argBuffer s) used count (now (bytes .entry)) (now (lengths .entry)) ⌝ }
+    requires { ⌜ (argLimit setup ≤ length (now buf)) × (stackSize used count ≤ argLimit setup) × SetupOk setup ⌝ }
+    ensures { λ r. ⌜ Added setup (copyStr setup (memOf (store (now (frames .entry)) (now (book .entry))) number) (argBuffer setup) s) used count (now (buf .entry)) r (now (buf .exit)) ⌝ }
 {
-    let str = uaccess::try_copy_str_from_user(frames, book, tags, bases, table, number, buf, s);
+    let limit = setup.ustksize / 4;
+    let str = read_string(
+        setup,
+        frames,
+        book,
+        tags,
+        bases,
+        table,
+        number,
+        s,
+        buf,
+        used,
+    );
     let n = str.size;
-    let strings = (used + n + (count + 1)) as u64;
+    let strings = (used + n + 1) as u64;
     let nargs = (count + 1) as u64;
-    let over = (n as u64 == spec::ARG_LIMIT) | (args::stack_size(strings, nargs) > spec::ARG_LIMIT);
+    let over = (n as u64 == limit) | (args::stack_size(strings, nargs) > limit);
     if !str.whole {
         return More {
             error: spec::BAD_ADDRESS,
@@ -65,6 +121,7 @@ pub fn copy_arg(
             size: 0,
         };
     }
-    push(bytes, lengths, used, count, &buf[..n]);
+    let end = used + n;
+    buf[end] = 0;
     More { error: 0, size: n }
 }

@@ -8,12 +8,13 @@ ghost use Rattle.front.specs.Numbers.{stateOf, call};
 use front::left::Left;
 use spec::Answer;
 use spec::Procs;
+use spec::Setup;
 
-// Ends process `number`: its frames are free and keep their bytes, and its record is zero. Refused with 1 to 4, it changes nothing.
-pub fn end(frames: &mut [u8], book: &mut [u64], procs: Procs, number: u64) -> Left
-    ensures { λ r. ⌜ Does (stateOf (now (frames .entry)) (now (book .entry)) procs) (call number end) (stateOf (now (frames .exit)) (now (book .exit)) (r .procs)) (plainly (r .answer)) ⌝ }
+// Ends process `number`: its frames are free and keep their bytes, and its record is zero. Refused with 1, 38 or 2 to 4, it changes nothing.
+pub fn end(setup: Setup, frames: &mut [u8], book: &mut [u64], procs: Procs, number: u64) -> Left
+    ensures { λ r. ⌜ Does (stateOf setup (now (frames .entry)) (now (book .entry)) procs) (call number end) (stateOf setup (now (frames .exit)) (now (book .exit)) (r .procs)) (plainly (r .answer)) ⌝ }
 {
-    let e = front::numbers::plain_error(frames, book, procs, number, true);
+    let e = front::numbers::plain_error(setup, frames, book, procs, number, true);
     if e != 0 {
         return Left {
             procs: procs,

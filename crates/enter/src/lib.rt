@@ -2,50 +2,54 @@
 // enters the image, or ends. Its caller has checked everything but the frames.
 
 ghost use mathlib.Core.Path.{_≡_};
-ghost use Rattle.spec.specs.Exec.{argsOf};
-ghost use Rattle.front.specs.Numbers.{stateOf};
-ghost use Rattle.enter.specs.Entering.{Enterable, entered, entering};
+ghost use mathlib.Core.List.{List};
+ghost use Prim.Native.Nat.{ℕ};
+ghost use Rattle.book.specs.Lent.{store};
+ghost use Rattle.install.specs.Installing.{Fitting};
+ghost use Rattle.enter.specs.Entering.{Enterable, entered, next, entering};
 use exec::Plan;
-use front::left::Left;
 use spec::Answer;
-use spec::Procs;
+use spec::Proc;
+use spec::Setup;
+
+// The process's record from then on, and the answer.
+pub struct Entered {
+    pub proc: Proc,
+    pub answer: Answer,
+}
 
 // Past the point of no return: the old pages are freed, as `replace_pmmu` does, and the image is installed, as `exec` does. If the
-// process's own and the free frames don't hold its pages, it ends with 33.
+// process's own and the free frames don't hold its pages, it ends with 33. `p` is the process's record.
 pub fn enter(
+    setup: Setup,
     frames: &mut [u8],
     book: &mut [u64],
-    procs: Procs,
+    p: Proc,
     number: u64,
     image: &[u8],
     plan: Plan,
     name: &[u8],
-    bytes: &[u8],
-    lengths: &[u64],
-) -> Left
-    requires { ⌜ Enterable (stateOf (now frames) (now book) procs) number (now image) plan (now bytes) (now lengths) ⌝ }
-    ensures { λ r. ⌜ stateOf (now (frames .exit)) (now (book .exit)) (r .procs) ≡ entered (stateOf (now (frames .entry)) (now (book .entry)) procs) number (now (image .entry)) (now (name .entry)) (argsOf (now (bytes .entry)) (now (lengths .entry))) ⌝ }
-    ensures { λ r. ⌜ r .answer ≡ entering (stateOf (now (frames .entry)) (now (book .entry)) procs) number (now (image .entry)) (argsOf (now (bytes .entry)) (now (lengths .entry))) ⌝ }
+    buf: &[u8],
+    size: usize,
+    nargs: usize,
+) -> Entered
+    requires { ⌜ Enterable setup (store (now frames) (now book)) p number (now image) plan ⌝ }
+    requires { ⌜ ((args : List (List ℕ)) × Fitting setup args (now buf) size nargs) ⌝ }
+    ensures { λ r. ⌜ r .proc ≡ next setup (store (now (frames .entry)) (now (book .entry))) p (now (image .entry)) (now (name .entry)) ⌝ }
+    ensures { λ r. ⌜ ((args : List (List ℕ)) → Fitting setup args (now (buf .entry)) size nargs → (store (now (frames .exit)) (now (book .exit)) ≡ entered setup (store (now (frames .entry)) (now (book .entry))) p number (now (image .entry)) args) × (r .answer ≡ entering setup (store (now (frames .entry)) (now (book .entry))) p (now (image .entry)) args)) ⌝ }
 {
-    let p = front::record::proc_at(procs, number);
     let free = book::free_count(book) as u64;
     let room = front::pages::own_pages(p) + free;
-    let after = front::ending::forget(book, procs, number);
+    book::release_owner(book, number);
     if plan.pages > room {
-        return Left {
-            procs: after,
+        return Entered {
+            proc: front::record::zero_proc(),
             answer: Answer::Ended(spec::ENOVMEM),
         };
     }
-    install::install(
-        frames,
-        book,
-        after,
-        number,
-        image,
-        plan,
-        name,
-        bytes,
-        lengths,
-    )
+    let regs = install::install(setup, frames, book, number, image, plan, buf, size, nargs);
+    Entered {
+        proc: install::record_of(plan, name),
+        answer: Answer::Regs(regs),
+    }
 }

@@ -5,7 +5,7 @@ use mathlib.Core.List.{List, [], _∷_, _++_, map}
 use Prim.Native.Nat.{ℕ, _+_, _-_, _*_}
 use lib.ListN.{replicate}
 use Rattle.spec.specs.Tests.{_is_, all, same, ascii}
-use Rattle.spec.specs.Numbers.{ustktop, pageBytes, zeroPage}
+use Rattle.spec.specs.Numbers.{deposit, setupOk, pageBytes, zeroPage}
 use Rattle.spec.specs.Book.{zeroProc, segment, stack}
 use Rattle.spec.specs.Frames.{place, release, pokes}
 use Rattle.spec.specs.Sound.{soundBook}
@@ -14,11 +14,12 @@ use Rattle.spec.specs.Exec.{argBuffer, copyArgv}
 use Rattle.spec.specs.Segment.{ibrk}
 use Rattle.spec.specs.Machine.{Ask, start, replace, push, break, fork, end, user-range-ok, copy-from-user, copy-to-user, try-copy-str-from-user, Call, Reply, numberOf, valueOf, judge}
 use Rattle.spec.specs.World.{State, answer, after}
+use Rattle.spec.specs.declared.Setup.{Setup}
 use Rattle.spec.proofs.Examples.{image184}
 
 -- frames and book with no process
-abbrev fresh : ℕ → State
-fresh n = record { store = record { frames = replicate (4096 * n) 0; book = replicate n 0 }; procs = record { all = replicate 16 zeroProc } }
+abbrev fresh : Setup → ℕ → State
+fresh setup n = record { setup = setup; store = record { frames = replicate (4096 * n) 0; book = replicate n 0 }; procs = record { all = replicate 16 zeroProc } }
 
 abbrev call : ℕ → Ask → Call
 call n q = record { number = n; ask = q }
@@ -43,22 +44,49 @@ calls =
     ∷ call 1 (copy-to-user 73730 (5 ∷ 6 ∷ []))
     ∷ call 1 (break 77825)
     ∷ call 1 (copy-from-user (replicate 3 9) 77823)
-    ∷ call 1 (fork 2 (segment 65536 69632 1 ∷ segment 69632 73728 3 ∷ stack ∷ []))
+    ∷ call 1 (fork 2 (segment 65536 69632 1 ∷ segment 69632 73728 3 ∷ stack deposit ∷ []))
     ∷ call 2 (copy-to-user 73730 (7 ∷ []))
     ∷ call 1 (copy-from-user (replicate 2 9) 73730)
     ∷ call 2 (copy-from-user (replicate 2 9) 73730)
     ∷ call 1 (break 73729)
     ∷ call 1 (copy-from-user (replicate 2 9) 73730)
     ∷ call 1 (user-range-ok 77823 1 false)
-    ∷ call 1 (try-copy-str-from-user (replicate 5 9) (ustktop - 8))
+    ∷ call 1 (try-copy-str-from-user (replicate 5 9) (deposit .ustktop - 8))
     ∷ call 2 (copy-to-user 65536 (1 ∷ []))
     ∷ call 2 (break 0)
     ∷ call 1 end
     ∷ []
 
-pub played : map told (play (fresh 16) calls)
+pub played : map told (play (fresh deposit 16) calls)
     ≡ (0 ∷ 0 ∷ []) ∷ (0 ∷ 0 ∷ 1 ∷ 2 ∷ 3 ∷ 4 ∷ 0 ∷ 0 ∷ []) ∷ (0 ∷ 0 ∷ []) ∷ (0 ∷ 0 ∷ []) ∷ (0 ∷ 0 ∷ 0 ∷ 0 ∷ 0 ∷ []) ∷ (0 ∷ 0 ∷ []) ∷ (0 ∷ 0 ∷ [])
     ∷ (0 ∷ 0 ∷ 5 ∷ 6 ∷ []) ∷ (0 ∷ 0 ∷ 7 ∷ 6 ∷ []) ∷ (0 ∷ 0 ∷ []) ∷ (0 ∷ 0 ∷ 5 ∷ 6 ∷ []) ∷ (0 ∷ 1 ∷ []) ∷ (0 ∷ 3 ∷ 108 ∷ 101 ∷ 120 ∷ 9 ∷ 9 ∷ [])
     ∷ (35 ∷ 0 ∷ []) ∷ (4 ∷ 0 ∷ []) ∷ (0 ∷ 0 ∷ []) ∷ []
-unfolding ehdrError phdrs phdrError segmentsOf elfError ibrk argBuffer copyArgv place release pokes soundBook pageBytes zeroPage judge answer after
+unfolding setupOk ehdrError phdrs phdrError segmentsOf elfError ibrk argBuffer copyArgv place release pokes soundBook pageBytes zeroPage judge answer after
 played = refl
+
+-- ---- other setups
+
+-- a school's: 1 MB of addresses, one page of stack
+abbrev school : Setup
+school = record { utzero = 65536; ustktop = 1048576; ustksize = 4096; uaddrtop = 1048576 }
+
+-- a break one page past its limit, and to it, which wants more frames; its last byte and an empty range one past it, a start with arguments over a quarter of its stack
+pub at-school : map told (play (fresh school 4)
+    (call 1 (start image184 (ascii "bin/lex") (replicate 1000 7) (1000 ∷ []))
+    ∷ call 1 (start image184 (ascii "bin/lex") (replicate 999 7) (999 ∷ []))
+    ∷ call 1 (break 1044480)
+    ∷ call 1 (break 1040384)
+    ∷ call 1 (user-range-ok 1048575 1 true)
+    ∷ call 1 (user-range-ok 1048577 0 true)
+    ∷ []))
+    ≡ (33 ∷ 0 ∷ []) ∷ (0 ∷ 0 ∷ []) ∷ (34 ∷ 0 ∷ []) ∷ (33 ∷ 0 ∷ []) ∷ (0 ∷ 1 ∷ []) ∷ (0 ∷ 0 ∷ []) ∷ []
+unfolding setupOk ehdrError phdrs phdrError segmentsOf elfError ibrk argBuffer copyArgv place release pokes soundBook pageBytes zeroPage judge answer after
+at-school = refl
+
+-- a bad one: 1 comes before 38, and 38 before all else
+abbrev bad : Setup
+bad = record { utzero = 65536; ustktop = 1048576; ustksize = 4095; uaddrtop = 1048576 }
+
+pub turned-away : map told (play (fresh bad 16) (call 1 (start image184 [] [] (1 ∷ [])) ∷ call 17 end ∷ [])) ≡ (1 ∷ 0 ∷ []) ∷ (38 ∷ 0 ∷ []) ∷ []
+unfolding setupOk judge answer after
+turned-away = refl

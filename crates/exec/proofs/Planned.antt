@@ -9,7 +9,7 @@ use lib.ListN.{length, take, set, replicate}
 use lib.Seq.{take-all, take-append-seam, set-append-seam}
 use borrow.Author.Tests.{eqb-true, ne-eqb, lt-ltb, le-ltb}
 use Rattle.spec.specs.Tests.{_is_}
-use Rattle.spec.specs.Numbers.{limit, pageUp, ustksize}
+use Rattle.spec.specs.Numbers.{SetupOk, limit, pageUp}
 use Rattle.spec.specs.Book.{zeroSegment, stack, bssSegment, pageCount}
 use Rattle.spec.specs.Elf.{entry, elfError, Segment, segmentsOf}
 use Rattle.spec.specs.Exec.{layoutOk, bssOf, imageSegments, imageBss, imageError, startPieces}
@@ -19,58 +19,57 @@ use Rattle.laws.proofs.Accepted.{accepted-means, recorded-all}
 use Rattle.laws.proofs.Headers.{AllLoad, elf-loads}
 use Rattle.spec.proofs.Bools.{split}
 use Rattle.spec.proofs.Free.{count-append}
+use Rattle.spec.specs.declared.Setup.{Setup}
 use Rattle.recorded.specs.Pages.{recorded}
 use Rattle.exec.specs.Plan.{refusedPlan, acceptedPlan, planOf}
 use Rattle.exec.specs.declared.Plan.{Plan}
 
-module _ (image : List ℕ) where
-  -- ---- the four cases
+module _ (setup : Setup) where
+  module _ (image : List ℕ) where
+    -- ---- the four cases
 
-  pub plan-elf : (n : ℕ) → n ≡ elfError image → (n ≡ 0 → ⊥) → refusedPlan 30 n ≡ planOf image
-  unfolding planOf
-  plan-elf n e nz = rw (← e, ne-eqb n 0 nz)
+    pub plan-elf : (n : ℕ) → n ≡ elfError image → (n ≡ 0 → ⊥) → refusedPlan 30 n ≡ planOf setup image
+    unfolding planOf
+    plan-elf n e nz = rw (← e, ne-eqb n 0 nz)
 
-  pub plan-layout : elfError image ≡ 0 → layoutOk (segmentsOf image) ≡ false → refusedPlan 30 0 ≡ planOf image
-  unfolding planOf
-  plan-layout e l = rw (e, l)
+    pub plan-layout : elfError image ≡ 0 → layoutOk setup (segmentsOf image) ≡ false → refusedPlan 30 0 ≡ planOf setup image
+    unfolding planOf
+    plan-layout e l = rw (e, l)
 
-  pub plan-many : elfError image ≡ 0 → layoutOk (segmentsOf image) ≡ true → 15 < length (imageSegments image) → refusedPlan 31 0 ≡ planOf image
-  unfolding planOf
-  plan-many e l m = rw (e, l, lt-ltb 15 (length (imageSegments image)) m)
+    pub plan-many : elfError image ≡ 0 → layoutOk setup (segmentsOf image) ≡ true → 15 < length (imageSegments image) → refusedPlan 31 0 ≡ planOf setup image
+    unfolding planOf
+    plan-many e l m = rw (e, l, lt-ltb 15 (length (imageSegments image)) m)
 
-  pub plan-yes : elfError image ≡ 0 → layoutOk (segmentsOf image) ≡ true → length (imageSegments image) ≤ 15 → planOf image ≡ acceptedPlan image
-  unfolding planOf
-  plan-yes e l m = rw (e, l, le-ltb 15 (length (imageSegments image)) m)
+    pub plan-yes : elfError image ≡ 0 → layoutOk setup (segmentsOf image) ≡ true → length (imageSegments image) ≤ 15 → planOf setup image ≡ acceptedPlan setup image
+    unfolding planOf
+    plan-yes e l m = rw (e, l, le-ltb 15 (length (imageSegments image)) m)
 
-  -- ---- its bss and its pages
+    -- ---- its bss and its pages
 
-  -- the bss starts at most at limit
-  pub bss-low : elfError image ≡ 0 → layoutOk (segmentsOf image) ≡ true → imageBss image .start ≤ limit
-  bss-low e l = go (segmentsOf image) (elf-loads image e) l
-    where
-      go : (gs : List Segment) → AllLoad 0 gs → layoutOk gs ≡ true → bssOf gs .start ≤ limit
-      go [] a l = omega arith
-      go (g ∷ gs) a l = let b = recorded-all 0 g gs a l .bss-ok in omega (arith, b .order, b .low)
+    -- the bss starts at most at limit
+    pub bss-low : SetupOk setup → elfError image ≡ 0 → layoutOk setup (segmentsOf image) ≡ true → imageBss image .start ≤ limit setup
+    bss-low ok e l = go (segmentsOf image) (elf-loads image e) l
+      where
+        go : (gs : List Segment) → AllLoad 0 gs → layoutOk setup gs ≡ true → bssOf gs .start ≤ limit setup
+        go [] a l = omega arith
+        go (g ∷ gs) a l = let b = recorded-all setup ok 0 g gs a l .bss-ok in omega (arith, b .order, b .low)
 
-  -- pages are those of the segments, of the bss behind them, and of the stack
-  pub all-pages : pageCount (startPieces image) ≡ pageCount (imageSegments image) + (imageBss image .end - pageUp (imageBss image .start)) / 4096 + ustksize / 4096
-  all-pages = count-append (imageSegments image) (bssSegment (imageBss image) ∷ stack ∷ []) ∙ sum (pageCount (imageSegments image)) ((imageBss image .end - pageUp (imageBss image .start)) / 4096)
-    where
-      sum : (a b : ℕ) → a + (b + (4 + 0)) ≡ a + b + 4
-      sum a b = omega arith
+    -- pages are those of the segments, of the bss behind them, and of the stack
+    pub all-pages : SetupOk setup → pageCount (startPieces setup image) ≡ pageCount (imageSegments image) + (imageBss image .end - pageUp (imageBss image .start)) / 4096 + setup .ustksize / 4096
+    all-pages ok = count-append (imageSegments image) (bssSegment (imageBss image) ∷ stack setup ∷ []) ∙ omega arith
 
--- ---- its recorded segments
+  -- ---- its recorded segments
 
-module _ (us : List UserSegment) (h : length us ≤ 15) where
-  -- those of the image, of the record's array
-  pub first-ones : take (length us) (recorded us .segments) ≡ us
-  first-ones = rw (take-all 15 us h) (take-append-seam us (replicate (16 - length us) zeroSegment))
+  module _ (us : List UserSegment) (h : length us ≤ 15) where
+    -- those of the image, of the record's array
+    pub first-ones : take (length us) (recorded us .segments) ≡ us
+    first-ones = rw (take-all 15 us h) (take-append-seam us (replicate (16 - length us) zeroSegment))
 
-  -- and the stack behind them
-  pub with-stack : set (recorded us .segments) (length us) stack ≡ us ++ stack ∷ replicate (15 - length us) zeroSegment
-  with-stack =
-      let one : 16 - length us ≡ suc (15 - length us) = omega arith in
-      rw (take-all 15 us h, one) (set-append-seam us zeroSegment (replicate (15 - length us) zeroSegment) stack)
+    -- and the stack behind them
+    pub with-stack : set (recorded us .segments) (length us) (stack setup) ≡ us ++ stack setup ∷ replicate (15 - length us) zeroSegment
+    with-stack =
+        let one : 16 - length us ≡ suc (15 - length us) = omega arith in
+        rw (take-all 15 us h, one) (set-append-seam us zeroSegment (replicate (15 - length us) zeroSegment) (stack setup))
 
 -- a plan field by field
 pub same-plan : (e e′ : ℕ) (s s′ : List UserSegment) (c c′ : ℕ) (b b′ : VirtRange) (p p′ : ℕ) → e ≡ e′ → s ≡ s′ → c ≡ c′ → b ≡ b′ → p ≡ p′
@@ -80,17 +79,18 @@ same-plan e e′ s s′ c c′ b b′ p p′ ee es ec eb ep = rw (ee, es, ec, eb
 
 -- ---- what a caller reads off a plan
 
-module _ (image : List ℕ) where
-  -- its numbers are the image's
-  pub plan-number : planOf image .number ≡ imageError image
-  unfolding planOf
-  plan-number = split (imageError image is 0) (λ q. rw (ap not q) (sym (eqb-true (imageError image) 0 q))) (λ q. rw (ap not q))
+module _ (setup : Setup) where
+  module _ (image : List ℕ) where
+    -- its numbers are the image's
+    pub plan-number : planOf setup image .number ≡ imageError setup image
+    unfolding planOf
+    plan-number = split (imageError setup image is 0) (λ q. rw (ap not q) (sym (eqb-true (imageError setup image) 0 q))) (λ q. rw (ap not q))
 
-  pub plan-elf-number : planOf image .elf ≡ elfError image
-  unfolding planOf
-  plan-elf-number =
-      split (imageError image is 0) (λ q. rw (ap not q) (sym (accepted-means image (eqb-true (imageError image) 0 q) .elf))) (λ q. rw (ap not q))
+    pub plan-elf-number : planOf setup image .elf ≡ elfError image
+    unfolding planOf
+    plan-elf-number =
+        split (imageError setup image is 0) (λ q. rw (ap not q) (sym (accepted-means setup image (eqb-true (imageError setup image) 0 q) .elf))) (λ q. rw (ap not q))
 
-  -- and an accepted image's plan is all that it gives
-  pub plan-accepted : imageError image ≡ 0 → planOf image ≡ acceptedPlan image
-  plan-accepted e = let a = accepted-means image e in plan-yes image (a .elf) (a .layout) (a .few)
+    -- and an accepted image's plan is all that it gives
+    pub plan-accepted : imageError setup image ≡ 0 → planOf setup image ≡ acceptedPlan setup image
+    plan-accepted e = let a = accepted-means setup image e in plan-yes setup image (a .elf) (a .layout) (a .few)

@@ -8,6 +8,7 @@ use Rattle.spec.specs.Tests.{_isnt_, _⇒_else_}
 use Rattle.spec.specs.Book.{range, zeroSegment, stack, pageCount}
 use Rattle.spec.specs.Elf.{entry, elfError}
 use Rattle.spec.specs.Exec.{imageSegments, imageBss, imageError, startPieces}
+use Rattle.spec.specs.declared.Setup.{Setup}
 use Rattle.exec.specs.declared.Plan.{Plan}
 
 -- a refusal answers zeros but for its numbers
@@ -15,17 +16,17 @@ abbrev pub refusedPlan : ℕ → ℕ → Plan
 refusedPlan number elf = record { number = number; elf = elf; entry = 0; segments = replicate 16 zeroSegment; count = 0; bss = range 0 0; pages = 0 }
 
 -- an accepted image answers its entry point, segments, bss and pages
-abbrev pub acceptedPlan : List ℕ → Plan
-acceptedPlan image = record {
+abbrev pub acceptedPlan : Setup → List ℕ → Plan
+acceptedPlan setup image = record {
   number = 0;
   elf = 0;
   entry = entry image;
-  segments = imageSegments image ++ stack ∷ replicate (15 - length (imageSegments image)) zeroSegment;
+  segments = imageSegments image ++ stack setup ∷ replicate (15 - length (imageSegments image)) zeroSegment;
   count = length (imageSegments image);
   bss = imageBss image;
-  pages = pageCount (startPieces image);
+  pages = pageCount (startPieces setup image);
 }
 
 -- what a start needs of an image
-unfoldable pub planOf : List ℕ → Plan
-planOf image = imageError image isnt 0 ⇒ refusedPlan (imageError image) (elfError image) else acceptedPlan image
+unfoldable pub planOf : Setup → List ℕ → Plan
+planOf setup image = imageError setup image isnt 0 ⇒ refusedPlan (imageError setup image) (elfError image) else acceptedPlan setup image

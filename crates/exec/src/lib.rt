@@ -3,6 +3,7 @@
 
 ghost use mathlib.Core.Path.{_≡_};
 ghost use mathlib.Core.Bool.{true};
+ghost use Rattle.spec.specs.Numbers.{SetupOk};
 ghost use Rattle.spec.specs.Elf.{segmentsOf};
 ghost use Rattle.spec.specs.Exec.{layoutOk, imageBss};
 ghost use Rattle.elf.specs.Reader.{said, parsed};
@@ -11,6 +12,7 @@ ghost use Rattle.exec.specs.Plan.{refusedPlan, planOf};
 use elf::Elf;
 use elf::Parsed;
 use layout::Fit;
+use spec::Setup;
 use spec::UserSegment;
 use spec::VirtRange;
 
@@ -47,12 +49,14 @@ fn refused(number: u64, elf: u64) -> Plan
 }
 
 // The plan of an image whose layout is right, given its bss: its segments, which may be too many, then the stack, and its pages.
-fn fill(image: &[u8], h: Elf, bss: VirtRange) -> Plan
+fn fill(setup: Setup, image: &[u8], h: Elf, bss: VirtRange) -> Plan
     requires { ⌜ said (Parsed.Elf h) ≡ parsed (now image) ⌝ }
-    requires { ⌜ layoutOk (segmentsOf (now image)) ≡ true ⌝ }
+    requires { ⌜ layoutOk setup (segmentsOf (now image)) ≡ true ⌝ }
     requires { ⌜ bss ≡ imageBss (now image) ⌝ }
-    ensures { λ r. ⌜ r ≡ planOf (now (image .entry)) ⌝ }
+    requires { ⌜ SetupOk setup ⌝ }
+    ensures { λ r. ⌜ r ≡ planOf setup (now (image .entry)) ⌝ }
 {
+    let size = setup.ustksize;
     let r = recorded::segments(image, h, bss);
     let count = r.count;
     let mut segments = r.segments;
@@ -63,16 +67,9 @@ fn fill(image: &[u8], h: Elf, bss: VirtRange) -> Plan
         start: mem::page_up(bss.start),
         end: bss.end,
     };
-    let pages = mem::page_count(segments, count)
-        + mem::pages(behind)
-        + spec::USTKSIZE / spec::PAGE_SIZE_4K;
-    segments[count] = UserSegment {
-        range: VirtRange {
-            start: spec::USTKTOP - spec::USTKSIZE,
-            end: spec::USTKTOP,
-        },
-        perm: spec::DATA,
-    };
+    let pages = mem::page_count(segments, count) + mem::pages(behind) + size / spec::PAGE_SIZE_4K;
+    let stack = setup::stack(setup);
+    segments[count] = stack;
     Plan {
         number: 0,
         elf: 0,
@@ -85,27 +82,29 @@ fn fill(image: &[u8], h: Elf, bss: VirtRange) -> Plan
 }
 
 // The plan of an image that was parsed: its layout, then the rest.
-fn plan_parsed(image: &[u8], h: Elf) -> Plan
+fn plan_parsed(setup: Setup, image: &[u8], h: Elf) -> Plan
     requires { ⌜ said (Parsed.Elf h) ≡ parsed (now image) ⌝ }
-    ensures { λ r. ⌜ r ≡ planOf (now (image .entry)) ⌝ }
+    requires { ⌜ SetupOk setup ⌝ }
+    ensures { λ r. ⌜ r ≡ planOf setup (now (image .entry)) ⌝ }
 {
-    let f = layout::layout(image, h);
+    let f = layout::layout(setup, image, h);
     match f {
         Fit::Refused => refused(spec::EBADEXEC, 0),
         Fit::Fits(l) => {
             let bss = l.bss;
-            fill(image, h, bss)
+            fill(setup, image, h, bss)
         }
     }
 }
 
 // All that a start or a replace needs of an image but its bytes: the first steps of r9's exec and load. Nothing is mapped.
-pub fn plan_of(image: &[u8]) -> Plan
-    ensures { λ r. ⌜ r ≡ planOf (now (image .entry)) ⌝ }
+pub fn plan_of(setup: Setup, image: &[u8]) -> Plan
+    requires { ⌜ SetupOk setup ⌝ }
+    ensures { λ r. ⌜ r ≡ planOf setup (now (image .entry)) ⌝ }
 {
     let p = elf::parse(image);
     match p {
         Parsed::Refused(e) => refused(spec::EBADEXEC, elf::error_number(e)),
-        Parsed::Elf(h) => plan_parsed(image, h),
+        Parsed::Elf(h) => plan_parsed(setup, image, h),
     }
 }

@@ -7,6 +7,7 @@ use mathlib.Core.List.{List}
 use lib.ListN.{length}
 use borrow.Author.Tests.{eqb-true, le-ltb}
 use Rattle.spec.specs.Tests.{_is_, _below_, _⇒_else_}
+use Rattle.spec.specs.Numbers.{setupOk}
 use Rattle.spec.specs.Book.{valid}
 use Rattle.spec.specs.Frames.{sized}
 use Rattle.spec.specs.World.{State, sound, taken}
@@ -51,6 +52,7 @@ none-here false k e z h = absurd (let w : (k is 0) ≡ true = rw h in let v : fa
 pub record Passed (s : State) (n : ℕ) (fits : Bool) : Type 0 where
   pub sizes : sized (s .store) ≡ true
   pub lengths : fits ≡ true
+  pub setup : setupOk (s .setup) ≡ true
   pub book : sound s ≡ true
   pub number : valid n ≡ true
 
@@ -58,10 +60,11 @@ pub number-none : (s : State) (n : ℕ) (fits : Bool) → numberError s n fits �
 unfolding numberError
 number-none s n fits e =
     let p1 = none-here (sized (s .store) && fits) 1 _ refl e in
-    let p2 = none-here (sound s) 2 _ refl (p1 .1) in
+    let p38 = none-here (setupOk (s .setup)) 38 _ refl (p1 .1) in
+    let p2 = none-here (sound s) 2 _ refl (p38 .1) in
     let p3 = none-here (valid n) 3 0 refl (p2 .1) in
     let b = both (sized (s .store)) fits (p1 .0) in
-    record { sizes = b .0; lengths = b .1; book = p2 .0; number = p3 .0 }
+    record { sizes = b .0; lengths = b .1; setup = p38 .0; book = p2 .0; number = p3 .0 }
 
 -- and the process lives
 pub plain-none : (s : State) (n : ℕ) (fits : Bool) → plainError s n fits ≡ 0 → Passed s n fits × (taken s n ≡ true)

@@ -1,29 +1,32 @@
--- Numbers 1 to 5, which come first in every call, in this order: the first that is given, or 0. The specification gives them in
+-- Numbers 1, 38 and 2 to 5, which come first in every call, in this order: the first that is given, or 0. The specification gives them in
 -- `answer` and `judge`, call by call; here they stand once for each kind of call, as the functions look them up.
 -- Assumes nothing.
 use Prim.Native.Nat.{ℕ}
 use mathlib.Core.Bool.{Bool, true, not, _&&_}
 use mathlib.Core.List.{List}
 use Rattle.spec.specs.Tests.{_⇒_else_, _orElse_}
+use Rattle.spec.specs.Numbers.{setupOk}
 use Rattle.spec.specs.Book.{valid}
 use Rattle.spec.specs.Frames.{sized}
 use Rattle.spec.specs.Machine.{Ask, Call}
 use Rattle.spec.specs.World.{State, sound, taken}
 use Rattle.spec.specs.declared.Procs.{Procs}
+use Rattle.spec.specs.declared.Setup.{Setup}
 use Rattle.book.specs.Lent.{store}
 
--- frames, book and records as a state
-abbrev pub stateOf : List ℕ → List ℕ → Procs → State
-stateOf frames book procs = record { store = store frames book; procs = procs }
+-- the setup, frames, book and records as a state
+abbrev pub stateOf : Setup → List ℕ → List ℕ → Procs → State
+stateOf setup frames book procs = record { setup = setup; store = store frames book; procs = procs }
 
 -- a call of process n
 abbrev pub call : ℕ → Ask → Call
 call n q = record { number = n; ask = q }
 
--- 1 to 3; `fits`: the call's argument lengths sum to their bytes
+-- 1, 38, 2 and 3; `fits`: the call's argument lengths sum to their bytes
 unfoldable pub numberError : State → ℕ → Bool → ℕ
 numberError s n fits =
     not (sized (s .store) && fits) ⇒ 1 else
+    not (setupOk (s .setup)) ⇒ 38 else
     not (sound s) ⇒ 2 else
     not (valid n) ⇒ 3 else
     0

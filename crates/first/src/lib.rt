@@ -1,4 +1,4 @@
-// Numbers 1 to 3, which come first in every call, in that order: sizes, the book, the process's number. The check of the book is
+// Numbers 1, 38, 2 and 3, which come first in every call, in that order: sizes, the setup, the book, the process's number. The check of the book is
 // made here, once a call.
 
 ghost use mathlib.Core.Path.{_≡_};
@@ -9,6 +9,7 @@ ghost use Rattle.book.specs.Lent.{store};
 ghost use Rattle.first.specs.Numbers.{stateOf, numberError};
 use procs::is_number;
 use spec::Procs;
+use spec::Setup;
 
 // Frame bytes are 4,096 × words, words 1 to 1,024.
 pub fn sizes_ok(frames: &[u8], book: &[u64]) -> bool
@@ -21,9 +22,10 @@ pub fn sizes_ok(frames: &[u8], book: &[u64]) -> bool
     (frames.len() == 4096 * words) & (!(words < 1) & (words < 1025))
 }
 
-// 1 to 3 of a call: the first that is given, or 0. `fits`: its argument lengths sum to their bytes. Where none is given, the three
+// 1, 38, 2 and 3 of a call: the first that is given, or 0. `fits`: its argument lengths sum to their bytes. Where none is given, the three
 // lists are ready for the call's lookups.
 pub fn number_ready(
+    setup: Setup,
     frames: &[u8],
     book: &[u64],
     procs: Procs,
@@ -34,14 +36,17 @@ pub fn number_ready(
     table: &mut [u16; 1024],
 ) -> u64
     requires { ⌜ (length (now tags) ≡ 272) × (length (now bases) ≡ 273) × (length (now table) ≡ 1024) × Blank (now table) ⌝ }
-    ensures { λ r. ⌜ r ≡ numberError (stateOf (now (frames .entry)) (now (book .entry)) procs) number fits ⌝ }
+    ensures { λ r. ⌜ r ≡ numberError (stateOf setup (now (frames .entry)) (now (book .entry)) procs) number fits ⌝ }
     ensures { λ r. ⌜ (r ≡ 0 → Ready (now (book .entry)) (now (tags .exit)) (now (bases .exit)) (now (table .exit))) ⌝ }
 {
     let ok = sizes_ok(frames, book) & fits;
     if !ok {
         return spec::SIZES;
     }
-    if !sound::prepare(book, procs, tags, bases, table) {
+    if !setup::setup_ok(setup) {
+        return spec::SETUP;
+    }
+    if !sound::prepare(setup, book, procs, tags, bases, table) {
         return spec::TORN;
     }
     if !is_number(number) {
@@ -51,13 +56,21 @@ pub fn number_ready(
 }
 
 // The same for a call that looks no page up.
-pub fn number_error(frames: &[u8], book: &[u64], procs: Procs, number: u64, fits: bool) -> u64
-    ensures { λ r. ⌜ r ≡ numberError (stateOf (now (frames .entry)) (now (book .entry)) procs) number fits ⌝ }
+pub fn number_error(
+    setup: Setup,
+    frames: &[u8],
+    book: &[u64],
+    procs: Procs,
+    number: u64,
+    fits: bool,
+) -> u64
+    ensures { λ r. ⌜ r ≡ numberError (stateOf setup (now (frames .entry)) (now (book .entry)) procs) number fits ⌝ }
 {
     let mut tags = [0u64; 272];
     let mut bases = [0u64; 273];
     let mut table = [0u16; 1024];
     number_ready(
+        setup,
         frames,
         book,
         procs,

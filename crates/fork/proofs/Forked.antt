@@ -8,10 +8,10 @@ use mathlib.Core.List.{List, [], _∷_, _++_}
 use lib.ListN.{length, replicate}
 use borrow.Author.Tests.{lt-ltb, le-ltb}
 use Rattle.spec.specs.Book.{valid, frameOf, permIn, zeroSegment, stack, bssSegment, inSegment, permAt, procAt}
-use Rattle.spec.specs.Numbers.{utzero}
 use Rattle.spec.specs.Sound.{ImageSegment, Shape, Sound}
 use Rattle.spec.specs.Frames.{Store, memOf, pagesOf, place, frameBytes}
 use Rattle.spec.specs.Machine.{fork, plainly, Machine, own, weigh}
+use Rattle.spec.specs.declared.Setup.{Setup}
 use Rattle.spec.specs.declared.UserSegment.{UserSegment}
 use Rattle.spec.specs.declared.Proc.{Proc}
 use Rattle.spec.specs.declared.Procs.{Procs}
@@ -108,14 +108,14 @@ each-found (g ∷ gs) = (
 )
 
 -- a piece with pages has the permission of its first address
-each-small : (gs hs : List UserSegment) → Pieces (gs ++ hs) → Each ImageSegment gs → ((a q : ℕ) → permAt (gs ++ hs) a ≡ some q → q < 16) → Each (λ g. g .perm < 16) gs
-each-small [] hs p i h = tt
-each-small (g ∷ gs) hs p i h = (
+each-small : (setup : Setup) (gs hs : List UserSegment) → Pieces (gs ++ hs) → Each (ImageSegment setup) gs → ((a q : ℕ) → permAt (gs ++ hs) a ≡ some q → q < 16) → Each (λ g. g .perm < 16) gs
+each-small setup [] hs p i h = tt
+each-small setup (g ∷ gs) hs p i h = (
   h (g .range .start) (g .perm) (rw (within-test (g .range .start) (g .range .end) (g .range .start) (omega arith) (i .0 .some-page))),
-  each-small gs hs (p .1) (i .1) (λ a q e. h a q (perm-tail g (gs ++ hs) a q (p .0) e)),
+  each-small setup gs hs (p .1) (i .1) (λ a q e. h a q (perm-tail g (gs ++ hs) a q (p .0) e)),
 )
 
-module _ (book : List ℕ) (ps : Procs) (whole : record-laws.Whole ps) (sound : Sound book ps) (n : ℕ) (v : valid n ≡ true) (image : List UserSegment) (shape : Shape (procAt ps n) image) where
+module _ {setup : Setup} (book : List ℕ) (ps : Procs) (whole : record-laws.Whole ps) (sound : Sound setup book ps) (n : ℕ) (v : valid n ≡ true) (image : List UserSegment) (shape : Shape setup (procAt ps n) image) where
   abbrev p : Proc
   p = procAt ps n
 
@@ -123,27 +123,27 @@ module _ (book : List ℕ) (ps : Procs) (whole : record-laws.Whole ps) (sound : 
   bss = bssSegment (p .bss)
 
   abbrev ends : List UserSegment
-  ends = stack ∷ bss ∷ []
+  ends = stack setup ∷ bss ∷ []
 
   found-mapped : (g : UserSegment) → Found (image ++ ends) g → Mapped book n (g .range .start) (g .range .end)
   found-mapped g h page z l u =
       let r = h page (within-test (g .range .start) (g .range .end) page l u) in
-      frame-perm book n page (r .0) (sound .exact n page v z ∙ ap (λ (gs : List UserSegment). permAt gs page) (shape-pieces p image shape) ∙ r .1)
+      frame-perm book n page (r .0) (sound .exact n page v z ∙ ap (λ (gs : List UserSegment). permAt gs page) (shape-pieces setup p image shape) ∙ r .1)
 
   found : Each (Found (image ++ ends)) image × Each (Found (image ++ ends)) ends
   found = each-parts (Found (image ++ ends)) image ends (each-found (image ++ ends))
 
   small : Each (λ g. g .perm < 16) image
   small =
-      each-small image ends (subst Pieces (shape-pieces p image shape) (own-pieces p image shape)) (each-image utzero image (shape-image p image shape))
-      (λ a q e. let b = sound-between book ps whole sound n a q v (ap (λ (gs : List UserSegment). permAt gs a) (shape-pieces p image shape) ∙ e) in omega (arith, b .1))
+      each-small setup image ends (subst Pieces (shape-pieces setup p image shape) (own-pieces setup (sound .accepted) p image shape)) (each-image setup (setup .utzero) image (shape-image setup p image shape))
+      (λ a q e. let b = sound-between setup book ps whole sound n a q v (ap (λ (gs : List UserSegment). permAt gs a) (shape-pieces setup p image shape) ∙ e) in omega (arith, b .1))
 
   of-image : Each (Copyable book n) image
   of-image =
-      each-map (λ g. (ImageSegment g × (g .perm < 16)) × Found (image ++ ends) g) (Copyable book n)
-      (λ g h. record { start = h .0 .0 .aligned .0; end = h .0 .0 .aligned .1; high = omega (arith, h .0 .0 .between .1); perm = h .0 .1; mapped = found-mapped g (h .1) }) image
-      (each-both (λ g. ImageSegment g × (g .perm < 16)) (Found (image ++ ends)) image
-      (each-both ImageSegment (λ g. g .perm < 16) image (each-image utzero image (shape-image p image shape)) small) (found .0))
+      each-map (λ g. (ImageSegment setup g × (g .perm < 16)) × Found (image ++ ends) g) (Copyable book n)
+      (λ g h. record { start = h .0 .0 .aligned .0; end = h .0 .0 .aligned .1; high = omega (arith, h .0 .0 .between .1, sound .accepted); perm = h .0 .1; mapped = found-mapped g (h .1) }) image
+      (each-both (λ g. ImageSegment setup g × (g .perm < 16)) (Found (image ++ ends)) image
+      (each-both (ImageSegment setup) (λ g. g .perm < 16) image (each-image setup (setup .utzero) image (shape-image setup p image shape)) small) (found .0))
 
   of-zero : Copyable book n zeroSegment
   of-zero = record { start = refl; end = refl; high = omega arith; perm = omega arith; mapped = λ page z l u. absurd (omega arith) }
@@ -151,11 +151,11 @@ module _ (book : List ℕ) (ps : Procs) (whole : record-laws.Whole ps) (sound : 
   pub copyable-segments : Each (Copyable book n) (p .segments)
   copyable-segments =
       subst (Each (Copyable book n)) (sym (shape .segments))
-      (each-append (Copyable book n) image (stack ∷ replicate (15 - length image) zeroSegment) of-image
-      (record { start = refl; end = refl; high = omega arith; perm = omega arith; mapped = found-mapped stack (found .1 .0) }, each-same (Copyable book n) zeroSegment of-zero (15 - length image)))
+      (each-append (Copyable book n) image (stack setup ∷ replicate (15 - length image) zeroSegment) of-image
+      (record { start = omega (arith, sound .accepted); end = omega (arith, sound .accepted); high = omega (arith, sound .accepted); perm = omega arith; mapped = found-mapped (stack setup) (found .1 .0) }, each-same (Copyable book n) zeroSegment of-zero (15 - length image)))
 
   pub copyable-bss : Copyable book n bss
-  copyable-bss = record { start = omega arith; end = shape .bss-end .0; high = omega (arith, shape .bss-end .1); perm = omega arith; mapped = found-mapped bss (found .1 .1 .0) }
+  copyable-bss = record { start = omega arith; end = shape .bss-end .0; high = omega (arith, shape .bss-end .1, sound .accepted); perm = omega arith; mapped = found-mapped bss (found .1 .1 .0) }
 
 -- ---- the answer
 

@@ -10,10 +10,12 @@ ghost use Rattle.spec.specs.Machine.{fork, plainly};
 ghost use Rattle.spec.specs.World.{Does};
 ghost use Rattle.sound.specs.Table.{Ready};
 ghost use Rattle.book.specs.Lent.{store};
+ghost use Rattle.spec.specs.declared.Setup.{Setup};
 ghost use Rattle.front.specs.Numbers.{stateOf, call, forkError};
 use front::left::Left;
 use spec::Answer;
 use spec::Procs;
+use spec::Setup;
 
 // Copies the pages of process `number` for `child`, as `copy_segments`: every page now, segments in record order, then the bss.
 // Callers have counted the free frames. An unused place has no pages.
@@ -27,7 +29,7 @@ fn copy_segments(
     number: u64,
     child: u64,
 )
-    requires { ⌜ forkError (stateOf (now frames) (now book) procs) number child ≡ 0 ⌝ }
+    requires { ⌜ ((setup : Setup) × (forkError (stateOf setup (now frames) (now book) procs) number child ≡ 0)) ⌝ }
     requires { ⌜ Ready (now book) (now tags) (now bases) (now table) ⌝ }
     ensures { λ _. ⌜ store (now (frames .exit)) (now (book .exit)) ≡ place (store (now (frames .entry)) (now (book .entry))) child (pagesOf (λ a. frameBytes (now (frames .entry)) (frameOf (now (book .entry)) number a)) (piecesOf (procAt procs number))) ⌝ }
 {
@@ -47,13 +49,21 @@ fn copy_segments(
 
 // Forks process `number` as `child`, whose memory and record are its parent's from now on its own. Refused with 1 to 5 or, if the
 // free frames don't hold a copy, with 33, it changes nothing. The call's list of segments is the parent's record's.
-pub fn fork(frames: &mut [u8], book: &mut [u64], procs: Procs, number: u64, child: u64) -> Left
-    ensures { λ r. ⌜ Does (stateOf (now (frames .entry)) (now (book .entry)) procs) (call number (fork child (used (procAt procs number .segments)))) (stateOf (now (frames .exit)) (now (book .exit)) (r .procs)) (plainly (r .answer)) ⌝ }
+pub fn fork(
+    setup: Setup,
+    frames: &mut [u8],
+    book: &mut [u64],
+    procs: Procs,
+    number: u64,
+    child: u64,
+) -> Left
+    ensures { λ r. ⌜ Does (stateOf setup (now (frames .entry)) (now (book .entry)) procs) (call number (fork child (used (procAt procs number .segments)))) (stateOf setup (now (frames .exit)) (now (book .exit)) (r .procs)) (plainly (r .answer)) ⌝ }
 {
     let mut tags = [0u64; 272];
     let mut bases = [0u64; 273];
     let mut table = [0u16; 1024];
     let e = front::numbers::fork_ready(
+        setup,
         frames,
         book,
         procs,

@@ -7,6 +7,7 @@ use lib.Dec.{eqb}
 use native.Mathlib.Omega.{arith}
 use borrow.Author.Tests.{eqb-true}
 use Rattle.spec.specs.Tests.{_isnt_, _above_, _⇒_else_, _orElse_, same}
+use Rattle.spec.specs.Numbers.{setupOk}
 use Rattle.spec.specs.Book.{valid, free, sameSegment, used, procAt, zeroProc}
 use Rattle.spec.specs.Frames.{sized}
 use Rattle.spec.specs.Machine.{Ask, fork, Reply, plainly, refuse, judge, weigh, own}
@@ -15,7 +16,7 @@ use Rattle.spec.specs.declared.UserSegment.{UserSegment}
 use Rattle.spec.specs.declared.Answer.{Answer}
 use Rattle.spec.specs.declared.Answer.the-variants.{Done, Refused}
 use Rattle.spec.specs.declared.Proc.{Proc}
-use Rattle.spec.proofs.Bools.{split, clash}
+use Rattle.spec.proofs.Bools.{split}
 use Rattle.laws.proofs.Checks.{or-else}
 use Rattle.front.specs.Numbers.{call, numberError, forkError}
 use Rattle.front.specs.declared.left.Left.{Left}
@@ -24,15 +25,16 @@ use Rattle.front.proofs.First.{fork-none}
 use Rattle.forks.specs.Fork.{recordOf, listError, forkNumber}
 
 -- the numbers that come first, over the tests' outcomes
-abbrev first-of : (z d v w t f : Bool) → ℕ
-first-of z d v w t f = (not (z && true) ⇒ 1 else not d ⇒ 2 else not v ⇒ 3 else 0) orElse (not w ⇒ 3 else not t ⇒ 4 else not (not f) ⇒ 5 else 0)
+abbrev first-of : (z u d v w t f : Bool) → ℕ
+first-of z u d v w t f = (not (z && true) ⇒ 1 else not u ⇒ 38 else not d ⇒ 2 else not v ⇒ 3 else 0) orElse (not w ⇒ 3 else not t ⇒ 4 else not (not f) ⇒ 5 else 0)
 
 abbrev list-of : (a v : Bool) → ℕ → ℕ
-list-of a v e = (not a && e isnt 1) && v ⇒ 2 else e
+list-of a v e = ((not a && e isnt 1) && e isnt 38) && v ⇒ 2 else e
 
-abbrev chain : (z d v w t f a : Bool) → Ask → Reply → Reply
-chain z d v w t f a q x =
+abbrev chain : (z u d v w t f a : Bool) → Ask → Reply → Reply
+chain z u d v w t f a q x =
     not (z && true) ⇒ refuse 1 q else
+    not u ⇒ refuse 38 q else
     not d ⇒ refuse 2 q else
     not (not v || a) ⇒ refuse 2 q else
     not (v && w) ⇒ refuse 3 q else
@@ -40,37 +42,41 @@ chain z d v w t f a q x =
     not (not f) ⇒ refuse 5 q else
     x
 
-chain-is : (z d v w t f a : Bool) (q : Ask) (x : Reply) → chain z d v w t f a q x ≡ orRefuse (list-of a v (first-of z d v w t f)) q x
-chain-is false d v w t f true q x = refl
-chain-is false d v w t f false q x = refl
-chain-is true false true w t f true q x = refl
-chain-is true false true w t f false q x = refl
-chain-is true false false w t f true q x = refl
-chain-is true false false w t f false q x = refl
-chain-is true true false w t f true q x = refl
-chain-is true true false w t f false q x = refl
-chain-is true true true false t f true q x = refl
-chain-is true true true false t f false q x = refl
-chain-is true true true true false f true q x = refl
-chain-is true true true true false f false q x = refl
-chain-is true true true true true true true q x = refl
-chain-is true true true true true true false q x = refl
-chain-is true true true true true false true q x = refl
-chain-is true true true true true false false q x = refl
+chain-is : (z u d v w t f a : Bool) (q : Ask) (x : Reply) → chain z u d v w t f a q x ≡ orRefuse (list-of a v (first-of z u d v w t f)) q x
+chain-is false u d v w t f true q x = refl
+chain-is false u d v w t f false q x = refl
+chain-is true false d v w t f true q x = refl
+chain-is true false d v w t f false q x = refl
+chain-is true true false true w t f true q x = refl
+chain-is true true false true w t f false q x = refl
+chain-is true true false false w t f true q x = refl
+chain-is true true false false w t f false q x = refl
+chain-is true true true false w t f true q x = refl
+chain-is true true true false w t f false q x = refl
+chain-is true true true true false t f true q x = refl
+chain-is true true true true false t f false q x = refl
+chain-is true true true true true false f true q x = refl
+chain-is true true true true true false f false q x = refl
+chain-is true true true true true true true true q x = refl
+chain-is true true true true true true true false q x = refl
+chain-is true true true true true true false true q x = refl
+chain-is true true true true true true false false q x = refl
 
 list-zero : (a v : Bool) (e : ℕ) → list-of a v e ≡ 0 → (e ≡ 0) × (v ≡ true → a ≡ true)
 list-zero true v e h = (h, λ t. refl)
-list-zero false false e h =
+list-zero false v e h =
     split (eqb e 1)
     (λ q. let z : e ≡ 0 = rw q at h in absurd (let w = eqb-true e 1 q in omega arith))
-    (λ q. (rw q at h, λ t. clash false t refl))
-list-zero false true e h =
-    split (eqb e 1)
-    (λ q. let z : e ≡ 0 = rw q at h in absurd (let w = eqb-true e 1 q in omega arith))
-    (λ q. absurd (let z : 2 ≡ 0 = rw q at h in omega arith))
+    (λ q. split (eqb e 38)
+    (λ r. let z : e ≡ 0 = rw (q, r) at h in absurd (let w = eqb-true e 38 r in omega arith))
+    (λ r. behind v (rw (q, r) at h)))
+  where
+    behind : (v : Bool) → (v ⇒ 2 else e) ≡ 0 → (e ≡ 0) × (v ≡ true → false ≡ true)
+    behind true z = absurd (omega (arith, z))
+    behind false z = (z, λ t. t)
 
-unasked : (x y b : Bool) (e : ℕ) → ((x && b) && false ⇒ 2 else e) ≡ ((y && b) && false ⇒ 2 else e)
-unasked x y b e = none (x && b) ∙ sym (none (y && b))
+unasked : (x y b c : Bool) (e : ℕ) → (((x && b) && c) && false ⇒ 2 else e) ≡ (((y && b) && c) && false ⇒ 2 else e)
+unasked x y b c e = none ((x && b) && c) ∙ sym (none ((y && b) && c))
   where
     none : (z : Bool) → (z && false ⇒ 2 else e) ≡ e
     none true = refl
@@ -88,12 +94,12 @@ module _ (s : State) (n child : ℕ) (gs : List UserSegment) where
 
   answer-chain : answer s (call n asked) ≡ orRefuse (listError s n child alikeAt) asked (weigh (view s n) (free (s .store .book)) asked)
   unfolding answer judge numberError forkError listError
-  answer-chain = chain-is (sized (s .store)) (sound s) (valid n) (valid child) (taken s n) (taken s child) alikeAt asked _
+  answer-chain = chain-is (sized (s .store)) (setupOk (s .setup)) (sound s) (valid n) (valid child) (taken s n) (taken s child) alikeAt asked _
 
   -- where the number is outside 1 to 16, the list isn't asked for
   list-either : listError s n child alikeAt ≡ listError s n child alikeOf
   unfolding listError
-  list-either = split (valid n) (λ v. rw v) (λ v. rw v (unasked (not alikeAt) (not (same sameSegment gs (used (zeroProc .segments)))) (forkError s n child isnt 1) (forkError s n child)))
+  list-either = split (valid n) (λ v. rw v) (λ v. rw v (unasked (not alikeAt) (not (same sameSegment gs (used (zeroProc .segments)))) (forkError s n child isnt 1) (forkError s n child isnt 38) (forkError s n child)))
 
   weighed : (c : Bool) → plainly (c ⇒ Refused 33 else Done) ≡ orRefuse (c ⇒ 33 else 0) asked (plainly Done)
   weighed true = refl

@@ -38,11 +38,14 @@ use Rattle.spec.specs.World.{State, copy}
 use Rattle.spec.specs.declared.UserSegment.{UserSegment}
 use Rattle.spec.specs.declared.Proc.{Proc}
 use Rattle.spec.specs.declared.Procs.{Procs}
+use Rattle.spec.specs.declared.Setup.{Setup}
 use Rattle.spec.specs.declared.Answer.the-variants.{Done, Refused}
 use Rattle.spec.proofs.Proc as P
 use Rattle.spec.proofs.Proc.Laws as P′
 use Rattle.spec.proofs.Procs as Ps
 use Rattle.spec.proofs.Procs.Laws as Ps′
+use Rattle.spec.proofs.Setup as Se
+use Rattle.spec.proofs.Setup.Laws as Se′
 use Rattle.sound.specs.Table.{Ready}
 use Rattle.front.specs.Numbers.{stateOf, forkError}
 use Rattle.front.specs.declared.left.Left.{Left}
@@ -50,7 +53,7 @@ use Rattle.forks.specs.Fork.{recordOf, forkNumber}
 use Rattle.forks.specs.declared.parent.Parent.{Parent}
 use Rattle.forks.proofs.parent.Parent as Pa
 use Rattle.forks.proofs.parent.Parent.Laws as Pa′
-use Rattle.forks.proofs.Rows.{R, Rec, Recs, Par, Res}
+use Rattle.forks.proofs.Rows.{Nums, R, Rec, Recs, Par, Res}
 use Rattle.forks.proofs.Loans.{sliceAt, Owns, OwnsShared}
 use Rattle.forks.proofs.Answered.{alikeOf, number-none, list-refused, list-done}
 use Rattle.forks.proofs.recorded as recorded
@@ -61,7 +64,7 @@ use Rattle.forks.proofs.forked as forked
 use Rattle.forks.proofs.fork_list as all
 
 abbrev pub stayed : Stays (all.ended .signature .params) (all.ended .kept)
-stayed = (gave-slice (0 ∷ []) tt (plain (λ _. u8)), (gave-slice (1 ∷ []) tt (plain (λ _. u64)), (stay-none (λ _. Recs) yes, (stay-none (λ _. u64) yes, (stay-none (λ _. u64) yes, (stay-none-slice (2 ∷ []) tt (plain (λ _. R)) yes, tt))))))
+stayed = (stay-none (λ _. Nums) yes, (gave-slice (0 ∷ []) tt (plain (λ _. u8)), (gave-slice (1 ∷ []) tt (plain (λ _. u64)), (stay-none (λ _. Recs) yes, (stay-none (λ _. u64) yes, (stay-none (λ _. u64) yes, (stay-none-slice (2 ∷ []) tt (plain (λ _. R)) yes, tt)))))))
 
 module _ {M : Type 1} (𝓤 : URA M) (H : Heap 𝓤) (A : Atoms 𝓤) (at-mem : Memory → SProp 𝓤) (run : Routine → Fun 𝓤) where
   -- the contracts that the proof cites
@@ -92,6 +95,7 @@ pub record Start : Type 0 where
   pub q₀ : Share
   pub q₁ : Share
   pub q₂ : Share
+  pub setup : Setup
   pub b₀ : ℕ
   pub o₀ : ℕ
   pub γ₀ : GName
@@ -107,6 +111,7 @@ pub record Start : Type 0 where
   pub o₂ : ℕ
   pub γ₂ : GName
   pub gs : List UserSegment
+  pub isSe : Is Nums setup (LL.vals Se.the-type Se′.the-laws setup)
   pub room₀ : Room u8 (length frames)
   pub room₁ : Room u64 (length book)
   pub isPs : Is Recs procs (LL.vals Ps.the-type Ps′.the-laws procs)
@@ -123,7 +128,10 @@ mpar = LL.val Pa.the-type Pa′.the-laws
 
 module _ (c : Start) where
   abbrev pub state : State
-  state = stateOf (c .frames) (c .book) (c .procs)
+  state = stateOf (c .setup) (c .frames) (c .book) (c .procs)
+
+  abbrev pub mse : Val
+  mse = LL.val Se.the-type Se′.the-laws (c .setup)
 
   abbrev pub vf : Val
   vf = sliceVal (c .b₀, c .o₀) (length (c .frames))
@@ -147,11 +155,11 @@ module _ (c : Start) where
   abbrev pub listAt : RefT (List UserSegment)
   listAt = sliceAt R (c .b₂) (c .o₂) (c .γ₂) (c .gs)
 
-  abbrev pub a : RefT (List ℕ) × (RefT (List ℕ) × (Procs × (ℕ × (ℕ × (RefT (List UserSegment) × Unit {0})))))
-  a = (framesAt (c .γ₀), (bookAt (c .γ₁), (c .procs, (c .number, (c .child, (listAt, tt))))))
+  abbrev pub a : Setup × (RefT (List ℕ) × (RefT (List ℕ) × (Procs × (ℕ × (ℕ × (RefT (List UserSegment) × Unit {0}))))))
+  a = (c .setup, (framesAt (c .γ₀), (bookAt (c .γ₁), (c .procs, (c .number, (c .child, (listAt, tt)))))))
 
   abbrev pub at : Vals all.signature (c .κ₀, (c .κ₁, (c .κ₂, tt)))
-  at = (vf ∷ [], (vb ∷ [], (mps ∷ [], (vint w64 (c .number) ∷ [], (vint w64 (c .child) ∷ [], (vs ∷ [], tt))))))
+  at = (mse ∷ [], (vf ∷ [], (vb ∷ [], (mps ∷ [], (vint w64 (c .number) ∷ [], (vint w64 (c .child) ∷ [], (vs ∷ [], tt)))))))
 
   -- what they own
   abbrev pub OwnF : Fml
@@ -193,17 +201,17 @@ module _ (c : Start) where
     Said r = r ≡ record { procs = c .procs; answer = Refused error }
 
     abbrev pub Ended : Lists → Left → Type 0
-    Ended ws r = (stateOf (ws .0) (ws .1 .0) (r .procs) ≡ copy state (d .par .number) (c .child) (procAt (c .procs) (d .par .number))) × (r .answer ≡ Done)
+    Ended ws r = ((setup : Setup) → stateOf setup (ws .0) (ws .1 .0) (r .procs) ≡ copy (stateOf setup (c .frames) (c .book) (c .procs)) (d .par .number) (c .child) (procAt (c .procs) (d .par .number))) × (r .answer ≡ Done)
 
     abbrev pub given-forked : RefT (List ℕ) × (RefT (List ℕ) × (Procs × (Parent × (ℕ × (RefT (List UserSegment) × Unit {0})))))
     given-forked = (framesAt (c .γ₀), (bookAt (c .γ₁), (c .procs, (d .par, (c .child, (listAt, tt))))))
 
     forked-asks : error ≡ 0
-        → (forkError state (d .par .number) (c .child) ≡ 0) × (same sameSegment (c .gs) (used (procAt (c .procs) (d .par .number) .segments)) ≡ true) × Ready (c .book) (d .par .tags) (d .par .bases) (d .par .table)
+        → ((setup : Setup) × (forkError (stateOf setup (c .frames) (c .book) (c .procs)) (d .par .number) (c .child) ≡ 0)) × (same sameSegment (c .gs) (used (procAt (c .procs) (d .par .number) .segments)) ≡ true) × Ready (c .book) (d .par .tags) (d .par .bases) (d .par .table)
     forked-asks z =
         let n = subst (λ (n : ℕ). (forkError state n (c .child) ≡ 0) × (same sameSegment (c .gs) (used (procAt (c .procs) n .segments)) ≡ true)) (sym (d .judged .1))
         (number-none state (c .number) (c .child) (c .gs) (sym is-list ∙ z)) in
-        (n .0, n .1, d .judged .2 z)
+        ((c .setup, n .0), n .1, d .judged .2 z)
 
   module _ {M : Type 1} (𝓤 : URA M) (H : Heap 𝓤) (A : Atoms 𝓤) (W : Given 𝓤 H A) (at-mem : Memory → SProp 𝓤) (run : Routine → Fun 𝓤) where
     abbrev bound : walkOf 𝓤 H A all.ended stayed (all.clauses 𝓤 H A at-mem run) .Ghost
@@ -221,6 +229,9 @@ module _ (c : Start) where
 
     own-child : ent 𝓤 (emp 𝓤) (sem 𝓤 H A (u64 .own (c .child) (vint w64 (c .child) ∷ [])))
     own-child = own-word (c .child) (c .fits-child)
+
+    own-setup : ent 𝓤 (emp 𝓤) (sem 𝓤 H A (Nums .own (c .setup) (mse ∷ [])))
+    own-setup = LL.makes Se.the-type Se′.the-plain 𝓤 H A (c .setup) (mse ∷ []) (c .isSe)
 
     own-procs : ent 𝓤 (emp 𝓤) (sem 𝓤 H A (Recs .own (c .procs) (mps ∷ [])))
     own-procs = LL.makes Ps.the-type Ps′.the-plain 𝓤 H A (c .procs) (mps ∷ []) (c .isPs)
@@ -250,12 +261,12 @@ module _ (c : Start) where
 
     -- ---- the call of `prepared`: frames and book are shared for ν₀ and ν₁, under the names δ₀ and δ₁
     module _ (alike : Bool) (ν₀ : ℕ) (δ₀ : GName) (ν₁ : ℕ) (δ₁ : GName) where
-      abbrev pub given-prepared : RefT (List ℕ) × (RefT (List ℕ) × (Procs × (ℕ × (ℕ × (Bool × Unit {0})))))
-      given-prepared = (framesAt δ₀, (bookAt δ₁, (c .procs, (c .number, (c .child, (alike, tt))))))
+      abbrev pub given-prepared : Setup × (RefT (List ℕ) × (RefT (List ℕ) × (Procs × (ℕ × (ℕ × (Bool × Unit {0}))))))
+      given-prepared = (c .setup, (framesAt δ₀, (bookAt δ₁, (c .procs, (c .number, (c .child, (alike, tt)))))))
 
       abbrev pub to-prepared : Prepared 𝓤 H A at-mem run .Ghost
       to-prepared =
-          (((ν₀ ∷ [], (ν₁ ∷ [], tt)), (fullShare, (fullShare, tt)), tt, given-prepared, (vf ∷ [], (vb ∷ [], (mps ∷ [], (vint w64 (c .number) ∷ [], (vint w64 (c .child) ∷ [], (vbool alike ∷ [], tt))))))), tt)
+          (((ν₀ ∷ [], (ν₁ ∷ [], tt)), (fullShare, (fullShare, tt)), tt, given-prepared, (mse ∷ [], (vf ∷ [], (vb ∷ [], (mps ∷ [], (vint w64 (c .number) ∷ [], (vint w64 (c .child) ∷ [], (vbool alike ∷ [], tt)))))))), tt)
 
       pub asks-prepared :
           ent 𝓤 (⋆ 𝓤 H A (‵ (flft (ν₀ ∷ []) fullShare) ∷ ‵ (OwnsShared u8 (named 0) (ν₀ ∷ []) (c .b₀) (c .o₀) δ₀ (c .frames)) ∷ ‵ (flft (ν₁ ∷ []) fullShare) ∷ ‵ (OwnsShared u64 (named 1) (ν₁ ∷ []) (c .b₁) (c .o₁) δ₁ (c .book)) ∷ []))
@@ -265,7 +276,7 @@ module _ (c : Start) where
           nothing ! $ move ! (3 ∷ 0 ∷ []) $ join ! $ move ! (1 ∷ 0 ∷ []) $ join ! $ move ! (1 ∷ 2 ∷ []) $
           nothing ! $ owned ! bool (Is bool) (bool-makes 𝓤 H A W) alike _ refl $ fjoin ! $ use0 W (‵ (u64 .own (c .child) (vint w64 (c .child) ∷ []))) own-child $ fjoin ! $
           use0 W (‵ (u64 .own (c .number) (vint w64 (c .number) ∷ []))) own-number $ fjoin ! $ use0 W (‵ (Recs .own (c .procs) (mps ∷ []))) own-procs $ fjoin ! $
-          move ! (2 ∷ 0 ∷ []) $ fjoin ! $ move ! (1 ∷ 0 ∷ []) $ fjoin ! $ move ! (1 ∷ 0 ∷ []) $ join ! $ frame ! $ done !
+          move ! (2 ∷ 0 ∷ []) $ fjoin ! $ move ! (1 ∷ 0 ∷ []) $ fjoin ! $ use0 W (‵ (Nums .own (c .setup) (mse ∷ []))) own-setup $ fjoin ! $ move ! (1 ∷ 0 ∷ []) $ join ! $ frame ! $ done !
 
       pub prepared-said : (r : Parent) → ent 𝓤 (ensured 𝓤 H A prepared.ended (prepared.clauses 𝓤 H A at-mem run) (ν₀ ∷ [], (ν₁ ∷ [], tt)) given-prepared tt r) (fact 𝓤 (Judged alike r))
       prepared-said r = exE 𝓤 _ (λ ws. snd∗ 𝓤 (sem 𝓤 H A (lasts prepared.ended (ν₀ ∷ [], (ν₁ ∷ [], tt)) given-prepared ws)) (fact 𝓤 (Judged alike r)))
@@ -286,8 +297,8 @@ module _ (c : Start) where
           → ent 𝓤 (⋆ 𝓤 H A (‵ (Res .own r (u ∷ [])) ∷ ‵ (flft (c .κ₀) (c .q₀)) ∷ ‵ (flft (c .κ₁) (c .q₁)) ∷ ‵ (flft (c .κ₂) (c .q₂)) ∷ ‵ OwnF ∷ ‵ OwnB ∷ ‵ OwnS ∷ [])) (Post u)
       exits-refused r u ne h =
           qed W (‵ (Res .own r (u ∷ [])) ∷ ‵ (flft (c .κ₀) (c .q₀)) ∷ ‵ (flft (c .κ₁) (c .q₁)) ∷ ‵ (flft (c .κ₂) (c .q₂)) ∷ ‵ OwnF ∷ ‵ OwnB ∷ ‵ OwnS ∷ []) ∵
-          suffices ! _ (ends-at 𝓤 H A all.ended stayed (all.clauses 𝓤 H A at-mem run) W bound u r (c .frames, (c .book, (tt, (tt, (tt, (tt, tt)))))) (refl, (refl, (tt, (tt, (tt, (tt, tt))))))) $
-          says ! (list-refused state (c .number) (c .child) (c .gs) (error d) (is-list d) (stateOf (c .frames) (c .book) (r .procs)) r ne (ap (λ (x : Left). stateOf (c .frames) (c .book) (x .procs)) h) (ap (λ (x : Left). x .answer) h)) $
+          suffices ! _ (ends-at 𝓤 H A all.ended stayed (all.clauses 𝓤 H A at-mem run) W bound u r (tt, (c .frames, (c .book, (tt, (tt, (tt, (tt, tt))))))) (tt, (refl, (refl, (tt, (tt, (tt, (tt, tt)))))))) $
+          says ! (list-refused state (c .number) (c .child) (c .gs) (error d) (is-list d) (stateOf (c .setup) (c .frames) (c .book) (r .procs)) r ne (ap (λ (x : Left). stateOf (c .setup) (c .frames) (c .book) (x .procs)) h) (ap (λ (x : Left). x .answer) h)) $
           -- the tokens
           nothing ! $ move ! (4 ∷ 0 ∷ []) $ join ! $ move ! (3 ∷ 0 ∷ []) $ join ! $ move ! (2 ∷ 0 ∷ []) $ join ! $ frame ! $
           -- [the result; frames; book; segments]: of frames and book the last lists
@@ -297,7 +308,7 @@ module _ (c : Start) where
           use1 W (‵ (finally u64 (c .γ₁) (c .book))) (res-finally 𝓤 H A W (named 1) (c .κ₁) u64 (c .γ₁) (c .book)) $ move ! (1 ∷ []) $ drop ! $
           -- [book's last list; frames' last list; the result; segments]
           nothing ! $ move ! (4 ∷ 0 ∷ []) $ fjoin ! $ use0 W (‵ (u64 .own (c .child) (vint w64 (c .child) ∷ []))) own-child $ fjoin ! $ use0 W (‵ (u64 .own (c .number) (vint w64 (c .number) ∷ []))) own-number $ fjoin ! $
-          use0 W (‵ (Recs .own (c .procs) (mps ∷ []))) own-procs $ fjoin ! $ move ! (1 ∷ 0 ∷ []) $ fjoin ! $ move ! (1 ∷ 0 ∷ []) $ fjoin ! $ done !
+          use0 W (‵ (Recs .own (c .procs) (mps ∷ []))) own-procs $ fjoin ! $ move ! (1 ∷ 0 ∷ []) $ fjoin ! $ move ! (1 ∷ 0 ∷ []) $ fjoin ! $ use0 W (‵ (Nums .own (c .setup) (mse ∷ []))) own-setup $ fjoin ! $ done !
 
       -- ---- the call of `forked`
       abbrev pub to-forked : Forked 𝓤 H A at-mem run .Ghost
@@ -314,9 +325,9 @@ module _ (c : Start) where
           → ent 𝓤 (⋆ 𝓤 H A (‵ (Res .own r (u ∷ [])) ∷ (‵ (flft (c .κ₀) (c .q₀)) ⊛ (‵ (flft (c .κ₁) (c .q₁)) ⊛ (‵ (flft (c .κ₂) (c .q₂)) ⊛ ‵ ftrue))) ∷ ‵ (finally u64 (c .γ₁) (ws .1 .0)) ∷ ‵ (finally u8 (c .γ₀) (ws .0)) ∷ ‵ OwnS ∷ [])) (Post u)
       exits-done ws r u z e₀ e₁ h =
           qed W (‵ (Res .own r (u ∷ [])) ∷ (‵ (flft (c .κ₀) (c .q₀)) ⊛ (‵ (flft (c .κ₁) (c .q₁)) ⊛ (‵ (flft (c .κ₂) (c .q₂)) ⊛ ‵ ftrue))) ∷ ‵ (finally u64 (c .γ₁) (ws .1 .0)) ∷ ‵ (finally u8 (c .γ₀) (ws .0)) ∷ ‵ OwnS ∷ []) ∵
-          suffices ! _ (ends-at 𝓤 H A all.ended stayed (all.clauses 𝓤 H A at-mem run) W bound u r (ws .0, (ws .1 .0, (tt, (tt, (tt, (tt, tt)))))) (e₀, (e₁, (tt, (tt, (tt, (tt, tt))))))) $
-          says ! (list-done state (c .number) (c .child) (c .gs) (error d) (is-list d) (stateOf (ws .0) (ws .1 .0) (r .procs)) r z (h .0 ∙ ap (λ (n : ℕ). copy state n (c .child) (procAt (c .procs) n)) (d .judged .1)) (h .1)) $
+          suffices ! _ (ends-at 𝓤 H A all.ended stayed (all.clauses 𝓤 H A at-mem run) W bound u r (tt, (ws .0, (ws .1 .0, (tt, (tt, (tt, (tt, tt))))))) (tt, (e₀, (e₁, (tt, (tt, (tt, (tt, tt)))))))) $
+          says ! (list-done state (c .number) (c .child) (c .gs) (error d) (is-list d) (stateOf (c .setup) (ws .0) (ws .1 .0) (r .procs)) r z (h .0 (c .setup) ∙ ap (λ (n : ℕ). copy state n (c .child) (procAt (c .procs) n)) (d .judged .1)) (h .1)) $
           move ! (1 ∷ []) $ frame ! $
           -- [the result; book's last list; frames' last list; segments]
           nothing ! $ move ! (4 ∷ 0 ∷ []) $ fjoin ! $ use0 W (‵ (u64 .own (c .child) (vint w64 (c .child) ∷ []))) own-child $ fjoin ! $ use0 W (‵ (u64 .own (c .number) (vint w64 (c .number) ∷ []))) own-number $ fjoin ! $
-          use0 W (‵ (Recs .own (c .procs) (mps ∷ []))) own-procs $ fjoin ! $ move ! (2 ∷ 0 ∷ []) $ fjoin ! $ move ! (2 ∷ 0 ∷ []) $ fjoin ! $ done !
+          use0 W (‵ (Recs .own (c .procs) (mps ∷ []))) own-procs $ fjoin ! $ move ! (2 ∷ 0 ∷ []) $ fjoin ! $ move ! (2 ∷ 0 ∷ []) $ fjoin ! $ use0 W (‵ (Nums .own (c .setup) (mse ∷ []))) own-setup $ fjoin ! $ done !

@@ -14,6 +14,7 @@ use Rattle.spec.specs.Frames.{Store}
 use Rattle.spec.specs.World.{State, setProc, copy}
 use Rattle.spec.specs.declared.UserSegment.{UserSegment}
 use Rattle.spec.specs.declared.Procs.{Procs}
+use Rattle.spec.specs.declared.Setup.{Setup}
 use Rattle.spec.specs.declared.Answer.the-variants.{Done}
 use Rattle.spec.proofs.Bools.{split, within-means}
 use Rattle.spec.proofs.Lists.{same-means}
@@ -59,18 +60,18 @@ copied-all m t number child gs fits small other can e =
     subst (λ (x : Store). Copied m x number child gs) (c .is ∙ sym e) c
 
 module _ (frames book : List ℕ) (procs : Procs) (parent : Parent) (child : ℕ) (gs : List UserSegment) (whole : Whole procs)
-    (none : forkError (stateOf frames book procs) (parent .number) child ≡ 0) (alike : same sameSegment gs (used (procAt procs (parent .number) .segments)) ≡ true) (ready : Ready book (parent .tags) (parent .bases) (parent .table)) where
+    (none : (setup : Setup) × (forkError (stateOf setup frames book procs) (parent .number) child ≡ 0)) (alike : same sameSegment gs (used (procAt procs (parent .number) .segments)) ≡ true) (ready : Ready book (parent .tags) (parent .bases) (parent .table)) where
   abbrev number : ℕ
   number = parent .number
 
   abbrev state : State
-  state = stateOf frames book procs
+  state = stateOf (none .0) frames book procs
 
   abbrev m : Store
   m = store frames book
 
   forks : Forks state number child
-  forks = fork-none state number child none
+  forks = fork-none state number child (none .1)
 
   other : number ≡ child → ⊥
   other = fork-other state number child forks
@@ -78,10 +79,10 @@ module _ (frames book : List ℕ) (procs : Procs) (parent : Parent) (child : ℕ
   fits : Fits m
   fits = sizes-words frames book (forks .passed .sizes) .0
 
-  sound : Sound book procs
+  sound : Sound (none .0) book procs
   sound = passed-sound state number _ whole (forks .passed)
 
-  shape : (image : List UserSegment) × Shape (procAt procs number) image
+  shape : (image : List UserSegment) × Shape (none .0) (procAt procs number) image
   shape = living-shape state number _ whole (forks .passed) (forks .parent)
 
   list-is : gs ≡ used (procAt procs number .segments)
@@ -115,7 +116,7 @@ module _ (frames book : List ℕ) (procs : Procs) (parent : Parent) (child : ℕ
           forks .passed .number,
           forks .second,
           other,
-          omega (arith, b .bss-order, b .bss-end .1),
+          omega (arith, b .bss-order, b .bss-end .1, sound .accepted),
           record { start = bss .start; end = bss .end; high = bss .high; perm = bss .perm; mapped = mapped-still m (store frames′ book′) number _ _ (copies .sees) (bss .mapped) },
           passed,
           told,
@@ -123,9 +124,9 @@ module _ (frames book : List ℕ) (procs : Procs) (parent : Parent) (child : ℕ
 
     pub forked-is : (frames″ book″ : List ℕ) (r : Left) → store frames″ book″ ≡ copiesOf (store frames′ book′) number child (bssSegment (procAt procs number .bss) ∷ [])
         → r ≡ record { procs = setProc procs child (procAt procs number); answer = Done }
-        → (stateOf frames″ book″ (r .procs) ≡ copy state number child (procAt procs number)) × (r .answer ≡ Done)
+        → ((setup : Setup) → stateOf setup frames″ book″ (r .procs) ≡ copy (stateOf setup frames book procs) number child (procAt procs number)) × (r .answer ≡ Done)
     forked-is frames″ book″ r e h = (
-      state-is (store frames″ book″) _ (r .procs) _
+      λ setup. state-is setup (store frames″ book″) _ (r .procs) _
           (copied-more m (store frames′ book′) (store frames″ book″) number child gs (bssSegment (procAt procs number .bss)) fits (copy-numbers .4) other copies bss e .is
           ∙ ap (λ (xs : List UserSegment). copiesOf m number child (xs ++ bssSegment (procAt procs number .bss) ∷ [])) list-is)
           (ap (λ (x : Left). x .procs) h),

@@ -27,9 +27,9 @@ record-some ps n v p e t h = let f : valid n ≡ true = sym e ∙ un-not v t in 
 
 module _ (s : State) (n child : ℕ) (alike : Bool) (e : ℕ) (v : Bool) (first : e ≡ forkError s n child) (number : v ≡ valid n) where
   abbrev test : Bool
-  test = (not alike && not (eqb e 1)) && v
+  test = ((not alike && not (eqb e 1)) && not (eqb e 38)) && v
 
-  test-is : ((not alike && forkError s n child isnt 1) && valid n) ≡ test
+  test-is : (((not alike && forkError s n child isnt 1) && forkError s n child isnt 38) && valid n) ≡ test
   test-is = rw (← first, ← number)
 
   pub torn : test ≡ true → 2 ≡ forkNumber s n child alike

@@ -3,13 +3,17 @@ use package.mir.Syntax.{Ty, named, erased, imm, mut, w8, w64, tyInt, tyRef}
 use denote.RattleType.{RattleType}
 use denote.Memory.{pointee}
 use denote.Slice.{sliceTy}
+use Rattle.spec.proofs.Setup as Se
 use Rattle.spec.proofs.UserSegment as S
 use Rattle.spec.proofs.Proc as P
 use Rattle.spec.proofs.Procs as Ps
 use Rattle.front.proofs.left.Left as Lf
 use Rattle.forks.proofs.parent.Parent as Pa
 
--- of a segment, of a record, of the records, of the parent, and of what a call leaves
+-- of the setup, of a segment, of a record, of the records, of the parent, and of what a call leaves
+abbrev pub Nums : RattleType
+Nums = Se.the-row
+
 abbrev pub R : RattleType
 R = S.the-row
 

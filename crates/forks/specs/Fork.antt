@@ -15,9 +15,9 @@ use Rattle.front.specs.Numbers.{forkError}
 abbrev pub recordOf : Procs → ℕ → Proc
 recordOf ps n = valid n ⇒ procAt ps n else zeroProc
 
--- 1 to 5 in their order; `alike`: the list is the record's segments. A list that is not is 2, behind 1
+-- 1, 38 and 2 to 5 in their order; `alike`: the list is the record's segments. A list that is not is 2, behind 1 and 38
 unfoldable pub listError : State → ℕ → ℕ → Bool → ℕ
-listError s n child alike = (not alike && forkError s n child isnt 1) && valid n ⇒ 2 else forkError s n child
+listError s n child alike = ((not alike && forkError s n child isnt 1) && forkError s n child isnt 38) && valid n ⇒ 2 else forkError s n child
 
 -- then 33, if the free frames don't hold a copy
 unfoldable pub forkNumber : State → ℕ → ℕ → Bool → ℕ

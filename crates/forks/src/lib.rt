@@ -19,6 +19,7 @@ ghost use Rattle.spec.specs.Frames.{pagesOf, place, frameBytes};
 ghost use Rattle.spec.specs.Machine.{fork, plainly};
 ghost use Rattle.spec.specs.World.{setProc, copy, Does};
 ghost use Rattle.spec.specs.declared.Answer.the-variants.{Done, Refused};
+ghost use Rattle.spec.specs.declared.Setup.{Setup};
 ghost use Rattle.book.specs.Lent.{store};
 ghost use Rattle.pagealloc.specs.Lent.{Passed};
 ghost use Rattle.sound.specs.Table.{Blank, Ready};
@@ -32,6 +33,7 @@ use parent::Parent;
 use spec::Answer;
 use spec::Proc;
 use spec::Procs;
+use spec::Setup;
 use spec::UserSegment;
 
 // The record of a process; a number outside 1 to 16 has none.
@@ -44,9 +46,10 @@ fn recorded(procs: Procs, number: u64) -> Proc
     front::record::proc_at(procs, number)
 }
 
-// What a fork is refused with: 1 to 5 and 33, or 0. `alike`: its list is the parent's record's segments. Where there is no number,
-// the three lists are ready for the fork's lookups.
+// What a fork is refused with: 1, 38, 2 to 5 and 33, or 0. `alike`: its list is the parent's record's segments. Where there is no
+// number, the three lists are ready for the fork's lookups.
 fn fork_number(
+    setup: Setup,
     frames: &[u8],
     book: &[u64],
     procs: Procs,
@@ -58,11 +61,21 @@ fn fork_number(
     table: &mut [u16; 1024],
 ) -> u64
     requires { ⌜ (length (now tags) ≡ 272) × (length (now bases) ≡ 273) × (length (now table) ≡ 1024) × Blank (now table) ⌝ }
-    ensures { λ r. ⌜ r ≡ forkNumber (stateOf (now (frames .entry)) (now (book .entry)) procs) number child alike ⌝ }
+    ensures { λ r. ⌜ r ≡ forkNumber (stateOf setup (now (frames .entry)) (now (book .entry)) procs) number child alike ⌝ }
     ensures { λ r. ⌜ (r ≡ 0 → Ready (now (book .entry)) (now (tags .exit)) (now (bases .exit)) (now (table .exit))) ⌝ }
 {
-    let e = front::numbers::fork_ready(frames, book, procs, number, child, tags, bases, table);
-    if !alike & (e != spec::SIZES) & front::record::is_number(number) {
+    let e = front::numbers::fork_ready(
+        setup,
+        frames,
+        book,
+        procs,
+        number,
+        child,
+        tags,
+        bases,
+        table,
+    );
+    if !alike & (e != spec::SIZES) & (e != spec::SETUP) & front::record::is_number(number) {
         return spec::TORN;
     }
     if e != 0 {
@@ -78,6 +91,7 @@ fn fork_number(
 
 // The parent of a fork, once its numbers were asked.
 fn prepared(
+    setup: Setup,
     frames: &[u8],
     book: &[u64],
     procs: Procs,
@@ -85,12 +99,13 @@ fn prepared(
     child: u64,
     alike: bool,
 ) -> Parent
-    ensures { λ r. ⌜ (r .error ≡ forkNumber (stateOf (now (frames .entry)) (now (book .entry)) procs) number child alike) × (r .number ≡ number) × (r .error ≡ 0 → Ready (now (book .entry)) (r .tags) (r .bases) (r .table)) ⌝ }
+    ensures { λ r. ⌜ (r .error ≡ forkNumber (stateOf setup (now (frames .entry)) (now (book .entry)) procs) number child alike) × (r .number ≡ number) × (r .error ≡ 0 → Ready (now (book .entry)) (r .tags) (r .bases) (r .table)) ⌝ }
 {
     let mut tags = [0u64; 272];
     let mut bases = [0u64; 273];
     let mut table = [0u16; 1024];
     let e = fork_number(
+        setup,
         frames,
         book,
         procs,
@@ -144,7 +159,8 @@ fn finish(
     }
 }
 
-// A fork that nothing forbids: every page now, segments in the list's order, then the bss; the child takes record and name.
+// A fork that nothing forbids: every page now, segments in the list's order, then the bss; the child takes record and name. The
+// setup was tested, and is not needed again: what is left is the same under each.
 fn forked(
     frames: &mut [u8],
     book: &mut [u64],
@@ -153,17 +169,18 @@ fn forked(
     child: u64,
     segments: &[UserSegment],
 ) -> Left
-    requires { ⌜ (forkError (stateOf (now frames) (now book) procs) (parent .number) child ≡ 0) × (same sameSegment (now segments) (used (procAt procs (parent .number) .segments)) ≡ true) × Ready (now book) (parent .tags) (parent .bases) (parent .table) ⌝ }
-    ensures { λ r. ⌜ (stateOf (now (frames .exit)) (now (book .exit)) (r .procs) ≡ copy (stateOf (now (frames .entry)) (now (book .entry)) procs) (parent .number) child (procAt procs (parent .number))) × (r .answer ≡ Done) ⌝ }
+    requires { ⌜ ((setup : Setup) × (forkError (stateOf setup (now frames) (now book) procs) (parent .number) child ≡ 0)) × (same sameSegment (now segments) (used (procAt procs (parent .number) .segments)) ≡ true) × Ready (now book) (parent .tags) (parent .bases) (parent .table) ⌝ }
+    ensures { λ r. ⌜ ((setup : Setup) → stateOf setup (now (frames .exit)) (now (book .exit)) (r .procs) ≡ copy (stateOf setup (now (frames .entry)) (now (book .entry)) procs) (parent .number) child (procAt procs (parent .number))) × (r .answer ≡ Done) ⌝ }
 {
     let top = copy::copy_segments(frames, book, parent, child, segments);
     finish(frames, book, top, procs, parent, child)
 }
 
 // Forks process `number` as `child`, whose memory and record are its parent's from now on its own. `segments` lists the parent's
-// recorded segments. Refused with 1 to 5, a list unlike the record with 2, or, if the free frames don't hold a copy, with 33, it
-// changes nothing.
+// recorded segments. Refused with 1, 38 or 2 to 5, a list unlike the record with 2, or, if the free frames don't hold a copy, with
+// 33, it changes nothing.
 pub fn fork_list(
+    setup: Setup,
     frames: &mut [u8],
     book: &mut [u64],
     procs: Procs,
@@ -171,11 +188,11 @@ pub fn fork_list(
     child: u64,
     segments: &[UserSegment],
 ) -> Left
-    ensures { λ r. ⌜ Does (stateOf (now (frames .entry)) (now (book .entry)) procs) (call number (fork child (now (segments .entry)))) (stateOf (now (frames .exit)) (now (book .exit)) (r .procs)) (plainly (r .answer)) ⌝ }
+    ensures { λ r. ⌜ Does (stateOf setup (now (frames .entry)) (now (book .entry)) procs) (call number (fork child (now (segments .entry)))) (stateOf setup (now (frames .exit)) (now (book .exit)) (r .procs)) (plainly (r .answer)) ⌝ }
 {
     let p = recorded(procs, number);
     let alike = list::same_list(segments, p);
-    let parent = prepared(frames, book, procs, number, child, alike);
+    let parent = prepared(setup, frames, book, procs, number, child, alike);
     let e = parent.error;
     if e != 0 {
         return refused(procs, e);

@@ -7,14 +7,15 @@ use Rattle.spec.specs.Book.{valid, lives, procAt}
 use Rattle.spec.specs.Sound.{Shape, Sound}
 use Rattle.spec.specs.World.{State, taken}
 use Rattle.spec.specs.declared.UserSegment.{UserSegment}
+use Rattle.spec.proofs.Setups.{setup-means}
 use Rattle.spec.proofs.Bools.{both}
 use Rattle.laws.proofs.Record.{Whole}
 use Rattle.laws.proofs.Facts.{sound-facts}
 use Rattle.front.proofs.First.{Passed}
 
 module _ (s : State) (n : ℕ) (fits : Bool) (whole : Whole (s .procs)) (passed : Passed s n fits) where
-  pub passed-sound : Sound (s .store .book) (s .procs)
-  passed-sound = sound-facts (s .store .book) (s .procs) whole (passed .book)
+  pub passed-sound : Sound (s .setup) (s .store .book) (s .procs)
+  passed-sound = sound-facts (s .setup) (setup-means (s .setup) (passed .setup)) (s .store .book) (s .procs) whole (passed .book)
 
-  pub living-shape : taken s n ≡ true → (image : List UserSegment) × Shape (procAt (s .procs) n) image
+  pub living-shape : taken s n ≡ true → (image : List UserSegment) × Shape (s .setup) (procAt (s .procs) n) image
   living-shape t = passed-sound .shape n (passed .number) (both (valid n) (lives (procAt (s .procs) n)) t .1)

@@ -6,13 +6,14 @@ ghost use mathlib.Core.List.{List};
 ghost use Prim.Native.Nat.{ℕ};
 ghost use Rattle.spec.specs.Book.{valid};
 ghost use Rattle.spec.specs.World.{forget};
+ghost use Rattle.spec.specs.declared.Setup.{Setup};
 ghost use Rattle.front.specs.Numbers.{stateOf};
 use spec::Procs;
 
 // A process ends, as `bad_address` ends it: its frames are free and keep their bytes, and its record is zero.
 pub fn forget(book: &mut [u64], procs: Procs, number: u64) -> Procs
     requires { ⌜ valid number ≡ true ⌝ }
-    ensures { λ r. ⌜ ((frames : List ℕ) → stateOf frames (now (book .exit)) r ≡ forget (stateOf frames (now (book .entry)) procs) number) ⌝ }
+    ensures { λ r. ⌜ ((setup : Setup) (frames : List ℕ) → stateOf setup frames (now (book .exit)) r ≡ forget (stateOf setup frames (now (book .entry)) procs) number) ⌝ }
 {
     book::release_owner(book, number);
     procs::with_proc(procs, number, procs::zero_proc())

@@ -1,4 +1,4 @@
-// Numbers 1 to 5, which come first in every call, in that order; 1 to 3 stand in crate first.
+// Numbers 1, 38 and 2 to 5, which come first in every call, in that order; those up to 3 stand in crate first.
 
 ghost use mathlib.Core.Path.{_≡_};
 ghost use lib.ListN.{length};
@@ -10,9 +10,11 @@ pub use first::sizes_ok;
 use procs::is_number;
 use procs::lives;
 use spec::Procs;
+use spec::Setup;
 
 // 1 to 4 of a call that a living process makes for itself, and the lists for its lookups.
 pub fn plain_ready(
+    setup: Setup,
     frames: &[u8],
     book: &[u64],
     procs: Procs,
@@ -23,10 +25,10 @@ pub fn plain_ready(
     table: &mut [u16; 1024],
 ) -> u64
     requires { ⌜ (length (now tags) ≡ 272) × (length (now bases) ≡ 273) × (length (now table) ≡ 1024) × Blank (now table) ⌝ }
-    ensures { λ r. ⌜ r ≡ plainError (stateOf (now (frames .entry)) (now (book .entry)) procs) number fits ⌝ }
+    ensures { λ r. ⌜ r ≡ plainError (stateOf setup (now (frames .entry)) (now (book .entry)) procs) number fits ⌝ }
     ensures { λ r. ⌜ (r ≡ 0 → Ready (now (book .entry)) (now (tags .exit)) (now (bases .exit)) (now (table .exit))) ⌝ }
 {
-    let e = number_ready(frames, book, procs, number, fits, tags, bases, table);
+    let e = number_ready(setup, frames, book, procs, number, fits, tags, bases, table);
     if e != 0 {
         return e;
     }
@@ -37,13 +39,21 @@ pub fn plain_ready(
 }
 
 // The same for a call that looks no page up.
-pub fn plain_error(frames: &[u8], book: &[u64], procs: Procs, number: u64, fits: bool) -> u64
-    ensures { λ r. ⌜ r ≡ plainError (stateOf (now (frames .entry)) (now (book .entry)) procs) number fits ⌝ }
+pub fn plain_error(
+    setup: Setup,
+    frames: &[u8],
+    book: &[u64],
+    procs: Procs,
+    number: u64,
+    fits: bool,
+) -> u64
+    ensures { λ r. ⌜ r ≡ plainError (stateOf setup (now (frames .entry)) (now (book .entry)) procs) number fits ⌝ }
 {
     let mut tags = [0u64; 272];
     let mut bases = [0u64; 273];
     let mut table = [0u16; 1024];
     plain_ready(
+        setup,
         frames,
         book,
         procs,
@@ -56,10 +66,17 @@ pub fn plain_error(frames: &[u8], book: &[u64], procs: Procs, number: u64, fits:
 }
 
 // 1, 2, 3 and 5 of a start.
-pub fn begin_error(frames: &[u8], book: &[u64], procs: Procs, number: u64, fits: bool) -> u64
-    ensures { λ r. ⌜ r ≡ beginError (stateOf (now (frames .entry)) (now (book .entry)) procs) number fits ⌝ }
+pub fn begin_error(
+    setup: Setup,
+    frames: &[u8],
+    book: &[u64],
+    procs: Procs,
+    number: u64,
+    fits: bool,
+) -> u64
+    ensures { λ r. ⌜ r ≡ beginError (stateOf setup (now (frames .entry)) (now (book .entry)) procs) number fits ⌝ }
 {
-    let e = number_error(frames, book, procs, number, fits);
+    let e = number_error(setup, frames, book, procs, number, fits);
     if e != 0 {
         return e;
     }
@@ -71,6 +88,7 @@ pub fn begin_error(frames: &[u8], book: &[u64], procs: Procs, number: u64, fits:
 
 // 1 to 5 of a fork whose list is the record's own, and the lists for its lookups.
 pub fn fork_ready(
+    setup: Setup,
     frames: &[u8],
     book: &[u64],
     procs: Procs,
@@ -81,10 +99,10 @@ pub fn fork_ready(
     table: &mut [u16; 1024],
 ) -> u64
     requires { ⌜ (length (now tags) ≡ 272) × (length (now bases) ≡ 273) × (length (now table) ≡ 1024) × Blank (now table) ⌝ }
-    ensures { λ r. ⌜ r ≡ forkError (stateOf (now (frames .entry)) (now (book .entry)) procs) number child ⌝ }
+    ensures { λ r. ⌜ r ≡ forkError (stateOf setup (now (frames .entry)) (now (book .entry)) procs) number child ⌝ }
     ensures { λ r. ⌜ (r ≡ 0 → Ready (now (book .entry)) (now (tags .exit)) (now (bases .exit)) (now (table .exit))) ⌝ }
 {
-    let e = number_ready(frames, book, procs, number, true, tags, bases, table);
+    let e = number_ready(setup, frames, book, procs, number, true, tags, bases, table);
     if e != 0 {
         return e;
     }

@@ -9,7 +9,7 @@ use lib.ListN.{length}
 use borrow.Author.Tests.{eqb-true, ltb-true, ltb-false, ne-eqb}
 use Rattle.spec.proofs.Bools.{split, both, not-true, un-not}
 use Rattle.spec.specs.Tests.{_is_, _isnt_, _below_, _above_, _⇒_else_}
-use Rattle.spec.specs.Numbers.{limit, pageUp, ustktop}
+use Rattle.spec.specs.Numbers.{limit, pageUp}
 use Rattle.spec.specs.Book.{valid, free, pageCount}
 use Rattle.spec.specs.Access.{userRangeOk}
 use Rattle.spec.specs.Elf.{entry}
@@ -22,6 +22,7 @@ use Rattle.spec.specs.declared.UserSegment.{UserSegment}
 use Rattle.spec.specs.declared.UserRegs.{UserRegs}
 use Rattle.spec.specs.declared.Answer.{Answer}
 use Rattle.spec.specs.declared.Answer.the-variants.{Regs, Value, Done, Refused, Ended}
+use Rattle.spec.specs.declared.Setup.{Setup}
 use Rattle.history.proofs.Passed.{Good, answered, accepted≢, Passed, passed}
 
 -- ---- any call
@@ -58,20 +59,20 @@ zero-is k e = eqb-true k 0 (un-not (k is 0) e)
 pub record Starts (s : State) (n : ℕ) (image : List ℕ) (args : List (List ℕ)) : Type 0 where
   pub number : valid n ≡ true
   pub dead : taken s n ≡ false
-  pub args-fit : argsError args ≡ 0
-  pub image-fits : imageError image ≡ 0
-  pub room : pageCount (startPieces image) ≤ free (s .store .book)
+  pub args-fit : argsError (s .setup) args ≡ 0
+  pub image-fits : imageError (s .setup) image ≡ 0
+  pub room : pageCount (startPieces (s .setup) image) ≤ free (s .store .book)
 
 pub starts : (s : State) → Good s → (n : ℕ) (image name bytes lengths : List ℕ) → Accepts s n (start image name bytes lengths) → Starts s n image (argsOf bytes lengths)
 starts s g n image name bytes lengths e =
     let args : List (List ℕ) = argsOf bytes lengths in
     let w = went s g n (start image name bytes lengths) e in
-    let a₃ : Answer = Regs (registers (entry image) ustktop args) in
-    let a₂ : Answer = pageCount (startPieces image) above free (s .store .book) ⇒ Refused 33 else a₃ in
-    let a₁ : Answer = imageError image isnt 0 ⇒ Refused (imageError image) else a₂ in
-    let p₁ = past Goes (argsError args isnt 0) (Refused (argsError args)) a₁ (w .weighed) refused-not in
-    let p₂ = past Goes (imageError image isnt 0) (Refused (imageError image)) a₂ (p₁ .1) refused-not in
-    let p₃ = past Goes (pageCount (startPieces image) above free (s .store .book)) (Refused 33) a₃ (p₂ .1) refused-not in
+    let a₃ : Answer = Regs (registers (entry image) (s .setup .ustktop) args) in
+    let a₂ : Answer = pageCount (startPieces (s .setup) image) above free (s .store .book) ⇒ Refused 33 else a₃ in
+    let a₁ : Answer = imageError (s .setup) image isnt 0 ⇒ Refused (imageError (s .setup) image) else a₂ in
+    let p₁ = past Goes (argsError (s .setup) args isnt 0) (Refused (argsError (s .setup) args)) a₁ (w .weighed) refused-not in
+    let p₂ = past Goes (imageError (s .setup) image isnt 0) (Refused (imageError (s .setup) image)) a₂ (p₁ .1) refused-not in
+    let p₃ = past Goes (pageCount (startPieces (s .setup) image) above free (s .store .book)) (Refused 33) a₃ (p₂ .1) refused-not in
     record { number = w .number; dead = not-true (taken s n) (w .new); args-fit = zero-is _ (p₁ .0); image-fits = zero-is _ (p₂ .0); room = ltb-false _ _ (p₃ .0) }
 
 -- a start ends nobody
@@ -85,30 +86,30 @@ pub start-ends-nobody : (s : State) → Good s → (n : ℕ) (image name bytes l
 start-ends-nobody s g n image name bytes lengths e =
     let args : List (List ℕ) = argsOf bytes lengths in
     let w = not-refused s g (record { number = n; ask = start image name bytes lengths }) ended e (λ z. let u : _≡_ {A = ℕ} 0 1 = cc in omega arith) in
-    never-ended (argsError args isnt 0) (imageError image isnt 0) (pageCount (startPieces image) above free (s .store .book)) (argsError args) (imageError image) 33 (registers (entry image) ustktop args) (w .weighed)
+    never-ended (argsError (s .setup) args isnt 0) (imageError (s .setup) image isnt 0) (pageCount (startPieces (s .setup) image) above free (s .store .book)) (argsError (s .setup) args) (imageError (s .setup) image) 33 (registers (entry image) (s .setup .ustktop) args) (w .weighed)
 
 -- ---- replace
 
 pub record Replaces (s : State) (n : ℕ) (image : List ℕ) (argv : ℕ) : Type 0 where
   pub number : valid n ≡ true
   pub living : taken s n ≡ true
-  pub image-fits : imageError image ≡ 0
-  pub readable : (copyArgv (view s n .mem) argv .error is 35) ≡ false
-  pub within-limit : (copyArgv (view s n .mem) argv .error is 33) ≡ false
-  pub room : pageCount (startPieces image) ≤ own (view s n) + free (s .store .book)
+  pub image-fits : imageError (s .setup) image ≡ 0
+  pub readable : (copyArgv (s .setup) (view s n .mem) argv .error is 35) ≡ false
+  pub within-limit : (copyArgv (s .setup) (view s n .mem) argv .error is 33) ≡ false
+  pub room : pageCount (startPieces (s .setup) image) ≤ own (view s n) + free (s .store .book)
 
 pub replaces : (s : State) → Good s → (n : ℕ) (image name : List ℕ) (argv : ℕ) → Accepts s n (replace image name argv) → Replaces s n image argv
 replaces s g n image name argv e =
     let w = went s g n (replace image name argv) e in
-    let read : Argv = copyArgv (view s n .mem) argv in
-    let a₄ : Answer = Regs (registers (entry image) ustktop (read .args)) in
-    let a₃ : Answer = pageCount (startPieces image) above own (view s n) + free (s .store .book) ⇒ Ended 33 else a₄ in
+    let read : Argv = copyArgv (s .setup) (view s n .mem) argv in
+    let a₄ : Answer = Regs (registers (entry image) (s .setup .ustktop) (read .args)) in
+    let a₃ : Answer = pageCount (startPieces (s .setup) image) above own (view s n) + free (s .store .book) ⇒ Ended 33 else a₄ in
     let a₂ : Answer = read .error is 33 ⇒ Refused 33 else a₃ in
     let a₁ : Answer = read .error is 35 ⇒ Ended 35 else a₂ in
-    let p₁ = past Goes (imageError image isnt 0) (Refused (imageError image)) a₁ (w .weighed) refused-not in
+    let p₁ = past Goes (imageError (s .setup) image isnt 0) (Refused (imageError (s .setup) image)) a₁ (w .weighed) refused-not in
     let p₂ = past Goes (read .error is 35) (Ended 35) a₂ (p₁ .1) ended-not in
     let p₃ = past Goes (read .error is 33) (Refused 33) a₃ (p₂ .1) refused-not in
-    let p₄ = past Goes (pageCount (startPieces image) above own (view s n) + free (s .store .book)) (Ended 33) a₄ (p₃ .1) ended-not in
+    let p₄ = past Goes (pageCount (startPieces (s .setup) image) above own (view s n) + free (s .store .book)) (Ended 33) a₄ (p₃ .1) ended-not in
     record { number = w .number; living = w .lives; image-fits = zero-is _ (p₁ .0); readable = p₂ .0; within-limit = p₃ .0; room = ltb-false _ _ (p₄ .0) }
 
 -- ---- push
@@ -117,43 +118,43 @@ pub record Pushes (s : State) (n top : ℕ) (args : List (List ℕ)) : Type 0 wh
   pub number : valid n ≡ true
   pub living : taken s n ≡ true
   pub aligned : top % 16 ≡ 0
-  pub args-fit : argsError args ≡ 0
-  pub writable : pushOk (view s n .mem) top args ≡ true
+  pub args-fit : argsError (s .setup) args ≡ 0
+  pub writable : pushOk (s .setup) (view s n .mem) top args ≡ true
 
 pub pushes : (s : State) → Good s → (n pc top : ℕ) (bytes lengths : List ℕ) → Accepts s n (push pc top bytes lengths) → Pushes s n top (argsOf bytes lengths)
 pushes s g n pc top bytes lengths e =
     let args : List (List ℕ) = argsOf bytes lengths in
     let w = went s g n (push pc top bytes lengths) e in
     let a₃ : Answer = Regs (registers pc top args) in
-    let a₂ : Answer = not (pushOk (view s n .mem) top args) ⇒ Ended 35 else a₃ in
-    let a₁ : Answer = argsError args isnt 0 ⇒ Refused (argsError args) else a₂ in
+    let a₂ : Answer = not (pushOk (s .setup) (view s n .mem) top args) ⇒ Ended 35 else a₃ in
+    let a₁ : Answer = argsError (s .setup) args isnt 0 ⇒ Refused (argsError (s .setup) args) else a₂ in
     let p₁ = past Goes (top % 16 isnt 0) (Refused 36) a₁ (w .weighed) refused-not in
-    let p₂ = past Goes (argsError args isnt 0) (Refused (argsError args)) a₂ (p₁ .1) refused-not in
-    let p₃ = past Goes (not (pushOk (view s n .mem) top args)) (Ended 35) a₃ (p₂ .1) ended-not in
+    let p₂ = past Goes (argsError (s .setup) args isnt 0) (Refused (argsError (s .setup) args)) a₂ (p₁ .1) refused-not in
+    let p₃ = past Goes (not (pushOk (s .setup) (view s n .mem) top args)) (Ended 35) a₃ (p₂ .1) ended-not in
     record { number = w .number; living = w .lives; aligned = zero-is _ (p₁ .0); args-fit = zero-is _ (p₂ .0); writable = un-not _ (p₃ .0) }
 
 -- ---- break
 
 -- a break that moves the end of a bss
-pub record Moves (b : VirtRange) (addr free : ℕ) : Type 0 where
+pub record Moves (setup : Setup) (b : VirtRange) (addr free : ℕ) : Type 0 where
   pub above-start : b .start ≤ addr
-  pub low : pageUp addr ≤ limit
+  pub low : pageUp addr ≤ limit setup
   pub room : pageUp addr - b .end ≤ 4096 * free
 
-pub ibrk-moves : (b : VirtRange) (addr free : ℕ) → ibrk (some b) addr free .error ≡ 0 → (addr ≡ 0 → ⊥) → Moves b addr free
+pub ibrk-moves : (setup : Setup) (b : VirtRange) (addr free : ℕ) → ibrk setup (some b) addr free .error ≡ 0 → (addr ≡ 0 → ⊥) → Moves setup b addr free
 unfolding ibrk
-ibrk-moves b addr free e nz =
+ibrk-moves setup b addr free e nz =
     let Fine : Break → Type 0 = λ x. x .error ≡ 0 in
     let b₆ : Break = endsAt (pageUp addr) b in
     let b₅ : Break = pageUp addr - b .end above 4096 * free ⇒ refusedBy 33 b else b₆ in
     let b₄ : Break = pageUp addr below b .end ⇒ endsAt (pageUp addr) b else b₅ in
-    let b₃ : Break = pageUp addr above limit ⇒ refusedBy 34 b else b₄ in
+    let b₃ : Break = pageUp addr above limit setup ⇒ refusedBy 34 b else b₄ in
     let b₂ : Break = not (pageUp addr below 2 ^ 64) ⇒ refusedBy 33 b else b₃ in
     let b₁ : Break = addr below b .start ⇒ refusedBy 33 b else b₂ in
     let e₁ : Fine b₁ = rw (ne-eqb addr 0 nz) at e in
     let p₁ = past Fine (addr below b .start) (refusedBy 33 b) b₂ e₁ (λ z. omega arith) in
     let p₂ = past Fine (not (pageUp addr below 2 ^ 64)) (refusedBy 33 b) b₃ (p₁ .1) (λ z. omega arith) in
-    let p₃ = past Fine (pageUp addr above limit) (refusedBy 34 b) b₄ (p₂ .1) (λ z. omega arith) in
+    let p₃ = past Fine (pageUp addr above limit setup) (refusedBy 34 b) b₄ (p₂ .1) (λ z. omega arith) in
     record {
       above-start = ltb-false _ _ (p₁ .0);
       low = ltb-false _ _ (p₃ .0);
@@ -164,14 +165,14 @@ ibrk-moves b addr free e nz =
 pub record Breaks (s : State) (n addr : ℕ) : Type 0 where
   pub number : valid n ≡ true
   pub living : taken s n ≡ true
-  pub moves : (addr ≡ 0 → ⊥) → Moves (view s n .bss) addr (free (s .store .book))
+  pub moves : (addr ≡ 0 → ⊥) → Moves (s .setup) (view s n .bss) addr (free (s .store .book))
 
 pub breaks : (s : State) → Good s → (n addr : ℕ) → Accepts s n (break addr) → Breaks s n addr
 breaks s g n addr e =
     let w = went s g n (break addr) e in
-    let b : Break = ibrk (some (view s n .bss)) addr (free (s .store .book)) in
+    let b : Break = ibrk (s .setup) (some (view s n .bss)) addr (free (s .store .book)) in
     let p = past Goes (b .error isnt 0) (Refused (b .error)) (Value (b .value)) (w .weighed) refused-not in
-    record { number = w .number; living = w .lives; moves = ibrk-moves (view s n .bss) addr (free (s .store .book)) (zero-is _ (p .0)) }
+    record { number = w .number; living = w .lives; moves = ibrk-moves (s .setup) (view s n .bss) addr (free (s .store .book)) (zero-is _ (p .0)) }
 
 -- ---- fork
 
@@ -201,10 +202,10 @@ ends s g n e = let w = went s g n end e in record { number = w .number; living =
 pub record Writes (s : State) (n dst : ℕ) (bytes : List ℕ) : Type 0 where
   pub number : valid n ≡ true
   pub living : taken s n ≡ true
-  pub writable : userRangeOk (view s n .mem) true dst (length bytes) ≡ true
+  pub writable : userRangeOk (s .setup) (view s n .mem) true dst (length bytes) ≡ true
 
 pub writes : (s : State) → Good s → (n dst : ℕ) (bytes : List ℕ) → Accepts s n (copy-to-user dst bytes) → Writes s n dst bytes
 writes s g n dst bytes e =
     let w = went s g n (copy-to-user dst bytes) e in
-    let p = past Goes (not (userRangeOk (view s n .mem) true dst (length bytes))) (Ended 35) Done (w .weighed) ended-not in
+    let p = past Goes (not (userRangeOk (s .setup) (view s n .mem) true dst (length bytes))) (Ended 35) Done (w .weighed) ended-not in
     record { number = w .number; living = w .lives; writable = un-not _ (p .0) }

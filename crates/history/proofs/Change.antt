@@ -14,11 +14,12 @@ use Rattle.spec.specs.World.{State, view, setProc, withStore}
 use Rattle.spec.specs.History.{put, heldPerm}
 use Rattle.spec.specs.declared.Proc.{Proc}
 use Rattle.spec.specs.declared.Procs.{Procs}
+use Rattle.spec.specs.declared.Setup.{Setup}
 use Rattle.laws.proofs.Frame.{once-means, once-words, page-perm}
 use Rattle.laws.proofs.Record.{WholeProc, Whole, whole-typed, whole-set}
 use Rattle.laws.proofs.Owned.{valid-means}
 use Rattle.laws.proofs.Facts.{Shaped, facts-sound}
-use Rattle.history.proofs.Passed.{Good}
+use Rattle.history.proofs.Passed.{Good, good-setup}
 use Rattle.history.proofs.Whole.{put-split}
 use Rattle.history.proofs.OneState.{known, pages}
 use Rattle.history.proofs.Stored.{Stored}
@@ -29,9 +30,11 @@ Exact m = (a : ℕ) → heldPerm m a ≡ permAt (pieces (m .segments) (m .bss)) 
 
 -- from s to t process n comes to see m, and no other process sees a change
 pub record Change (s t : State) (n : ℕ) (m : Machine) : Type 0 where
-  pub stored : Stored (s .store) (t .store) n (m .mem)
+  pub setup : t .setup ≡ s .setup
+  pub setup-here : s .setup ≡ m .setup
+  pub stored : Stored (s .setup) (s .store) (t .store) n (m .mem)
   pub whole : Whole (t .procs)
-  pub shape : lives (procAt (t .procs) n) ≡ true → Shaped (procAt (t .procs) n)
+  pub shape : lives (procAt (t .procs) n) ≡ true → Shaped (s .setup) (procAt (t .procs) n)
   pub segments : used (procAt (t .procs) n .segments) ≡ m .segments
   pub bss : procAt (t .procs) n .bss ≡ m .bss
   pub exact : Exact m
@@ -39,26 +42,27 @@ pub record Change (s t : State) (n : ℕ) (m : Machine) : Type 0 where
 
 -- ---- what follows
 
-view-eq : (s t : State) (q : ℕ) → procAt (t .procs) q ≡ procAt (s .procs) q → memOf (t .store) q ≡ memOf (s .store) q → view t q ≡ view s q
-view-eq s t q e f = λ i. record { segments = used (e i .segments); bss = e i .bss; mem = f i }
+view-eq : (s t : State) (q : ℕ) → t .setup ≡ s .setup → procAt (t .procs) q ≡ procAt (s .procs) q → memOf (t .store) q ≡ memOf (s .store) q → view t q ≡ view s q
+view-eq s t q u e f = λ i. record { setup = u i; segments = used (e i .segments); bss = e i .bss; mem = f i }
 
 pub change-here : (s t : State) (n : ℕ) (m : Machine) → Change s t n m → view t n ≡ m
-change-here s t n m c = let x = c .segments in let y = c .bss in let z = c .stored .here in λ i. record { segments = x i; bss = y i; mem = z i }
+change-here s t n m c = let u = c .setup ∙ c .setup-here in let x = c .segments in let y = c .bss in let z = c .stored .here in λ i. record { setup = u i; segments = x i; bss = y i; mem = z i }
 
 pub change-view : (s t : State) (n : ℕ) (m : Machine) → Change s t n m → (q : ℕ) → valid q ≡ true → view t q ≡ put (view s) n m q
 change-view s t n m c q v =
-    put-split (λ x. view t q ≡ x) (view s) n m q (λ e. ap (view t) e ∙ change-here s t n m c) (λ ne. view-eq s t q (c .proc-else q v ne) (c .stored .other q ne))
+    put-split (λ x. view t q ≡ x) (view s) n m q (λ e. ap (view t) e ∙ change-here s t n m c) (λ ne. view-eq s t q (c .setup) (c .proc-else q v ne) (c .stored .other q ne))
 
 pub change-good : (s t : State) → Good s → (n : ℕ) (m : Machine) → Change s t n m → Good t
 change-good s t g n m c = record {
   types = whole-typed t (c .whole);
   sizes = c .stored .sizes;
+  numbers = rw (c .setup) (g .numbers);
   book =
-      facts-sound (t .store .book) (t .procs) (c .whole)
-      (record { words = c .stored .words; once = once-words (t .store .book) (λ k nz. c .stored .words k nz .owner .0) (c .stored .once); shape = shape; exact = exact });
+      rw (c .setup) (facts-sound (s .setup) (t .store .book) (t .procs) (c .whole)
+      (record { accepted = good-setup s g; words = c .stored .words; once = once-words (t .store .book) (λ k nz. c .stored .words k nz .owner .0) (c .stored .once); shape = shape; exact = exact }));
 }
   where
-    shape : (q : ℕ) → valid q ≡ true → lives (procAt (t .procs) q) ≡ true → Shaped (procAt (t .procs) q)
+    shape : (q : ℕ) → valid q ≡ true → lives (procAt (t .procs) q) ≡ true → Shaped (s .setup) (procAt (t .procs) q)
     shape q v l =
         split (eqb q n)
         (λ e. let z = eqb-true q n e in rw z (c .shape (rw z at l)))
@@ -72,7 +76,7 @@ change-good s t g n m c = record {
 -- ---- a call that sets a record, and one that sets none
 
 -- frames and book as they are
-pub stored-self : (s : State) → Good s → (n : ℕ) → Stored (s .store) (s .store) n (view s n .mem)
+pub stored-self : (s : State) → Good s → (n : ℕ) → Stored (s .setup) (s .store) (s .store) n (view s n .mem)
 stored-self s g n = let k = known s g .facts in record { sizes = g .sizes; words = k .words; once = once-means (s .store .book) (k .once); here = refl; other = λ q ne. refl }
 
 proc-same : (ps : Procs) (n : ℕ) (p : Proc) → Whole ps → valid n ≡ true → procAt (setProc ps n p) n ≡ p
@@ -82,15 +86,17 @@ proc-other : (ps : Procs) (n q : ℕ) (p : Proc) → valid n ≡ true → valid 
 proc-other ps n q p v u ne = let i = valid-means n v in let j = valid-means q u in getD-set-other (ps .all) (n - 1) (q - 1) p zeroProc (λ z. ne (omega (arith, i .0, j .0)))
 
 -- what a record and a memory hold
-abbrev pub holds : Proc → Mem → Machine
-holds p mem = record { segments = used (p .segments); bss = p .bss; mem = mem }
+abbrev pub holds : Setup → Proc → Mem → Machine
+holds setup p mem = record { setup = setup; segments = used (p .segments); bss = p .bss; mem = mem }
 
-pub change-set : (s : State) → Good s → (n : ℕ) → valid n ≡ true → (m : Store) (p : Proc) (mem : Mem) → Stored (s .store) m n mem → WholeProc p → (lives p ≡ true → Shaped p) → Exact (holds p mem)
-    → Change s (record { store = m; procs = setProc (s .procs) n p }) n (holds p mem)
+pub change-set : (s : State) → Good s → (n : ℕ) → valid n ≡ true → (m : Store) (p : Proc) (mem : Mem) → Stored (s .setup) (s .store) m n mem → WholeProc p → (lives p ≡ true → Shaped (s .setup) p) → Exact (holds (s .setup) p mem)
+    → Change s (record { setup = s .setup; store = m; procs = setProc (s .procs) n p }) n (holds (s .setup) p mem)
 change-set s g n v m p mem h w shape exact =
     let k = known s g .whole in
     let e = proc-same (s .procs) n p k v in
     record {
+      setup = refl;
+      setup-here = refl;
       stored = h;
       whole = whole-set (s .procs) n p k w;
       shape = rw e shape;
@@ -100,7 +106,7 @@ change-set s g n v m p mem h w shape exact =
       proc-else = λ q u ne. proc-other (s .procs) n q p v u ne;
     }
 
-pub change-store : (s : State) → Good s → (n : ℕ) → valid n ≡ true → (m : Store) (mem : Mem) → Stored (s .store) m n mem → Exact (withMem (view s n) mem) → Change s (withStore s m) n (withMem (view s n) mem)
+pub change-store : (s : State) → Good s → (n : ℕ) → valid n ≡ true → (m : Store) (mem : Mem) → Stored (s .setup) (s .store) m n mem → Exact (withMem (view s n) mem) → Change s (withStore s m) n (withMem (view s n) mem)
 change-store s g n v m mem h exact =
     let k = known s g in
-    record { stored = h; whole = k .whole; shape = k .facts .shape n v; segments = refl; bss = refl; exact = exact; proc-else = λ q u ne. refl }
+    record { setup = refl; setup-here = refl; stored = h; whole = k .whole; shape = k .facts .shape n v; segments = refl; bss = refl; exact = exact; proc-else = λ q u ne. refl }

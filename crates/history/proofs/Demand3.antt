@@ -33,22 +33,22 @@ arguments s b h c regs e = args-read (state s h) (good-after laws s b h) c regs 
 
 pub runs : Runs
 runs = record {
-  found = λ s t b h r. rw (ran s t h r .0) (let g = good-after laws s b (callsOf h) in (g .sizes, g .book));
-  bytes = λ s t b h r n a v. let x = ran s t h r in ap (λ (y : State). readable y n a) (x .0) ∙ demand3 .bytes s b (callsOf h) n a v ∙ ap (λ (k : List Entry). held (machine (linesOf k n)) a) (sym (x .1));
+  found = λ s t b h r. rw (ran s t h r .0) (let g = good-after laws s b (callsOf h) in (demand3 .setup s (callsOf h), g .sizes, g .book));
+  bytes = λ s t b h r n a v. let x = ran s t h r in ap (λ (y : State). readable y n a) (x .0) ∙ demand3 .bytes s b (callsOf h) n a v ∙ ap (λ (k : List Entry). held (machine (s .setup) (linesOf k n)) a) (sym (x .1));
   numbers = λ s t b h r n v.
       let x = ran s t h r in
-      ap (λ (y : State). taken y n) (x .0) ∙ demand3 .numbers s b (callsOf h) n v ∙ ap (λ (k : List Entry). not (length (machine (linesOf k n) .segments) is 0)) (sym (x .1));
+      ap (λ (y : State). taken y n) (x .0) ∙ demand3 .numbers s b (callsOf h) n v ∙ ap (λ (k : List Entry). not (length (machine (s .setup) (linesOf k n) .segments) is 0)) (sym (x .1));
   answers = λ s t u b h r c a d.
       let x = ran s t h r in
       d .said ∙ ap (λ (y : State). answer y c) (x .0) ∙ heard laws s b (callsOf h) (seen-after laws s b (callsOf h)) c
-      ∙ ap₂ (λ (y : State) (k : List Entry). judge (machine (linesOf k (c .number))) (free (y .store .book)) (taken y) c) (sym (x .0)) (sym (x .1));
+      ∙ ap₂ (λ (y : State) (k : List Entry). judge (machine (s .setup) (linesOf k (c .number))) (free (y .store .book)) (taken y) c) (sym (x .0)) (sym (x .1));
   arguments = λ s t u b h r c a regs d e.
       let g : Good t = rw (ran s t h r .0) (good-after laws s b (callsOf h)) in
       subst (λ (y : State). ArgsRead (view t (c .number)) (c .ask) (view y (c .number) .mem) regs) (sym (d .left)) (args-read t g c regs (ap (λ (y : Reply). y .says) (sym (d .said)) ∙ e));
-  alike = λ s t u v b d h g r q n w e.
+  alike = λ s t u v b d k h g r q n w e.
       let x = ran s t h r in
       let y = ran u v g q in
-      let same = demand3 .alike s u b d (callsOf h) (callsOf g) n w (rw (← x .1, ← y .1) e) in (
+      let same = demand3 .alike s u b d k (callsOf h) (callsOf g) n w (rw (← x .1, ← y .1) e) in (
         ap (λ (k : List Entry). map (λ (z : Entry). z .answered) (linesOf k n)) (x .1) ∙ same .0 ∙ ap (λ (k : List Entry). map (λ (z : Entry). z .answered) (linesOf k n)) (sym (y .1)),
         λ a. ap (λ (z : State). readable z n a) (x .0) ∙ same .1 a ∙ ap (λ (z : State). readable z n a) (sym (y .0)),
       );

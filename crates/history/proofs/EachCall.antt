@@ -38,30 +38,30 @@ idle s g n = record { good = g; each = λ q v. sym (put-self (view s) n q (view 
 -- ---- replace: the old pages go first
 
 replaced : (s : State) → Good s → (n : ℕ) (image name : List ℕ) (argv : ℕ) → outcome (answer s (record { number = n; ask = replace image name argv })) ≡ accepted
-    → Sees (load (forget s n) n image name (copyArgv (view s n .mem) argv .args)) (put (view s) n (begun image (copyArgv (view s n .mem) argv .args)))
+    → Sees (load (forget s n) n image name (copyArgv (s .setup) (view s n .mem) argv .args)) (put (view s) n (begun (s .setup) image (copyArgv (s .setup) (view s n .mem) argv .args)))
 replaced s g n image name argv e =
     let h = replaces s g n image name argv e in
-    let args : List (List ℕ) = copyArgv (view s n .mem) argv .args in
-    let m : Machine = begun image args in
+    let args : List (List ℕ) = copyArgv (s .setup) (view s n .mem) argv .args in
+    let m : Machine = begun (s .setup) image args in
     let c = forget-change s g n (h .number) in
-    let g₁ = change-good s (forget s n) g n off c in
+    let g₁ = change-good s (forget s n) g n (off (s .setup)) c in
     let d =
     load-change (forget s n) g₁ n image name args (h .number) (forget-dead s g n (h .number)) (h .image-fits)
     (omega (arith, h .room, forget-free s g n (h .number) (h .living))) in
-    record { good = change-good (forget s n) (load (forget s n) n image name args) g₁ n m d; each = λ q v. change-view (forget s n) (load (forget s n) n image name args) n m d q v ∙ twice q (eqb q n) refl (change-view s (forget s n) n off c q v) m }
+    record { good = change-good (forget s n) (load (forget s n) n image name args) g₁ n m d; each = λ q v. change-view (forget s n) (load (forget s n) n image name args) n m d q v ∙ twice q (eqb q n) refl (change-view s (forget s n) n (off (s .setup)) c q v) m }
   where
-    twice : (q : ℕ) (b : Bool) → eqb q n ≡ b → view (forget s n) q ≡ put (view s) n off q → (m : Machine) → (b ⇒ m else view (forget s n) q) ≡ (b ⇒ m else view s q)
+    twice : (q : ℕ) (b : Bool) → eqb q n ≡ b → view (forget s n) q ≡ put (view s) n (off (s .setup)) q → (m : Machine) → (b ⇒ m else view (forget s n) q) ≡ (b ⇒ m else view s q)
     twice q true x y m = refl
     twice q false x y m = rw x at y
 
 -- ---- accepted
 
 settles : (s : State) → Good s → (n : ℕ) (q : Ask) → outcome (answer s (record { number = n; ask = q })) ≡ accepted
-    → Sees (settle s n q) (effect (view s) (record { number = n; ask = q }) (kind q) accepted)
+    → Sees (settle s n q) (effect (s .setup) (view s) (record { number = n; ask = q }) (kind q) accepted)
 unfolding effect
 settles s g n (start image name bytes lengths) e =
     let h = starts s g n image name bytes lengths e in
-    changed s (load s n image name (argsOf bytes lengths)) g n (begun image (argsOf bytes lengths)) (load-change s g n image name (argsOf bytes lengths) (h .number) (h .dead) (h .image-fits) (h .room))
+    changed s (load s n image name (argsOf bytes lengths)) g n (begun (s .setup) image (argsOf bytes lengths)) (load-change s g n image name (argsOf bytes lengths) (h .number) (h .dead) (h .image-fits) (h .room))
 settles s g n (replace image name argv) e = replaced s g n image name argv e
 settles s g n (push pc top bytes lengths) e = changed s _ g n _ (push-change s g n (pushes s g n pc top bytes lengths e .number) top (argsOf bytes lengths))
 settles s g n (break addr) e =
@@ -70,7 +70,7 @@ settles s g n (break addr) e =
     (λ q. rw q (idle s g n))
     (λ q. rw q (changed s (brk s n (procAt (s .procs) n) (pageUp addr)) g n (movedTo (pageUp addr) (view s n)) (break-change s g n addr (h .number) (h .living) (h .moves (eqb-false addr 0 q)))))
 settles s g n (fork child segments) e = changed s _ g child (view s n) (fork-change s g n child (forks-child s g n child segments e))
-settles s g n end e = changed s (forget s n) g n off (forget-change s g n (ends s g n e .number))
+settles s g n end e = changed s (forget s n) g n (off (s .setup)) (forget-change s g n (ends s g n e .number))
 settles s g n (user-range-ok addr len write) e = idle s g n
 settles s g n (copy-from-user buffer src) e = idle s g n
 settles s g n (copy-to-user dst bytes) e = changed s _ g n _ (copy-change s g n (writes s g n dst bytes e .number) dst bytes)
@@ -78,12 +78,12 @@ settles s g n (try-copy-str-from-user buffer src) e = idle s g n
 
 -- ---- ended
 
-ended-sees : (s : State) → Good s → (n : ℕ) (q : Ask) → outcome (answer s (record { number = n; ask = q })) ≡ ended → Sees (forget s n) (put (view s) n off)
+ended-sees : (s : State) → Good s → (n : ℕ) (q : Ask) → outcome (answer s (record { number = n; ask = q })) ≡ ended → Sees (forget s n) (put (view s) n (off (s .setup)))
 ended-sees s g n q e =
     let h = not-refused s g (record { number = n; ask = q }) ended e ended≢ in
-    changed s (forget s n) g n off (forget-change s g n (valid-number n (kind q) (h .number)))
+    changed s (forget s n) g n (off (s .setup)) (forget-change s g n (valid-number n (kind q) (h .number)))
 
-ending : (s : State) → Good s → (n : ℕ) (q : Ask) → outcome (answer s (record { number = n; ask = q })) ≡ ended → Sees (forget s n) (effect (view s) (record { number = n; ask = q }) (kind q) ended)
+ending : (s : State) → Good s → (n : ℕ) (q : Ask) → outcome (answer s (record { number = n; ask = q })) ≡ ended → Sees (forget s n) (effect (s .setup) (view s) (record { number = n; ask = q }) (kind q) ended)
 unfolding effect
 ending s g n (start image name bytes lengths) e = absurd (start-ends-nobody s g n image name bytes lengths e)
 ending s g n (replace image name argv) e = ended-sees s g n (replace image name argv) e
@@ -98,11 +98,11 @@ ending s g n (try-copy-str-from-user buffer src) e = ended-sees s g n (try-copy-
 
 -- ---- any call, any outcome
 
-pub each-call : (s : State) → Good s → (c : Call) → Sees (after s c) (effect (view s) c (kind (c .ask)) (outcome (answer s c)))
+pub each-call : (s : State) → Good s → (c : Call) → Sees (after s c) (effect (s .setup) (view s) c (kind (c .ask)) (outcome (answer s c)))
 unfolding after
 each-call s g c = go (outcome (answer s c)) refl
   where
-    go : (o : Outcome) → outcome (answer s c) ≡ o → Sees (leave s c o) (effect (view s) c (kind (c .ask)) o)
+    go : (o : Outcome) → outcome (answer s c) ≡ o → Sees (leave s c o) (effect (s .setup) (view s) c (kind (c .ask)) o)
     go accepted e = settles s g (c .number) (c .ask) e
-    go refused e = record { good = g; each = λ q v. sym (effect-refused (view s) c (kind (c .ask)) q) }
+    go refused e = record { good = g; each = λ q v. sym (effect-refused (s .setup) (view s) c (kind (c .ask)) q) }
     go ended e = ending s g (c .number) (c .ask) e

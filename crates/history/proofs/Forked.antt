@@ -17,7 +17,7 @@ use Rattle.laws.proofs.Pages.{cellOr}
 use Rattle.laws.proofs.Contents.{frame-byte, length-frame}
 use Rattle.laws.proofs.Facts.{sound-between}
 use Rattle.laws.proofs.OwnPieces.{shape-between, own-pieces}
-use Rattle.history.proofs.Passed.{Good}
+use Rattle.history.proofs.Passed.{Good, good-setup}
 use Rattle.history.proofs.Accepted.{Forks}
 use Rattle.history.proofs.OneState.{known, living-shape, dead-view, pages}
 use Rattle.history.proofs.Stored.{Stored, Proper, stored-place}
@@ -29,12 +29,12 @@ cell-again none = refl
 cell-again (some c) = refl
 
 -- the pages of a living process
-proper-own : (s : State) → Good s → (n : ℕ) → valid n ≡ true → taken s n ≡ true → Proper (piecesOf (procAt (s .procs) n))
+proper-own : (s : State) → Good s → (n : ℕ) → valid n ≡ true → taken s n ≡ true → Proper (s .setup) (piecesOf (procAt (s .procs) n))
 proper-own s g n v t a q e =
     let k = known s g in
     let x = living-shape s g n v t in
-    let b = sound-between (s .store .book) (s .procs) (k .whole) (k .facts) n a q v e in
-    let r = shape-between (procAt (s .procs) n) (x .0) (x .1) a q e in
+    let b = sound-between (s .setup) (s .store .book) (s .procs) (k .whole) (k .facts) n a q v e in
+    let r = shape-between (s .setup) (good-setup s g) (procAt (s .procs) n) (x .0) (x .1) a q e in
     (b .0, b .1, r .0, r .1)
 
 pub fork-change : (s : State) → Good s → (n child : ℕ) → Forks s n child → Change s (copy s n child (procAt (s .procs) n)) child (view s n)
@@ -44,9 +44,9 @@ fork-change s g n child h =
     let f : ℕ → List ℕ = λ a. frameBytes (s .store .frames) (frameOf (s .store .book) n a) in
     let x = living-shape s g n (h .number) (h .living) in
     change-set s g child (h .child-number) (place (s .store) child (pagesOf f (piecesOf p))) p (view s n .mem)
-    (subst (Stored (s .store) (place (s .store) child (pagesOf f (piecesOf p))) child) (fun-ext same)
-    (stored-place (s .store) (s .store) child (view s child .mem) (stored-self s g child) (h .child-number) f (piecesOf p)
-    (own-pieces p (x .0) (x .1)) (proper-own s g n (h .number) (h .living))
+    (subst (Stored (s .setup) (s .store) (place (s .store) child (pagesOf f (piecesOf p))) child) (fun-ext same)
+    (stored-place (s .setup) (s .store) (s .store) child (view s child .mem) (stored-self s g child) (h .child-number) f (piecesOf p)
+    (own-pieces (s .setup) (good-setup s g) p (x .0) (x .1)) (proper-own s g n (h .number) (h .living))
     (λ a q z e. length-frame (s .store) n a q (k .fits) (k .facts .exact n a (h .number) z ∙ e)) (λ a q z e. empty a) (h .room)))
     (k .whole .each (n - 1)) (λ l. x) (λ a. pages s g n a (h .number))
   where

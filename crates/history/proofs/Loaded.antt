@@ -5,7 +5,7 @@ use mathlib.Core.Bool.{true, false}
 use mathlib.Core.Option.{Option, none, some}
 use mathlib.Core.List.{List}
 use lib.ListN.{getD}
-use Rattle.spec.specs.Numbers.{ustktop, pageDown, pageBytes}
+use Rattle.spec.specs.Numbers.{pageDown, pageBytes}
 use Rattle.spec.specs.Book.{valid, free, permAt, pageCount}
 use Rattle.spec.specs.Frames.{Store, pagesOf, place}
 use Rattle.spec.specs.Elf.{segmentsOf}
@@ -19,7 +19,7 @@ use Rattle.laws.proofs.Pages.{cellOr}
 use Rattle.laws.proofs.Contents.{length-page, page-byte}
 use Rattle.laws.proofs.Accepted.{image-shape}
 use Rattle.laws.proofs.Started.{proc-whole, start-perm, start-between, start-apart, start-pieces}
-use Rattle.history.proofs.Passed.{Good}
+use Rattle.history.proofs.Passed.{Good, good-setup}
 use Rattle.history.proofs.OneState.{dead-view}
 use Rattle.history.proofs.Stored.{Stored, stored-place}
 use Rattle.history.proofs.Change.{holds, Change, stored-self, change-set}
@@ -33,35 +33,35 @@ cell-perm : (o : Option ℕ) (b : ℕ) → permIn (cellOf b o) ≡ o
 cell-perm none b = refl
 cell-perm (some q) b = refl
 
-pub load-change : (s : State) → Good s → (n : ℕ) (image name : List ℕ) (args : List (List ℕ)) → valid n ≡ true → taken s n ≡ false → imageError image ≡ 0 → pageCount (startPieces image) ≤ free (s .store .book)
-    → Change s (load s n image name args) n (begun image args)
+pub load-change : (s : State) → Good s → (n : ℕ) (image name : List ℕ) (args : List (List ℕ)) → valid n ≡ true → taken s n ≡ false → imageError (s .setup) image ≡ 0 → pageCount (startPieces (s .setup) image) ≤ free (s .store .book)
+    → Change s (load s n image name args) n (begun (s .setup) image args)
 load-change s g n image name args v t e room =
     subst (Change s (load s n image name args) n) begun-is
-    (change-set s g n v (pushIn m n ustktop args) p (pushed ustktop args (loaded image))
-    (stored-pushed (s .store) m n (loaded image)
-    (subst (Stored (s .store) m n) (fun-ext seen)
-    (stored-place (s .store) (s .store) n (view s n .mem) (stored-self s g n) v f (startPieces image) (start-apart image e)
-    (λ a q h. let x = start-perm image e a q h in let y = start-between image e a q h in (x .0, x .1, y .0, y .1)) (λ a q z h. length-page (fileByte (segmentsOf image)) a) (λ a q z h. empty a) room))
-    ustktop args)
-    (proc-whole image name e) (λ l. (imageSegments image, image-shape image name e))
-    (exact-pushed (holds p (loaded image)) (λ a. cell-perm (permAt (startPieces image) a) (fileByte (segmentsOf image) a) ∙ start-pieces image name e a) ustktop args))
+    (change-set s g n v (pushIn m n (s .setup .ustktop) args) p (pushed (s .setup .ustktop) args (loaded (s .setup) image))
+    (stored-pushed (s .setup) (s .store) m n (loaded (s .setup) image)
+    (subst (Stored (s .setup) (s .store) m n) (fun-ext seen)
+    (stored-place (s .setup) (s .store) (s .store) n (view s n .mem) (stored-self s g n) v f (startPieces (s .setup) image) (start-apart (s .setup) (good-setup s g) image e)
+    (λ a q h. let x = start-perm (s .setup) image e a q h in let y = start-between (s .setup) (good-setup s g) image e a q h in (x .0, x .1, y .0, y .1)) (λ a q z h. length-page (fileByte (segmentsOf image)) a) (λ a q z h. empty a) room))
+    (s .setup .ustktop) args)
+    (proc-whole (s .setup) image name e) (λ l. (imageSegments image, image-shape (s .setup) (good-setup s g) image name e))
+    (exact-pushed (holds (s .setup) p (loaded (s .setup) image)) (λ a. cell-perm (permAt (startPieces (s .setup) image) a) (fileByte (segmentsOf image) a) ∙ start-pieces (s .setup) (good-setup s g) image name e a) (s .setup .ustktop) args))
   where
     p : Proc
-    p = procOf image name
+    p = procOf (s .setup) image name
 
     f : ℕ → List ℕ
     f = pageBytes (fileByte (segmentsOf image))
 
     m : Store
-    m = place (s .store) n (pagesOf f (startPieces image))
+    m = place (s .store) n (pagesOf f (startPieces (s .setup) image))
 
-    begun-is : holds p (pushed ustktop args (loaded image)) ≡ begun image args
-    begun-is = let x = shape-used p (imageSegments image) (image-shape image name e) in λ i. record { segments = x i; bss = p .bss; mem = pushed ustktop args (loaded image) }
+    begun-is : holds (s .setup) p (pushed (s .setup .ustktop) args (loaded (s .setup) image)) ≡ begun (s .setup) image args
+    begun-is = let x = shape-used (s .setup) p (imageSegments image) (image-shape (s .setup) (good-setup s g) image name e) in λ i. record { setup = s .setup; segments = x i; bss = p .bss; mem = pushed (s .setup .ustktop) args (loaded (s .setup) image) }
 
     empty : (a : ℕ) → view s n .mem a ≡ none
     empty a = ap (λ (x : Machine). x .mem a) (dead-view s g n v t)
 
-    seen : (a : ℕ) → cellOr (permAt (startPieces image) a) (getD (f (pageDown a)) (a % 4096) 0) (view s n .mem a) ≡ loaded image a
+    seen : (a : ℕ) → cellOr (permAt (startPieces (s .setup) image) a) (getD (f (pageDown a)) (a % 4096) 0) (view s n .mem a) ≡ loaded (s .setup) image a
     seen a =
-        ap₂ (cellOr (permAt (startPieces image) a)) (page-byte (fileByte (segmentsOf image)) a) (empty a)
-        ∙ cell-same (permAt (startPieces image) a) (fileByte (segmentsOf image) a)
+        ap₂ (cellOr (permAt (startPieces (s .setup) image) a)) (page-byte (fileByte (segmentsOf image)) a) (empty a)
+        ∙ cell-same (permAt (startPieces (s .setup) image) a) (fileByte (segmentsOf image) a)

@@ -9,7 +9,7 @@ use lib.ListN.{getD}
 use borrow.Author.Tests.{eq-eqb, ne-eqb, lt-ltb, le-ltb}
 use Rattle.spec.proofs.Bools.{split, clash, within-means, within-test, within-not}
 use Rattle.spec.specs.Tests.{_is_, _below_, within, _⇒_else_}
-use Rattle.spec.specs.Numbers.{utzero, limit, pageDown, pageUp, zeroPage}
+use Rattle.spec.specs.Numbers.{limit, pageDown, pageUp, zeroPage}
 use Rattle.spec.specs.Book.{ownerOf, pageOf, valid, free, range, segment, used, stack, bssSegment, permAt, pageCount, procAt}
 use Rattle.spec.specs.Sound.{Shape}
 use Rattle.spec.specs.Frames.{Cell, Mem, Store, pagesOf, place, release}
@@ -19,6 +19,7 @@ use Rattle.spec.specs.World.{State, taken, view, brk}
 use Rattle.spec.specs.History.{permIn}
 use Rattle.spec.specs.declared.UserSegment.{UserSegment}
 use Rattle.spec.specs.declared.Proc.{Proc}
+use Rattle.spec.specs.declared.Setup.{Setup}
 use Rattle.laws.proofs.Lists.{by-order}
 use Rattle.laws.proofs.Shape.{shape-made, shape-image, shape-bss, shape-used}
 use Rattle.laws.proofs.Pieces.{outside-low, perm-past, perm-there, tail-same, within-page}
@@ -26,7 +27,7 @@ use Rattle.laws.proofs.Pages.{cellOr}
 use Rattle.laws.proofs.Contents.{length-zero, zero-byte}
 use Rattle.laws.proofs.Count.{free-release}
 use Rattle.laws.proofs.OwnPieces.{image-high}
-use Rattle.history.proofs.Passed.{Good}
+use Rattle.history.proofs.Passed.{Good, good-setup}
 use Rattle.history.proofs.Accepted.{Moves}
 use Rattle.history.proofs.OneState.{known, living-shape, pages}
 use Rattle.history.proofs.Stored.{Stored, Proper, stored-release, stored-place}
@@ -38,20 +39,20 @@ use Rattle.history.proofs.Change.{Exact, holds, Change, stored-self, ch
 abbrev movedProc : Proc → ℕ → Proc
 movedProc p top = record { segments = p .segments; text = p .text; bss = range (p .bss .start) top }
 
-moved-shape : (p : Proc) (image : List UserSegment) → Shape p image → (top : ℕ) → p .bss .start ≤ top → top % 4096 ≡ 0 → top ≤ limit → Shape (movedProc p top) image
-moved-shape p image h top l z u =
-    let b = shape-bss p image h in
-    shape-made (movedProc p top) image (h .segments) (h .at-most) (shape-image p image h) (record { start = b .start; order = l; aligned = z; low = u; past = b .past })
+moved-shape : (setup : Setup) (p : Proc) (image : List UserSegment) → Shape setup p image → (top : ℕ) → p .bss .start ≤ top → top % 4096 ≡ 0 → top ≤ limit setup → Shape setup (movedProc p top) image
+moved-shape setup p image h top l z u =
+    let b = shape-bss setup p image h in
+    shape-made setup (movedProc p top) image (h .segments) (h .at-most) (shape-image setup p image h) (record { start = b .start; order = l; aligned = z; low = u; past = b .past })
 
 -- ---- permissions
 
 -- no segment of a record lies between its bss and limit
-above-segments : (p : Proc) (image : List UserSegment) → Shape p image → (a : ℕ) → pageUp (p .bss .start) ≤ a → a < limit → permAt (used (p .segments)) a ≡ none
-above-segments p image h a l u =
-    let b = shape-bss p image h in
-    ap (λ (gs : List UserSegment). permAt gs a) (shape-used p image h)
-    ∙ perm-past image (stack ∷ []) a (image-high utzero image (shape-image p image h) a (omega (arith, b .past)))
-    ∙ perm-there stack [] a (outside-low stack a (omega arith))
+above-segments : (setup : Setup) (p : Proc) (image : List UserSegment) → Shape setup p image → (a : ℕ) → pageUp (p .bss .start) ≤ a → a < limit setup → permAt (used (p .segments)) a ≡ none
+above-segments setup p image h a l u =
+    let b = shape-bss setup p image h in
+    ap (λ (gs : List UserSegment). permAt gs a) (shape-used setup p image h)
+    ∙ perm-past image (stack setup ∷ []) a (image-high setup (setup .utzero) image (shape-image setup p image h) a (omega (arith, b .past)))
+    ∙ perm-there (stack setup) [] a (outside-low (stack setup) a (omega arith))
 
 -- an address that lies in neither range lies below both ends or below none
 same-below : (x y a : ℕ) → within x y a ≡ false → within y x a ≡ false → (a below x) ≡ (a below y)
@@ -60,18 +61,18 @@ same-below x y a q t =
     (λ l. by-order a y (λ k. lt-ltb a x l ∙ sym (lt-ltb a y k)) (λ k. clash (within y x a) (within-test y x a k l) t))
     (λ l. by-order a y (λ k. clash (within x y a) (within-test x y a l k) q) (λ k. le-ltb a x l ∙ sym (le-ltb a y k)))
 
-moved-exact : (p : Proc) (image : List UserSegment) → Shape p image → (top : ℕ) → pageUp (p .bss .start) ≤ top → top ≤ limit → (mem : Mem) → Exact (holds p mem) → Exact (movedTo top (holds p mem))
-moved-exact p image h top l u mem e a =
+moved-exact : (setup : Setup) (p : Proc) (image : List UserSegment) → Shape setup p image → (top : ℕ) → pageUp (p .bss .start) ≤ top → top ≤ limit setup → (mem : Mem) → Exact (holds setup p mem) → Exact (movedTo top (holds setup p mem))
+moved-exact setup p image h top l u mem e a =
     split (within end top a)
     (λ q.
     let r = within-means end top a q in
-    rw q (sym (perm-past (used (p .segments)) (bssSegment (range start top) ∷ []) a (above-segments p image h a (omega (arith, order, r .0)) (omega (arith, r .1)))
+    rw q (sym (perm-past (used (p .segments)) (bssSegment (range start top) ∷ []) a (above-segments setup p image h a (omega (arith, order, r .0)) (omega (arith, r .1)))
     ∙ rw (within-test (pageUp start) top a (omega (arith, order, r .0)) (r .1)))))
     (λ q.
     split (within top end a)
     (λ t.
     let r = within-means top end a t in
-    rw (q, t) (sym (perm-past (used (p .segments)) (bssSegment (range start top) ∷ []) a (above-segments p image h a (omega (arith, r .0)) (omega (arith, r .1, h .bss-end .1)))
+    rw (q, t) (sym (perm-past (used (p .segments)) (bssSegment (range start top) ∷ []) a (above-segments setup p image h a (omega (arith, r .0)) (omega (arith, r .1, h .bss-end .1)))
     ∙ rw (within-not (pageUp start) top a (λ x y. omega (arith, r .0))))))
     (λ t. rw (q, t) (e a ∙ tail-same (used (p .segments)) (bssSegment (p .bss) ∷ []) (bssSegment (range start top) ∷ []) a (ap (λ (b : Bool). not (a below pageUp start) && b ⇒ some 3 else none) (same-below end top a q t)))))
   where
@@ -90,15 +91,15 @@ nothing : (c : Option Cell) → permIn c ≡ none → c ≡ none
 nothing none e = refl
 nothing (some c) e = absurd (let z : _≡_ {A = ℕ} 0 1 = cc in omega arith)
 
-pub break-change : (s : State) → Good s → (n addr : ℕ) → valid n ≡ true → taken s n ≡ true → Moves (view s n .bss) addr (free (s .store .book))
+pub break-change : (s : State) → Good s → (n addr : ℕ) → valid n ≡ true → taken s n ≡ true → Moves (s .setup) (view s n .bss) addr (free (s .store .book))
     → Change s (brk s n (procAt (s .procs) n) (pageUp addr)) n (movedTo (pageUp addr) (view s n))
 break-change s g n addr v t h =
     change-set s g n v (place m₁ n (pagesOf zeroPage gs)) (movedProc p top) (moved end top mem)
-    (subst (Stored (s .store) (place m₁ n (pagesOf zeroPage gs)) n) (fun-ext seen)
-    (stored-place (s .store) m₁ n mem₁ released v zeroPage gs (record { start = low .0; end = top-aligned; apart = λ a q. refl }, tt) proper (λ a q z e. length-zero a) new enough))
+    (subst (Stored (s .setup) (s .store) (place m₁ n (pagesOf zeroPage gs)) n) (fun-ext seen)
+    (stored-place (s .setup) (s .store) m₁ n mem₁ released v zeroPage gs (record { start = low .0; end = top-aligned; apart = λ a q. refl }, tt) proper (λ a q z e. length-zero a) new enough))
     (let w = known s g .whole .each (n - 1) in record { segments = w .segments; text = w .text })
-    (λ l. (image, moved-shape p image shape top (omega (arith, h .above-start)) top-aligned (h .low)))
-    (moved-exact p image shape top (omega (arith, h .above-start)) (h .low) mem (λ a. pages s g n a v))
+    (λ l. (image, moved-shape (s .setup) p image shape top (omega (arith, h .above-start)) top-aligned (h .low)))
+    (moved-exact (s .setup) p image shape top (omega (arith, h .above-start)) (h .low) mem (λ a. pages s g n a v))
   where
     p : Proc
     p = procAt (s .procs) n
@@ -115,13 +116,13 @@ break-change s g n addr v t h =
     image : List UserSegment
     image = living-shape s g n v t .0
 
-    shape : Shape p image
+    shape : Shape (s .setup) p image
     shape = living-shape s g n v t .1
 
     top-aligned : top % 4096 ≡ 0
     top-aligned = omega arith
 
-    low : (end % 4096 ≡ 0) × (end ≤ limit)
+    low : (end % 4096 ≡ 0) × (end ≤ limit (s .setup))
     low = shape .bss-end
 
     gs : List UserSegment
@@ -133,8 +134,8 @@ break-change s g n addr v t h =
     mem₁ : Mem
     mem₁ a = n is n && within top end (pageDown a) ⇒ none else mem a
 
-    released : Stored (s .store) m₁ n mem₁
-    released = stored-release (s .store) (s .store) n mem (stored-self s g n) (λ o page. o is n && within top end page) (λ q page ne. rw (ne-eqb q n ne))
+    released : Stored (s .setup) (s .store) m₁ n mem₁
+    released = stored-release (s .setup) (s .store) (s .store) n mem (stored-self s g n) (λ o page. o is n && within top end page) (λ q page ne. rw (ne-eqb q n ne))
 
     -- an address of a new page
     between : (a q : ℕ) → permAt gs a ≡ some q → (q ≡ 3) × (end ≤ a) × (a < top)
@@ -143,10 +144,10 @@ break-change s g n addr v t h =
         (λ w. let r = within-means end top a w in let z : some 3 ≡ some q = rw w at e in (cc, r .0, r .1))
         (λ w. let z : none ≡ some q = rw w at e in absurd (let y : _≡_ {A = ℕ} 0 1 = cc in omega arith))
 
-    proper : Proper gs
+    proper : Proper (s .setup) gs
     proper a q e =
         let r = between a q e in
-        (omega (arith, r .0), omega (arith, r .0), omega (arith, r .1, shape .bss-start, shape .bss-order), omega (arith, r .2, h .low))
+        (omega (arith, r .0), omega (arith, r .0), omega (arith, r .1, shape .bss-start, shape .bss-order), omega (arith, r .2, h .low, good-setup s g))
 
     -- was not there
     new : (a q : ℕ) → a % 4096 ≡ 0 → permAt gs a ≡ some q → mem₁ a ≡ none
@@ -158,7 +159,7 @@ break-change s g n addr v t h =
         unmapped : mem a ≡ none
         unmapped =
             nothing (mem a) (pages s g n a v
-            ∙ perm-past (used (p .segments)) (bssSegment (p .bss) ∷ []) a (above-segments p image shape a (omega (arith, r .1, shape .bss-order, low .0)) (omega (arith, r .2, h .low)))
+            ∙ perm-past (used (p .segments)) (bssSegment (p .bss) ∷ []) a (above-segments (s .setup) p image shape a (omega (arith, r .1, shape .bss-order, low .0)) (omega (arith, r .2, h .low)))
             ∙ rw (within-not (pageUp (p .bss .start)) end a (λ x y. omega (arith, r .1))))
 
         gone : (b : Bool) → (b ⇒ none else mem a) ≡ none

@@ -12,7 +12,7 @@ use borrow.Author.Tests.{eq-eqb, ne-eqb}
 use Rattle.spec.proofs.Args.{args-means}
 use Rattle.spec.proofs.Bools.{clash, neither, not-true, not-above, not-false, within-test, within-not}
 use Rattle.spec.specs.Tests.{_is_, _isnt_, _above_, within, _⇒_else_, any, same, sum}
-use Rattle.spec.specs.Numbers.{argLimit, ustktop, pageUp}
+use Rattle.spec.specs.Numbers.{argLimit, pageUp}
 use Rattle.spec.specs.Book.{valid, free, sameSegment, permAt, pageCount}
 use Rattle.spec.specs.Elf.{Segment, segmentsOf, entry, inFile}
 use Rattle.spec.specs.Exec.{imageError, startPieces, fileByte, loaded, argsOf, strings, argsError, stringsAt, argvAt, registers, pointers, pushed, copyArgv}
@@ -24,6 +24,7 @@ use Rattle.spec.specs.declared.UserSegment.{UserSegment}
 use Rattle.spec.specs.declared.UserRegs.{UserRegs}
 use Rattle.spec.specs.declared.Answer.{Answer}
 use Rattle.spec.specs.declared.Answer.the-variants.{Regs, Done, Refused}
+use Rattle.spec.specs.declared.Setup.{Setup}
 use Rattle.laws.proofs.Lists.{Each}
 use Rattle.history.proofs.Passed.{Good, answered, accepted≢, weighs}
 use Rattle.history.proofs.Whole.{effect}
@@ -43,10 +44,10 @@ put-else : {A : Type 0} (f : ℕ → A) (n q : ℕ) (x : A) → (q ≡ n → ⊥
 put-else f n q x ne = rw (ne-eqb q n ne)
 
 -- what is readable after a call whose outcome is known
-reads-after : (s : State) → Good s → (c : Call) (o : Outcome) → outcome (answer s c) ≡ o → (q a : ℕ) → valid q ≡ true → readable (after s c) q a ≡ held (effect (view s) c (kind (c .ask)) o q) a
+reads-after : (s : State) → Good s → (c : Call) (o : Outcome) → outcome (answer s c) ≡ o → (q a : ℕ) → valid q ≡ true → readable (after s c) q a ≡ held (effect (s .setup) (view s) c (kind (c .ask)) o q) a
 reads-after s g c o e q a v =
     let r = each-call s g c in
-    reads (after s c) (r .good) q a v ∙ ap (λ (m : Machine). held m a) (r .each q v ∙ ap (λ (x : Outcome). effect (view s) c (kind (c .ask)) x q) e)
+    reads (after s c) (r .good) q a v ∙ ap (λ (m : Machine). held m a) (r .each q v ∙ ap (λ (x : Outcome). effect (s .setup) (view s) c (kind (c .ask)) x q) e)
 
 -- ---- whose bytes a call changes
 
@@ -55,7 +56,7 @@ others-view : (s : State) → Good s → (c : Call) (q : ℕ) → valid q ≡ tr
 unfolding effect
 others-view s g c q v t ne = each-call s g c .each q v ∙ go (kind (c .ask)) refl (outcome (answer s c)) refl
   where
-    go : (k : Kind) → kind (c .ask) ≡ k → (o : Outcome) → outcome (answer s c) ≡ o → effect (view s) c k o q ≡ view s q
+    go : (k : Kind) → kind (c .ask) ≡ k → (o : Outcome) → outcome (answer s c) ≡ o → effect (s .setup) (view s) c k o q ≡ view s q
     go begins x accepted e = put-else (view s) (c .number) q _ ne
     go begins x refused e = refl
     go begins x ended e = refl
@@ -63,7 +64,7 @@ others-view s g c q v t ne = each-call s g c .each q v ∙ go (kind (c .ask)) re
         let new : not (taken s child) ≡ true = ap (unclaimed (taken s) (c .number)) (sym x) ∙ not-refused s g c accepted e accepted≢ .new in
         put-else (view s) child q _ (λ z. clash (taken s q) t (ap (taken s) z ∙ not-true (taken s child) new))
     go (forks child segments) x refused e = refl
-    go (forks child segments) x ended e = put-else (view s) (c .number) q off ne
+    go (forks child segments) x ended e = put-else (view s) (c .number) q (off (s .setup)) ne
     go plain x o e = put-else (view s) (c .number) q _ ne
 
 -- who sees the same lives as before
@@ -96,7 +97,7 @@ child-reads s g n child segments e h ne a =
     let f = forks-child s g n child segments e in
     let r = each-call s g (call n (fork child segments)) in
     let same : view (after s (call n (fork child segments))) child ≡ view s n =
-    r .each child (f .child-number) ∙ ap (λ (o : Outcome). effect (view s) (call n (fork child segments)) (forks child segments) o child) e ∙ put-here (view s) child (view s n) in
+    r .each child (f .child-number) ∙ ap (λ (o : Outcome). effect (s .setup) (view s) (call n (fork child segments)) (forks child segments) o child) e ∙ put-here (view s) child (view s n) in
     let t : taken (after s (call n (fork child segments))) child ≡ true = lives-same s (after s (call n (fork child segments))) g (r .good) child n (f .child-number) (f .number) same ∙ f .living in
     others-read (after s (call n (fork child segments))) (r .good) child (f .child-number) t h ne a
     ∙ reads (after s (call n (fork child segments))) (r .good) child a (f .child-number) ∙ ap (λ (m : Machine). held m a) same ∙ sym (reads s g n a (f .number))
@@ -143,26 +144,26 @@ break-keeps s g n addr e a l u =
 -- ---- start
 
 start-reads : (s : State) → Good s → (n : ℕ) (image name bytes lengths : List ℕ) → outcome (answer s (call n (start image name bytes lengths))) ≡ accepted
-    → (a : ℕ) → readable (after s (call n (start image name bytes lengths))) n a ≡ byteIn (pushed ustktop (argsOf bytes lengths) (loaded image) a)
+    → (a : ℕ) → readable (after s (call n (start image name bytes lengths))) n a ≡ byteIn (pushed (s .setup .ustktop) (argsOf bytes lengths) (loaded (s .setup) image) a)
 unfolding effect
 start-reads s g n image name bytes lengths e a =
     reads-after s g (call n (start image name bytes lengths)) accepted e n a (starts s g n image name bytes lengths e .number)
-    ∙ ap (λ (m : Machine). held m a) (put-here (view s) n (begun image (argsOf bytes lengths)))
+    ∙ ap (λ (m : Machine). held m a) (put-here (view s) n (begun (s .setup) image (argsOf bytes lengths)))
 
 -- an address that neither strings nor pointers were written to
-pub record Unpushed (args : List (List ℕ)) (a : ℕ) : Type 0 where
-  pub no-string : within (stringsAt ustktop args) (stringsAt ustktop args + length (strings args)) a ≡ false
-  pub no-pointer : within (argvAt ustktop args) (argvAt ustktop args + length (pointers (stringsAt ustktop args) args)) a ≡ false
+pub record Unpushed (setup : Setup) (args : List (List ℕ)) (a : ℕ) : Type 0 where
+  pub no-string : within (stringsAt (setup .ustktop) args) (stringsAt (setup .ustktop) args + length (strings args)) a ≡ false
+  pub no-pointer : within (argvAt (setup .ustktop) args) (argvAt (setup .ustktop) args + length (pointers (stringsAt (setup .ustktop) args) args)) a ≡ false
 
 -- in a page of an image or its stack it holds its file byte, or 0
 start-byte : (s : State) → Good s → (n : ℕ) (image name bytes lengths : List ℕ) → outcome (answer s (call n (start image name bytes lengths))) ≡ accepted
-    → (a q : ℕ) → permAt (startPieces image) a ≡ some q → Unpushed (argsOf bytes lengths) a
+    → (a q : ℕ) → permAt (startPieces (s .setup) image) a ≡ some q → Unpushed (s .setup) (argsOf bytes lengths) a
     → readable (after s (call n (start image name bytes lengths))) n a ≡ some (fileByte (segmentsOf image) a)
 start-byte s g n image name bytes lengths e a q p out = start-reads s g n image name bytes lengths e a ∙ rw (out .no-pointer, out .no-string, p)
 
 -- so a page is zero but for file bytes and pushed arguments
 pub start-zero : (s : State) → Good s → (n : ℕ) (image name bytes lengths : List ℕ) → outcome (answer s (call n (start image name bytes lengths))) ≡ accepted
-    → (a q : ℕ) → permAt (startPieces image) a ≡ some q → Unpushed (argsOf bytes lengths) a → any (inFile a) (segmentsOf image) ≡ false
+    → (a q : ℕ) → permAt (startPieces (s .setup) image) a ≡ some q → Unpushed (s .setup) (argsOf bytes lengths) a → any (inFile a) (segmentsOf image) ≡ false
     → readable (after s (call n (start image name bytes lengths))) n a ≡ some 0
 start-zero s g n image name bytes lengths e a q p out none-in = start-byte s g n image name bytes lengths e a q p out ∙ ap some (go (segmentsOf image) none-in)
   where
@@ -172,27 +173,27 @@ start-zero s g n image name bytes lengths e a q p out none-in = start-byte s g n
 
 -- arguments lie in the top 4,096 bytes of the stack
 pub below-args : (s : State) → Good s → (n : ℕ) (image name bytes lengths : List ℕ) → outcome (answer s (call n (start image name bytes lengths))) ≡ accepted
-    → (a : ℕ) → a < ustktop - argLimit → Unpushed (argsOf bytes lengths) a
+    → (a : ℕ) → a < s .setup .ustktop - argLimit (s .setup) → Unpushed (s .setup) (argsOf bytes lengths) a
 below-args s g n image name bytes lengths e a l =
     let args : List (List ℕ) = argsOf bytes lengths in
-    let small = args-means args (starts s g n image name bytes lengths e .args-fit) .1 in
+    let small = args-means (s .setup) args (starts s g n image name bytes lengths e .args-fit) .1 in
     record { no-string = within-not _ _ a (λ x y. omega arith); no-pointer = within-not _ _ a (λ x y. omega arith) }
 
 -- ---- arguments
 
 -- a program that was started finds the arguments given where its registers say
 pub start-tells : (s : State) → Good s → (n : ℕ) (image name bytes lengths : List ℕ) (regs : UserRegs) → answer s (call n (start image name bytes lengths)) .says ≡ Regs regs
-    → ArgsAt (view (after s (call n (start image name bytes lengths))) n .mem) ustktop (argsOf bytes lengths) regs
+    → ArgsAt (s .setup) (view (after s (call n (start image name bytes lengths))) n .mem) (s .setup .ustktop) (argsOf bytes lengths) regs
 start-tells s g n image name bytes lengths regs e = args-read s g (call n (start image name bytes lengths)) regs e
 
 -- one that replaced another finds those that the other had in memory
 pub replace-tells : (s : State) → Good s → (n : ℕ) (image name : List ℕ) (argv : ℕ) (regs : UserRegs) → answer s (call n (replace image name argv)) .says ≡ Regs regs
-    → ArgsAt (view (after s (call n (replace image name argv))) n .mem) ustktop (copyArgv (view s n .mem) argv .args) regs
+    → ArgsAt (s .setup) (view (after s (call n (replace image name argv))) n .mem) (s .setup .ustktop) (copyArgv (s .setup) (view s n .mem) argv .args) regs
 replace-tells s g n image name argv regs e = args-read s g (call n (replace image name argv)) regs e
 
 -- and so does one that arguments are pushed to
 pub push-tells : (s : State) → Good s → (n pc top : ℕ) (bytes lengths : List ℕ) (regs : UserRegs) → answer s (call n (push pc top bytes lengths)) .says ≡ Regs regs
-    → ArgsAt (view (after s (call n (push pc top bytes lengths))) n .mem) top (argsOf bytes lengths) regs
+    → ArgsAt (s .setup) (view (after s (call n (push pc top bytes lengths))) n .mem) top (argsOf bytes lengths) regs
 push-tells s g n pc top bytes lengths regs e = args-read s g (call n (push pc top bytes lengths)) regs e
 
 -- ---- what fits is accepted
@@ -202,14 +203,14 @@ fits-chain a b c x y z w p q r = rw (p, q, r)
 
 -- a start whose arguments and image fit, with free frames for its pages, on a number that is free
 pub start-fits : (s : State) → Good s → (n : ℕ) (image name bytes lengths : List ℕ) → sum lengths ≡ length bytes → valid n ≡ true → taken s n ≡ false
-    → argsError (argsOf bytes lengths) ≡ 0 → imageError image ≡ 0 → pageCount (startPieces image) ≤ free (s .store .book)
-    → answer s (call n (start image name bytes lengths)) ≡ plainly (Regs (registers (entry image) ustktop (argsOf bytes lengths)))
+    → argsError (s .setup) (argsOf bytes lengths) ≡ 0 → imageError (s .setup) image ≡ 0 → pageCount (startPieces (s .setup) image) ≤ free (s .store .book)
+    → answer s (call n (start image name bytes lengths)) ≡ plainly (Regs (registers (entry image) (s .setup .ustktop) (argsOf bytes lengths)))
 start-fits s g n image name bytes lengths fit v t args-fit image-fits room =
     let args : List (List ℕ) = argsOf bytes lengths in
     let zero-isnt : (k : ℕ) → k ≡ 0 → (k isnt 0) ≡ false = λ k z. ap not (eq-eqb k 0 z) in
     answered s g (call n (start image name bytes lengths))
     ∙ weighs (view s n) (free (s .store .book)) (taken s) (call n (start image name bytes lengths)) (eq-eqb _ _ fit) refl v refl (not-false _ t)
-    ∙ ap plainly (fits-chain (argsError args isnt 0) (imageError image isnt 0) (pageCount (startPieces image) above free (s .store .book)) (Refused (argsError args)) (Refused (imageError image)) (Refused 33) (Regs (registers (entry image) ustktop args))
+    ∙ ap plainly (fits-chain (argsError (s .setup) args isnt 0) (imageError (s .setup) image isnt 0) (pageCount (startPieces (s .setup) image) above free (s .store .book)) (Refused (argsError (s .setup) args)) (Refused (imageError (s .setup) image)) (Refused 33) (Regs (registers (entry image) (s .setup .ustktop) args))
     (zero-isnt _ args-fit) (zero-isnt _ image-fits) (not-above _ _ room))
 
 -- a fork of a living process, with its list, on a number that is free, with free frames for its pages
@@ -225,7 +226,7 @@ fork-fits s g n child segments v u t d list room =
 -- nothing is left, and as many frames come free as the process had pages
 pub end-reads : (s : State) → Good s → (n : ℕ) → outcome (answer s (call n end)) ≡ accepted → (a : ℕ) → readable (after s (call n end)) n a ≡ none
 unfolding effect
-end-reads s g n e a = reads-after s g (call n end) accepted e n a (ends s g n e .number) ∙ ap (λ (m : Machine). held m a) (put-here (view s) n off)
+end-reads s g n e a = reads-after s g (call n end) accepted e n a (ends s g n e .number) ∙ ap (λ (m : Machine). held m a) (put-here (view s) n (off (s .setup)))
 
 pub end-frees : (s : State) → Good s → (n : ℕ) → outcome (answer s (call n end)) ≡ accepted → free (after s (call n end) .store .book) ≡ free (s .store .book) + own (view s n)
 unfolding after

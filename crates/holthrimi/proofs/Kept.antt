@@ -147,15 +147,15 @@ module _ {M : Type 1} {𝓤 : URA M} {H : Heap 𝓤} {A : Atoms 𝓤} {K : Type 
       (load t (from t (fld t (ap (λ (σ : Ty). fieldOf σ 1) (ready .1 w .0 .1)) (stop t))) (peek-in t 1 l 1 refl (ready .1 w .0) refl))
       (ready .1 w .2) (λ u. ready .2 w u .0) (λ u. ready .2 w u .1) (λ o′ e. z r o′ e))))
 
--- ---- the whole walk, once the locals are there. The parameters are frames, book, the records, and others, ps
+-- ---- the whole walk, once the locals are there. The parameters are the setup, frames, book, the records, and others, ps
 module _ {M : Type 1} (𝓤 : URA M) (H : Heap 𝓤) (Z : Setting 𝓤 H) (n : ℕ) (ps : List (Par (suc (suc (suc n)))))
     (κs : Lfts (suc (suc (suc n)))) (qs : Shares (suc (suc (suc n)))) (a : Given-to n ps κs) where
   abbrev reference : Fml
-  reference = MutRef (named 2) (κs .1 .1 .0) P.the-row .own (a .1 .1 .0) (ptr-vals (a .1 .1 .0))
+  reference = MutRef (named 2) (κs .1 .1 .0) P.the-row .own (a .1 .1 .1 .0) (ptr-vals (a .1 .1 .1 .0))
 
   abbrev opened : Opening 𝓤
   opened =
-      opening 𝓤 H Z n ps κs qs a (MutSlice (named 0) (κs .0) u8 .own (a .0) (slice-vals (a .0))) (MutSlice (named 1) (κs .1 .0) u64 .own (a .1 .0) (slice-vals (a .1 .0))) reference
+      opening 𝓤 H Z n ps κs qs a (MutSlice (named 0) (κs .0) u8 .own (a .1 .0) (slice-vals (a .1 .0))) (MutSlice (named 1) (κs .1 .0) u64 .own (a .1 .1 .0) (slice-vals (a .1 .1 .0))) reference
 
   open Opening opened using (xf, xb, x, s, tf, tb, tp, Others, All, Tokens, means, owned-with, Xs, Enter, Asks)
 
@@ -165,19 +165,20 @@ module _ {M : Type 1} (𝓤 : URA M) (H : Heap 𝓤) (Z : Setting 𝓤 H) (n : �
 
   abbrev said-with : List ℕ → List ℕ → Fml → Xs → Fml
   said-with fs bs P xs =
-      fsep (last-of xf (finally u8 (xf .name)) fs) (fsep (last-of xb (finally u64 (xb .name)) bs) (fsep P (lastsOf κs (slots ps) (all yes (slots ps)) (a .1 .1 .1) xs)))
+      fsep ftrue
+      (fsep (last-of xf (finally u8 (xf .name)) fs) (fsep (last-of xb (finally u64 (xb .name)) bs) (fsep P (lastsOf κs (slots ps) (all yes (slots ps)) (a .1 .1 .1 .1) xs))))
 
   -- the call, and its lent buffer afterwards
   module _ (c : Call) (buffer : Xs → List ℕ) where
     -- what the call gives: its result, and at some last values what it did
     abbrev Ws : Type 0
-    Ws = List ℕ × (List ℕ × (Unit {0} × Xs))
+    Ws = Unit {0} × (List ℕ × (List ℕ × (Unit {0} × Xs)))
 
     abbrev Did : Ws → Left → Type 0
-    Did ws r = Does s c (stateOf (ws .0) (ws .1 .0) (r .procs)) (record { says = r .answer; buffer = buffer (ws .1 .1 .1) })
+    Did ws r = Does s c (stateOf (a .0) (ws .1 .0) (ws .1 .1 .0) (r .procs)) (record { says = r .answer; buffer = buffer (ws .1 .1 .1 .1) })
 
     abbrev Rest : Left → SProp 𝓤
-    Rest r = ex 𝓤 (λ (ws : Ws). sep 𝓤 (means (said-with (ws .0) (ws .1 .0) ftrue (ws .1 .1 .1))) (fact 𝓤 (Did ws r)))
+    Rest r = ex 𝓤 (λ (ws : Ws). sep 𝓤 (means (said-with (ws .1 .0) (ws .1 .1 .0) ftrue (ws .1 .1 .1 .1))) (fact 𝓤 (Did ws r)))
 
     abbrev result : Val → Left → Fml
     result v r = L.the-row .own r (v ∷ [])
@@ -189,10 +190,10 @@ module _ {M : Type 1} (𝓤 : URA M) (H : Heap 𝓤) (Z : Setting 𝓤 H) (n : �
     abbrev last : Procs → Fml
     last ps = fres (x .name) (P.the-row .coded .code ps)
 
-    abbrev Last : Told → List ℕ × (List ℕ × (Procs × Xs)) → SProp 𝓤
+    abbrev Last : Told → Unit {0} × (List ℕ × (List ℕ × (Procs × Xs))) → SProp 𝓤
     Last t ws =
-        sep 𝓤 (means (said-with (ws .0) (ws .1 .0) (last (ws .1 .1 .0)) (ws .1 .1 .1)))
-        (fact 𝓤 (Tells s c (stateOf (ws .0) (ws .1 .0) (ws .1 .1 .0)) t (buffer (ws .1 .1 .1))))
+        sep 𝓤 (means (said-with (ws .1 .0) (ws .1 .1 .0) (last (ws .1 .1 .1 .0)) (ws .1 .1 .1 .1)))
+        (fact 𝓤 (Tells s c (stateOf (a .0) (ws .1 .0) (ws .1 .1 .0) (ws .1 .1 .1 .0)) t (buffer (ws .1 .1 .1 .1))))
 
     abbrev Back : Val → Told → SProp 𝓤
     Back v t = sep 𝓤 (sep 𝓤 All (means (O.the-row .own t (v ∷ [])))) (ex 𝓤 (Last t))
@@ -206,20 +207,20 @@ module _ {M : Type 1} (𝓤 : URA M) (H : Heap 𝓤) (Z : Setting 𝓤 H) (n : �
     ends r t e =
         qed (Z .W) (‵ (O.the-row .own t (of-told t ∷ []))
         ∷ ((‵ tf ⊛ ‵ tb ⊛ raw Others) ⊛ some
-        (λ (ws : Ws). ‵ (said-with (ws .0) (ws .1 .0) ftrue (ws .1 .1 .1)) ⊛ raw (fact 𝓤 (Did ws r))))
+        (λ (ws : Ws). ‵ (said-with (ws .1 .0) (ws .1 .1 .0) ftrue (ws .1 .1 .1 .1)) ⊛ raw (fact 𝓤 (Did ws r))))
         ∷ ‵ (obs (x .name) (r .procs)) ∷ ‵ (shut (κs .1 .1 .0) (x .ptr .0) (x .ptr .1) (x .name)) ∷ ‵ tp ∷ []) ∵
         move ! (1 ∷ []) $ split ! $ move ! (1 ∷ []) $ pick ! (λ ws. split ! $ move ! (1 ∷ []) $ heard ! (Did ws r) (λ did.
         -- [what is said of the last values; the tokens; what the result owns; obs; the borrow; the records' token]
-        fsplit ! $ move ! (1 ∷ []) $ fsplit ! $ move ! (1 ∷ []) $ fsplit ! $ drop ! $
-        move ! (5 ∷ []) $ use1 (Z .W) (‵ (last (r .procs))) (Z .W .names .obs-res (x .name) (P.the-row .coded .code (r .procs))) $
-        -- [the records' last value; what is said of the others', of book, of frames; the tokens; what the result owns; ..]
-        fjoin ! $ move ! (1 ∷ 0 ∷ []) $ fjoin ! $ move ! (1 ∷ 0 ∷ []) $ fjoin ! $ move ! (1 ∷ []) $ split ! $ move ! (1 ∷ []) $
+        fsplit ! $ move ! (1 ∷ []) $ fsplit ! $ move ! (1 ∷ []) $ fsplit ! $ move ! (1 ∷ []) $ fsplit ! $ drop ! $
+        move ! (6 ∷ []) $ use1 (Z .W) (‵ (last (r .procs))) (Z .W .names .obs-res (x .name) (P.the-row .coded .code (r .procs))) $
+        -- [the records' last value; what is said of the others', of book, of frames; true; the tokens; what the result owns; ..]
+        fjoin ! $ move ! (1 ∷ 0 ∷ []) $ fjoin ! $ move ! (1 ∷ 0 ∷ []) $ fjoin ! $ move ! (1 ∷ 0 ∷ []) $ fjoin ! $ move ! (1 ∷ []) $ split ! $ move ! (1 ∷ []) $
         split ! $
         move ! (6 ∷ 1 ∷ []) $ join ! $ move ! (1 ∷ 0 ∷ []) $ join ! $ move ! (1 ∷ 0 ∷ []) $ join ! $
         -- [all tokens; what is said of the last values; what the result owns; ..]
         updating ! $ at-once ! $ show ! (Back (of-told t)) t $ move ! (0 ∷ 2 ∷ []) $ join ! $ frame ! $
-        show ! (Last t) (ws .0, (ws .1 .0, (r .procs, ws .1 .1 .1))) $
-        says ! (tells s c (stateOf (ws .0) (ws .1 .0) (r .procs)) (r .answer) (buffer (ws .1 .1 .1)) t did e) $ keep ! (0 ∷ []) $
+        show ! (Last t) (tt, (ws .1 .0, (ws .1 .1 .0, (r .procs, ws .1 .1 .1 .1)))) $
+        says ! (tells s c (stateOf (a .0) (ws .1 .0) (ws .1 .1 .0) (r .procs)) (r .answer) (buffer (ws .1 .1 .1 .1)) t did e) $ keep ! (0 ∷ []) $
         done !))
 
     -- all that is known of the call is its contract: what it asks is there, and what it gives is what the exported function tells
@@ -232,26 +233,26 @@ module _ {M : Type 1} (𝓤 : URA M) (H : Heap 𝓤) (Z : Setting 𝓤 H) (n : �
           (Z .W .laws .⇛-mono _ _ (exE 𝓤 (λ (r : Left). sep 𝓤 (sep 𝓤 Tokens (means (result v r))) (Rest r)) (λ r. via 𝓤 (Given r)
           (qed (Z .W) ((raw Tokens ⊛ ‵ (result v r)) ∷ raw (Rest r) ∷ []) ∵ split ! $ move ! (1 ∷ 0 ∷ []) $ done !) (exI 𝓤 Given r))))
 
-      -- the locals: 0 is the result, 3 the reference to the records, k the records, l what the call left. `lends` lends the slices on
+      -- the locals: 0 is the result, 4 the reference to the records, k the records, l what the call left. `lends` lends the slices on
       pub exported : {E : List (Ty × ℕ)} {cs cs′ : List Cell} (k l : ℕ) {τ : Ty} {ops : List Opd} {rest : Body}
-          → At E cs 3 τ (holds (vptr (x .ptr .0) (x .ptr .1))) → At E cs k P′.mir empty
+          → At E cs 4 τ (holds (vptr (x .ptr .0) (x .ptr .1))) → At E cs k P′.mir empty
           → ((Γ : List (Item 𝓤)) → Step (Go {0}) (Z .W) (locals 𝓤 H E cs′
-          ∷ Γ) (runs (Z .C) (Z .Λ) E (rest-of key ops 3 l) (atRet E Exit))
+          ∷ Γ) (runs (Z .C) (Z .Λ) E (rest-of key ops 4 l) (atRet E Exit))
           (locals 𝓤 H E (with cs k (holds (of-procs (x .now)))) ∷ Γ) (runs (Z .C) (Z .Λ) E rest (atRet E Exit)))
           → ((Γ : List (Item 𝓤)) → Opds (Go {0}) (Z .W) (raw (Work .pre y) ∷ locals 𝓤 H E cs′ ∷ Γ) E ops (Work .args y))
-          → Ready E cs′ 3 l τ (vptr (x .ptr .0) (x .ptr .1))
+          → Ready E cs′ 4 l τ (vptr (x .ptr .0) (x .ptr .1))
           → Seq (Go {0}) (Z .W) (locals 𝓤 H E cs ∷ raw (dead 𝓤 H E) ∷ raw Enter ∷ [])
-          (runs (Z .C) (Z .Λ) E (seq (assign (place k []) (rvOpd (copy (place 3 (deref P′.mir ∷ []))))) rest) (atRet E Exit))
-      exported k l at-3 at-k lends ops ready =
+          (runs (Z .C) (Z .Λ) E (seq (assign (place k []) (rvOpd (copy (place 4 (deref P′.mir ∷ []))))) rest) (atRet E Exit))
+      exported k l at-4 at-k lends ops ready =
           move ! (2 ∷ []) $ use1 (Z .W) ((‵ tf ⊛ ‵ tb ⊛ ‵ tp ⊛ raw Others) ⊛ ‵ (owned-with reference)) (id⊢ 𝓤 _) $ split ! $
           split ! $ move ! (1 ∷ []) $ split ! $ move ! (1 ∷ []) $ split ! $
           -- [the records' token; the others'; book's; frames'; what the parameters own; the locals; that they may be freed]
-          move ! (4 ∷ []) $ fsplit ! $ move ! (1 ∷ []) $ fsplit ! $ move ! (1 ∷ []) $ fsplit ! $ fsplit3 ! $ drop ! $
-          -- [obs; the borrow; what the others own, book, frames; the records' token; the others'; book's; frames'; the locals; ..]
-          move ! (0 ∷ 1 ∷ 5 ∷ 9 ∷ []) $ copied ! 3 k (x .now) (x .ptr .0) (x .ptr .1) at-3 at-k (λ is. lends _ $
-          -- [the locals; the records' cell; what they own; the open borrow; obs; auth; what the others own, book, frames; their tokens; ..]
-          move ! (2 ∷ 6 ∷ []) $ fjoin ! $ move ! (6 ∷ 0 ∷ []) $ fjoin ! $ move ! (6 ∷ 0 ∷ []) $ fjoin ! $
+          move ! (4 ∷ []) $ fsplit ! $ move ! (1 ∷ []) $ fsplit ! $ move ! (1 ∷ []) $ fsplit ! $ move ! (1 ∷ []) $ fsplit ! $ fsplit3 ! $ drop ! $
+          -- [obs; the borrow; what the others own, book, frames, the setup; the records' token; the others'; book's; frames'; the locals; ..]
+          move ! (0 ∷ 1 ∷ 6 ∷ 10 ∷ []) $ copied ! 4 k (x .now) (x .ptr .0) (x .ptr .1) at-4 at-k (λ is. lends _ $
+          -- [the locals; the records' cell; what they own; the open borrow; obs; auth; what the others own, book, frames, the setup; their tokens; ..]
+          move ! (2 ∷ 6 ∷ []) $ fjoin ! $ move ! (6 ∷ 0 ∷ []) $ fjoin ! $ move ! (6 ∷ 0 ∷ []) $ fjoin ! $ move ! (6 ∷ 0 ∷ []) $ fjoin ! $
           move ! (7 ∷ 6 ∷ []) $ join ! $ move ! (7 ∷ 0 ∷ []) $ join ! $ join ! $ nothing ! $ move ! (1 ∷ 0 ∷ []) $ join ! $
           use1 (Z .W) (raw (Work .pre y)) asks $
           kept ! (Z .fm) (Z .at-mem) (Z .run) (Z .knows-tell) Work knows-work y (λ r. sep 𝓤 Tokens (Rest r)) gave
-          (x .now) (x .ptr .0) (x .ptr .1) 3 l (ops _) ready (λ r t e. by ! (ends r t e)))
+          (x .now) (x .ptr .0) (x .ptr .1) 4 l (ops _) ready (λ r t e. by ! (ends r t e)))

@@ -79,30 +79,30 @@ Ready E cs l =
     At E cs l N′.mir empty × ((v : Val) → At E (with cs l (holds v)) l N′.mir (holds v) × At E (with cs l (holds v)) 0 O′.mir empty)
     × ((v u : Val) → At E (with (with cs l (holds v)) 0 (holds u)) 0 O′.mir (holds u) × Whole (with (with cs l (holds v)) 0 (holds u)))
 
--- ---- the whole walk, once the locals are there. The parameters are frames, book, the records, and others, ps
+-- ---- the whole walk, once the locals are there. The parameters are the setup, frames, book, the records, and others, ps
 module _ {M : Type 1} (𝓤 : URA M) (H : Heap 𝓤) (Z : Setting 𝓤 H) (n : ℕ) (ps : List (Par (suc (suc (suc n)))))
     (κs : Lfts (suc (suc (suc n)))) (qs : Shares (suc (suc (suc n)))) (a : Given-to n ps κs) where
   abbrev reference : Fml
-  reference = ShrRef (named 2) (κs .1 .1 .0) P.the-row .own (a .1 .1 .0) (ptr-vals (a .1 .1 .0))
+  reference = ShrRef (named 2) (κs .1 .1 .0) P.the-row .own (a .1 .1 .1 .0) (ptr-vals (a .1 .1 .1 .0))
 
   abbrev opened : Opening 𝓤
   opened =
-      opening 𝓤 H Z n ps κs qs a (ShrSlice (named 0) (κs .0) u8 .own (a .0) (slice-vals (a .0))) (ShrSlice (named 1) (κs .1 .0) u64 .own (a .1 .0) (slice-vals (a .1 .0))) reference
+      opening 𝓤 H Z n ps κs qs a (ShrSlice (named 0) (κs .0) u8 .own (a .1 .0) (slice-vals (a .1 .0))) (ShrSlice (named 1) (κs .1 .0) u64 .own (a .1 .1 .0) (slice-vals (a .1 .1 .0))) reference
 
   open Opening opened using (x, s, tf, tb, tp, Others, All, Tokens, means, owned-with, Xs, Enter, Asks)
 
   -- what is said of their last values
   abbrev Ws : Type 0
-  Ws = Unit {0} × (Unit {0} × (Unit {0} × Xs))
+  Ws = Unit {0} × (Unit {0} × (Unit {0} × (Unit {0} × Xs)))
 
   abbrev last-said : Ws → Fml
-  last-said ws = fsep ftrue (fsep ftrue (fsep ftrue (lastsOf κs (slots ps) (all yes (slots ps)) (a .1 .1 .1) (ws .1 .1 .1))))
+  last-said ws = fsep ftrue (fsep ftrue (fsep ftrue (fsep ftrue (lastsOf κs (slots ps) (all yes (slots ps)) (a .1 .1 .1 .1) (ws .1 .1 .1 .1)))))
 
   -- the call, and its lent buffer afterwards
   module _ (c : Call) (buffer : Xs → List ℕ) where
     -- what the call gives: its answer, and what it did
     abbrev Did : Answer → Ws → Type 0
-    Did r ws = Does s c s (record { says = r; buffer = buffer (ws .1 .1 .1) })
+    Did r ws = Does s c s (record { says = r; buffer = buffer (ws .1 .1 .1 .1) })
 
     abbrev result : Val → Answer → Fml
     result v r = N.the-row .own r (v ∷ [])
@@ -114,7 +114,7 @@ module _ {M : Type 1} (𝓤 : URA M) (H : Heap 𝓤) (Z : Setting 𝓤 H) (n : �
 
     -- what the exported function gives: the same, with the answer told
     abbrev Last : Told → Ws → SProp 𝓤
-    Last t ws = sep 𝓤 (means (last-said ws)) (fact 𝓤 (Tells s c s t (buffer (ws .1 .1 .1))))
+    Last t ws = sep 𝓤 (means (last-said ws)) (fact 𝓤 (Tells s c s t (buffer (ws .1 .1 .1 .1))))
 
     abbrev Back : Val → Told → SProp 𝓤
     Back v t = sep 𝓤 (sep 𝓤 All (means (O.the-row .own t (v ∷ [])))) (ex 𝓤 (Last t))
@@ -125,26 +125,26 @@ module _ {M : Type 1} (𝓤 : URA M) (H : Heap 𝓤) (Z : Setting 𝓤 H) (n : �
     -- all that is known of the call is its contract: what it asks is there, and what it gives is what the exported function tells
     module _ (key : Name) (Work : Contract 𝓤) (knows-work : Triple 𝓤 (Z .C key) Work) (y : Work .Ghost)
         (asks : ent 𝓤 Asks (Work .pre y)) (gives : (v : Val) → ent 𝓤 (Work .post y v) (Gives v)) where
-      -- the locals: 0 is the result, 3 the reference to the records, k the records, l the call's answer. `lends` lends slices on
+      -- the locals: 0 is the result, 4 the reference to the records, k the records, l the call's answer. `lends` lends slices on
       pub exported : {E : List (Ty × ℕ)} {cs cs′ : List Cell} (k l : ℕ) {τ : Ty} {ops : List Opd} {rest : Body}
-          → At E cs 3 τ (holds (vptr (x .ptr .0) (x .ptr .1))) → At E cs k P′.mir empty
+          → At E cs 4 τ (holds (vptr (x .ptr .0) (x .ptr .1))) → At E cs k P′.mir empty
           → ((Γ : List (Item 𝓤)) → Step (Go {0}) (Z .W) (locals 𝓤 H E cs′
           ∷ Γ) (runs (Z .C) (Z .Λ) E (rest-of key ops l) (atRet E Exit))
           (locals 𝓤 H E (with cs k (holds (of-procs (x .now)))) ∷ Γ) (runs (Z .C) (Z .Λ) E rest (atRet E Exit)))
           → ((Γ : List (Item 𝓤)) → Opds (Go {0}) (Z .W) (raw (Work .pre y) ∷ locals 𝓤 H E cs′ ∷ Γ) E ops (Work .args y))
           → Ready E cs′ l
           → Seq (Go {0}) (Z .W) (locals 𝓤 H E cs ∷ raw (dead 𝓤 H E) ∷ raw Enter ∷ [])
-          (runs (Z .C) (Z .Λ) E (seq (assign (place k []) (rvOpd (copy (place 3 (deref P′.mir ∷ []))))) rest) (atRet E Exit))
-      exported {E} {cs} {cs′} k l at-3 at-k lends ops ready =
+          (runs (Z .C) (Z .Λ) E (seq (assign (place k []) (rvOpd (copy (place 4 (deref P′.mir ∷ []))))) rest) (atRet E Exit))
+      exported {E} {cs} {cs′} k l at-4 at-k lends ops ready =
           move ! (2 ∷ []) $ use1 (Z .W) ((‵ tf ⊛ ‵ tb ⊛ ‵ tp ⊛ raw Others) ⊛ ‵ (owned-with reference)) (id⊢ 𝓤 _) $ split ! $
           split ! $ move ! (1 ∷ []) $ split ! $ move ! (1 ∷ []) $ split ! $
           -- [the records' token; the others'; book's; frames'; what the parameters own; the locals; that they may be freed]
-          move ! (4 ∷ []) $ fsplit ! $ move ! (1 ∷ []) $ fsplit ! $ move ! (1 ∷ []) $ fsplit ! $ fsplit3 ! $ drop ! $ drop ! $
-          -- [the `&`; what the others own, book, frames; the records' token; the others'; book's; frames'; the locals; ..]
-          move ! (0 ∷ 4 ∷ 8 ∷ []) $ looked ! 3 k (x .now) (x .ptr .0) (x .ptr .1) at-3 at-k (λ is. lends _ $
-          -- [the locals; the records' token; what the others own, book, frames; the others' tokens; book's; frames'; ..]
+          move ! (4 ∷ []) $ fsplit ! $ move ! (1 ∷ []) $ fsplit ! $ move ! (1 ∷ []) $ fsplit ! $ move ! (1 ∷ []) $ fsplit ! $ fsplit3 ! $ drop ! $ drop ! $
+          -- [the `&`; what the others own, book, frames, the setup; the records' token; the others'; book's; frames'; the locals; ..]
+          move ! (0 ∷ 5 ∷ 9 ∷ []) $ looked ! 4 k (x .now) (x .ptr .0) (x .ptr .1) at-4 at-k (λ is. lends _ $
+          -- [the locals; the records' token; what the others own, book, frames, the setup; the others' tokens; book's; frames'; ..]
           owned ! P.the-row (Is P.the-row) (LL.makes P.the-type P′.the-plain 𝓤 H (Z .A)) (x .now) _ is $
-          move ! (0 ∷ 3 ∷ []) $ fjoin ! $ move ! (3 ∷ 0 ∷ []) $ fjoin ! $ move ! (3 ∷ 0 ∷ []) $ fjoin ! $
+          move ! (0 ∷ 3 ∷ []) $ fjoin ! $ move ! (3 ∷ 0 ∷ []) $ fjoin ! $ move ! (3 ∷ 0 ∷ []) $ fjoin ! $ move ! (3 ∷ 0 ∷ []) $ fjoin ! $
           move ! (4 ∷ 3 ∷ []) $ join ! $ move ! (4 ∷ 0 ∷ []) $ join ! $ join ! $ nothing ! $ move ! (1 ∷ 0 ∷ []) $ join ! $
           use1 (Z .W) (raw (Work .pre y)) asks $
           -- [what the call asks; the locals; the records' token; that the locals may be freed]
@@ -165,4 +165,4 @@ module _ {M : Type 1} (𝓤 : URA M) (H : Heap 𝓤) (Z : Setting 𝓤 H) (n : �
           -- [what the result owns; the tokens; what is said of the last values; the records' token]
           move ! (1 ∷ []) $ split ! $ move ! (1 ∷ []) $ split ! $ move ! (5 ∷ 1 ∷ []) $ join ! $ move ! (1 ∷ 0 ∷ []) $ join ! $
           move ! (1 ∷ 0 ∷ []) $ join ! $ join ! $ updating ! $ at-once ! $ show ! (Back (of-told t)) t $ frame ! $
-          show ! (Last t) ws $ says ! (tells s c s r (buffer (ws .1 .1 .1)) t did e) $ done !)))))))
+          show ! (Last t) ws $ says ! (tells s c s r (buffer (ws .1 .1 .1 .1)) t did e) $ done !)))))))

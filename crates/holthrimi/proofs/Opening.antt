@@ -17,9 +17,10 @@ use denote.Triple.End.{Fins, all}
 use Rattle.spec.specs.World.{State}
 use Rattle.spec.specs.declared.Procs.{Procs}
 use Rattle.spec.proofs.Procs as P
+use Rattle.spec.proofs.Setup as S
 use Rattle.front.specs.Numbers.{stateOf}
 use Rattle.holthrimi.proofs.Params.{Par, slots, rows, spells}
-use Rattle.holthrimi.proofs.Telling.{Given-to, of-procs, Setting}
+use Rattle.holthrimi.proofs.Telling.{Given-to, of-setup, of-procs, Setting}
 
 pub record Opening {M : Type 1} (𝓤 : URA M) : Type 2 where
   -- frames, book and records, and the state that they are
@@ -43,7 +44,7 @@ pub record Opening {M : Type 1} (𝓤 : URA M) : Type 2 where
   pub Enter : SProp 𝓤
   pub Asks : SProp 𝓤
 
--- the parameters are frames, book, the records, and others, ps
+-- the parameters are the setup, frames, book, the records, and others, ps
 module _ {M : Type 1} (𝓤 : URA M) (H : Heap 𝓤) (Z : Setting 𝓤 H) (n : ℕ) (ps : List (Par (suc (suc (suc n)))))
     (κs : Lfts (suc (suc (suc n)))) (qs : Shares (suc (suc (suc n)))) (a : Given-to n ps κs) (frames book reference : Fml) where
   abbrev token-f : Fml
@@ -68,14 +69,16 @@ module _ {M : Type 1} (𝓤 : URA M) (H : Heap 𝓤) (Z : Setting 𝓤 H) (n : �
   tokens = sep 𝓤 (meant token-f) (sep 𝓤 (meant token-b) token-others)
 
   abbrev owned : Fml → Fml
-  owned P = fsep frames (fsep book (fsep P (owns (rows κs ps) (a .1 .1 .1) (valss (rows κs ps) (spells κs ps) (a .1 .1 .1)))))
+  owned P =
+      fsep (S.the-row .own (a .0) (of-setup (a .0)
+      ∷ [])) (fsep frames (fsep book (fsep P (owns (rows κs ps) (a .1 .1 .1 .1) (valss (rows κs ps) (spells κs ps) (a .1 .1 .1 .1))))))
 
   abbrev pub opening : Opening 𝓤
   opening = record {
-    xf = a .0;
-    xb = a .1 .0;
-    x = a .1 .1 .0;
-    s = stateOf (a .0 .now) (a .1 .0 .now) (a .1 .1 .0 .now);
+    xf = a .1 .0;
+    xb = a .1 .1 .0;
+    x = a .1 .1 .1 .0;
+    s = stateOf (a .0) (a .1 .0 .now) (a .1 .1 .0 .now) (a .1 .1 .1 .0 .now);
     tf = token-f;
     tb = token-b;
     tp = token-p;
@@ -84,7 +87,7 @@ module _ {M : Type 1} (𝓤 : URA M) (H : Heap 𝓤) (Z : Setting 𝓤 H) (n : �
     Tokens = tokens;
     means = meant;
     owned-with = owned;
-    Xs = Fins κs (slots ps) (all yes (slots ps)) (a .1 .1 .1);
+    Xs = Fins κs (slots ps) (all yes (slots ps)) (a .1 .1 .1 .1);
     Enter = sep 𝓤 all-tokens (meant (owned reference));
-    Asks = sep 𝓤 (sep 𝓤 tokens (meant (owned (P.the-row .own (a .1 .1 .0 .now) (of-procs (a .1 .1 .0 .now) ∷ []))))) (emp 𝓤);
+    Asks = sep 𝓤 (sep 𝓤 tokens (meant (owned (P.the-row .own (a .1 .1 .1 .0 .now) (of-procs (a .1 .1 .1 .0 .now) ∷ []))))) (emp 𝓤);
   }

@@ -17,7 +17,10 @@ use denote.Plain.{uint-tells, bool-tells}
 use denote.Builtin.{u8, u64, bool, Ref, RefMut, SliceRef, SliceRefMut}
 use denote.Ref.{mut-tells, shr-tells}
 use denote.Slice.{sliceVal, mut-slice-tells, shr-slice-tells}
+use denote.Struct.Laws as LL
 use Rattle.spec.proofs.Procs as P
+use Rattle.spec.proofs.Setup as S
+use Rattle.spec.proofs.Setup.Laws as S′
 
 pub record Par (n : ℕ) : Type 2 where
   pub slot : Slot n
@@ -38,6 +41,17 @@ module _ {n : ℕ} where
 
   abbrev pub flag : Par n
   flag = record { slot = plain (λ _. bool); val = λ κs x. vbool x; tells = λ κs. bool-tells; typed = λ κs x is. (tt, tt) }
+
+  -- the setup, by value
+  abbrev pub setup : Par n
+  setup = record {
+    slot = plain (λ _. S.the-row);
+    val = λ κs x. LL.val S.the-type S′.the-laws x;
+    tells = λ κs. LL.tells S.the-type S′.the-laws;
+    typed = λ κs x is.
+        let o = LL.owed S.the-type S′.the-laws x _ is in
+        (tt, (record { fits = o .0 .1 }, (record { fits = o .1 .0 .1 }, (record { fits = o .1 .1 .0 .1 }, (record { fits = o .1 .1 .1 .0 .1 }, tt)))));
+  }
 
   module _ (j : ℕ) (ok : Within n j) where
     -- a lent slice of bytes or of words, to read

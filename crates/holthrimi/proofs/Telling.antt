@@ -51,6 +51,9 @@ use Rattle.spec.proofs.Answer.Laws as N′
 use Rattle.spec.specs.declared.Procs.{Procs}
 use Rattle.spec.proofs.Procs as P
 use Rattle.spec.proofs.Procs.Laws as P′
+use Rattle.spec.specs.declared.Setup.{Setup}
+use Rattle.spec.proofs.Setup as S
+use Rattle.spec.proofs.Setup.Laws as S′
 use Rattle.told.specs.declared.Told.{Told}
 use Rattle.told.specs.Tells.{toldOf, Tells}
 use Rattle.told.proofs.Told as O
@@ -62,7 +65,10 @@ use Rattle.told.proofs.tell.Met as tell-thm
 use Rattle.holthrimi.proofs.Params.{Par, rows, spells}
 use Rattle.holthrimi.proofs.Locals.{Cell, empty, holds, with, At, Whole, locals, dead, peek, peek-in, fill, leaves}
 
--- ---- the machine values of records, of an answer, and of what is told
+-- ---- the machine values of a setup, of records, of an answer, and of what is told
+abbrev pub of-setup : Setup → Val
+of-setup u = LL.val S.the-type S′.the-laws u
+
 abbrev pub of-procs : Procs → Val
 of-procs h = LL.val P.the-type P′.the-laws h
 
@@ -72,21 +78,24 @@ of-answer a = EL.val N.the-type N′.the-laws a
 abbrev pub of-told : Told → Val
 of-told t = LL.val O.the-type O′.the-laws t
 
--- ---- what an exported function is given: frames, book, the records, and others; and what its call is, with the records by value
+-- ---- what an exported function is given: the setup, frames, book, the records, and others; and what its call is, with the records by value
 abbrev pub Given-to : (n : ℕ) (ps : List (Par (suc (suc (suc n))))) → Lfts (suc (suc (suc n))) → Type 0
-Given-to n ps κs = RefT (List ℕ) × (RefT (List ℕ) × (RefT Procs × Denots (rows κs ps)))
+Given-to n ps κs = Setup × (RefT (List ℕ) × (RefT (List ℕ) × (RefT Procs × Denots (rows κs ps))))
 
 module _ (n : ℕ) (ps : List (Par (suc (suc (suc n))))) (κs : Lfts (suc (suc (suc n)))) (qs : Shares (suc (suc (suc n)))) (a : Given-to n ps κs) where
   abbrev Bound : Type 0
   Bound =
-      Lfts (suc (suc n)) × Shares (suc (suc n)) × Unit {0} × (RefT (List ℕ) × (RefT (List ℕ) × (Procs × Denots (rows κs ps))))
-      × (List Val × (List Val × (List Val × Valss (rows κs ps))))
+      Lfts (suc (suc n)) × Shares (suc (suc n)) × Unit {0} × (Setup × (RefT (List ℕ) × (RefT (List ℕ) × (Procs × Denots (rows κs ps)))))
+      × (List Val × (List Val × (List Val × (List Val × Valss (rows κs ps)))))
 
   abbrev pub asked : Bound × Unit {0}
   asked =
-      let vss : List Val × (List Val × (List Val × Valss (rows κs ps))) =
-      (slice-vals (a .0), (slice-vals (a .1 .0), (of-procs (a .1 .1 .0 .now) ∷ [], valss (rows κs ps) (spells κs ps) (a .1 .1 .1)))) in
-      (((κs .0, (κs .1 .0, κs .1 .1 .1)), (qs .0, (qs .1 .0, qs .1 .1 .1)), tt, (a .0, (a .1 .0, (a .1 .1 .0 .now, a .1 .1 .1))), vss), tt)
+      let vss : List Val × (List Val × (List Val × (List Val × Valss (rows κs ps)))) = (
+        of-setup (a .0)
+            ∷ [],
+        (slice-vals (a .1 .0), (slice-vals (a .1 .1 .0), (of-procs (a .1 .1 .1 .0 .now) ∷ [], valss (rows κs ps) (spells κs ps) (a .1 .1 .1 .1)))),
+      ) in
+      (((κs .0, (κs .1 .0, κs .1 .1 .1)), (qs .0, (qs .1 .0, qs .1 .1 .1)), tt, (a .0, (a .1 .0, (a .1 .1 .0, (a .1 .1 .1 .0 .now, a .1 .1 .1 .1)))), vss), tt)
 
 -- ---- a slice in local i can be lent on: its pointer goes to local t, and pointer and count to local s
 abbrev pub pointer : RefT (List ℕ) → Val

@@ -1,15 +1,22 @@
--- What the exported functions that are no calls answer. C has no options, so that an optional bss is a mark and a range; beyond that
--- they answer what the specification's `ibrk` and the plan say.
+-- What the exported functions that are no calls answer. C has no options, so that an optional bss is a mark and a range. Those that
+-- use machine numbers judge the setup, after their own 1 (02, 5/13); beyond that they answer what the specification's `ibrk`,
+-- `argsError` and the plan say.
 -- Assumes nothing.
 use Prim.Native.Nat.{ℕ}
 use mathlib.Core.Bool.{Bool, not}
+use mathlib.Core.List.{List}
 use mathlib.Core.Option.{Option, none, some}
-use Rattle.spec.specs.Tests.{_⇒_else_}
+use lib.ListN.{length}
+use Rattle.spec.specs.Tests.{_isnt_, _⇒_else_, sum}
+use Rattle.spec.specs.Numbers.{setupOk}
 use Rattle.spec.specs.Book.{range}
 use Rattle.spec.specs.Frames.{sized}
-use Rattle.spec.specs.Segment.{Break}
+use Rattle.spec.specs.Exec.{argsOf, argsError}
+use Rattle.spec.specs.Segment.{Break, ibrk}
 use Rattle.spec.specs.World.{State, sound}
+use Rattle.spec.specs.declared.Setup.{Setup}
 use Rattle.spec.specs.declared.VirtRange.{VirtRange}
+use Rattle.exec.specs.Plan.{refusedPlan, planOf}
 use Rattle.exec.specs.declared.Plan.{Plan}
 use Rattle.holthrimi.specs.declared.rules.Rule.{Rule}
 use Rattle.holthrimi.specs.declared.rules.Planned.{Planned}
@@ -23,17 +30,33 @@ abbrev pub orZeros : Option VirtRange → VirtRange
 orZeros none = range 0 0
 orZeros (some bss) = bss
 
--- what a break comes to
+-- the break's rule under a setup, or 38 for one that breaks a condition, with the bss as it was
+abbrev pub ibrkIn : Setup → Option VirtRange → ℕ → ℕ → Break
+ibrkIn setup bss addr free = not (setupOk setup) ⇒ record { error = 38; value = 0; bss = bss } else ibrk setup bss addr free
+
+-- what a break comes to, in C
 abbrev pub ruleOf : Break → Rule
 ruleOf b = record { error = b .error; value = b .value; bss = orZeros (b .bss) }
 
--- the plan of an image, field by field
+-- what arguments are refused with: lengths that don't sum to their bytes, the setup, then the arguments; or 0
+abbrev pub argsIn : Setup → List ℕ → List ℕ → ℕ
+argsIn setup bytes lengths =
+    sum lengths isnt length bytes ⇒ 1 else
+    not (setupOk setup) ⇒ 38 else
+    argsError setup (argsOf bytes lengths)
+
+-- the plan of an image under a setup, or 38 for a setup that breaks a condition
+abbrev pub planIn : Setup → List ℕ → Plan
+planIn setup image = not (setupOk setup) ⇒ refusedPlan 38 0 else planOf setup image
+
+-- a plan, field by field
 abbrev pub plannedOf : Plan → Planned
 plannedOf p = record { number = p .number; elf = p .elf; entry = p .entry; segments = p .segments; count = p .count; bss = p .bss; pages = p .pages }
 
--- 1 and 2 of every call: frames and book by their sizes, and the book sound; or 0
+-- 1, 38 and 2 of every call: frames and book by their sizes, the setup, and the book sound; or 0
 unfoldable pub bookError : State → ℕ
 bookError s =
     not (sized (s .store)) ⇒ 1 else
+    not (setupOk (s .setup)) ⇒ 38 else
     not (sound s) ⇒ 2 else
     0

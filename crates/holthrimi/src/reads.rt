@@ -7,10 +7,12 @@ ghost use Rattle.spec.specs.Machine.{user-range-ok, try-copy-str-from-user};
 ghost use Rattle.front.specs.Numbers.{stateOf, call};
 ghost use Rattle.told.specs.Tells.{Tells};
 use spec::Procs;
+use spec::Setup;
 use told::Told;
 
 #[no_mangle]
 pub extern "C" fn holthrimi_user_range_ok(
+    setup: Setup,
     frames: &[u8],
     book: &[u64],
     procs: &Procs,
@@ -19,15 +21,16 @@ pub extern "C" fn holthrimi_user_range_ok(
     len: u64,
     write: bool,
 ) -> Told
-    ensures { λ r. ⌜ Tells (stateOf (now (frames .entry)) (now (book .entry)) (now (procs .entry))) (call number (user-range-ok addr len write)) (stateOf (now (frames .entry)) (now (book .entry)) (now (procs .entry))) r [] ⌝ }
+    ensures { λ r. ⌜ Tells (stateOf setup (now (frames .entry)) (now (book .entry)) (now (procs .entry))) (call number (user-range-ok addr len write)) (stateOf setup (now (frames .entry)) (now (book .entry)) (now (procs .entry))) r [] ⌝ }
 {
     let records = *procs;
-    let answer = access::user_range_ok(frames, book, records, number, addr, len, write);
+    let answer = access::user_range_ok(setup, frames, book, records, number, addr, len, write);
     told::tell(answer)
 }
 
 #[no_mangle]
 pub extern "C" fn holthrimi_try_copy_str_from_user(
+    setup: Setup,
     frames: &[u8],
     book: &[u64],
     procs: &Procs,
@@ -35,9 +38,9 @@ pub extern "C" fn holthrimi_try_copy_str_from_user(
     dst: &mut [u8],
     src: u64,
 ) -> Told
-    ensures { λ r. ⌜ Tells (stateOf (now (frames .entry)) (now (book .entry)) (now (procs .entry))) (call number (try-copy-str-from-user (now (dst .entry)) src)) (stateOf (now (frames .entry)) (now (book .entry)) (now (procs .entry))) r (now (dst .exit)) ⌝ }
+    ensures { λ r. ⌜ Tells (stateOf setup (now (frames .entry)) (now (book .entry)) (now (procs .entry))) (call number (try-copy-str-from-user (now (dst .entry)) src)) (stateOf setup (now (frames .entry)) (now (book .entry)) (now (procs .entry))) r (now (dst .exit)) ⌝ }
 {
     let records = *procs;
-    let answer = access::try_copy_str_from_user(frames, book, records, number, dst, src);
+    let answer = access::try_copy_str_from_user(setup, frames, book, records, number, dst, src);
     told::tell(answer)
 }

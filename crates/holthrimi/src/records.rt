@@ -9,10 +9,12 @@ ghost use Rattle.spec.specs.Machine.{start, replace, push, break, fork, end, co
 ghost use Rattle.front.specs.Numbers.{stateOf, call};
 ghost use Rattle.told.specs.Tells.{Tells};
 use spec::Procs;
+use spec::Setup;
 use told::Told;
 
 #[no_mangle]
 pub extern "C" fn holthrimi_start(
+    setup: Setup,
     frames: &mut [u8],
     book: &mut [u64],
     procs: &mut Procs,
@@ -22,16 +24,27 @@ pub extern "C" fn holthrimi_start(
     bytes: &[u8],
     lengths: &[u64],
 ) -> Told
-    ensures { λ r. ⌜ Tells (stateOf (now (frames .entry)) (now (book .entry)) (now (procs .entry))) (call number (start (now (image .entry)) (now (name .entry)) (now (bytes .entry)) (now (lengths .entry)))) (stateOf (now (frames .exit)) (now (book .exit)) (now (procs .exit))) r [] ⌝ }
+    ensures { λ r. ⌜ Tells (stateOf setup (now (frames .entry)) (now (book .entry)) (now (procs .entry))) (call number (start (now (image .entry)) (now (name .entry)) (now (bytes .entry)) (now (lengths .entry)))) (stateOf setup (now (frames .exit)) (now (book .exit)) (now (procs .exit))) r [] ⌝ }
 {
     let before = *procs;
-    let left = start::start(frames, book, before, number, image, name, bytes, lengths);
+    let left = start::start(
+        setup,
+        frames,
+        book,
+        before,
+        number,
+        image,
+        name,
+        bytes,
+        lengths,
+    );
     *procs = left.procs;
     told::tell(left.answer)
 }
 
 #[no_mangle]
 pub extern "C" fn holthrimi_replace(
+    setup: Setup,
     frames: &mut [u8],
     book: &mut [u64],
     procs: &mut Procs,
@@ -40,16 +53,17 @@ pub extern "C" fn holthrimi_replace(
     name: &[u8],
     argv: u64,
 ) -> Told
-    ensures { λ r. ⌜ Tells (stateOf (now (frames .entry)) (now (book .entry)) (now (procs .entry))) (call number (replace (now (image .entry)) (now (name .entry)) argv)) (stateOf (now (frames .exit)) (now (book .exit)) (now (procs .exit))) r [] ⌝ }
+    ensures { λ r. ⌜ Tells (stateOf setup (now (frames .entry)) (now (book .entry)) (now (procs .entry))) (call number (replace (now (image .entry)) (now (name .entry)) argv)) (stateOf setup (now (frames .exit)) (now (book .exit)) (now (procs .exit))) r [] ⌝ }
 {
     let before = *procs;
-    let left = replace::replace(frames, book, before, number, image, name, argv);
+    let left = replace::replace(setup, frames, book, before, number, image, name, argv);
     *procs = left.procs;
     told::tell(left.answer)
 }
 
 #[no_mangle]
 pub extern "C" fn holthrimi_push(
+    setup: Setup,
     frames: &mut [u8],
     book: &mut [u64],
     procs: &mut Procs,
@@ -59,26 +73,27 @@ pub extern "C" fn holthrimi_push(
     bytes: &[u8],
     lengths: &[u64],
 ) -> Told
-    ensures { λ r. ⌜ Tells (stateOf (now (frames .entry)) (now (book .entry)) (now (procs .entry))) (call number (push pc top (now (bytes .entry)) (now (lengths .entry)))) (stateOf (now (frames .exit)) (now (book .exit)) (now (procs .exit))) r [] ⌝ }
+    ensures { λ r. ⌜ Tells (stateOf setup (now (frames .entry)) (now (book .entry)) (now (procs .entry))) (call number (push pc top (now (bytes .entry)) (now (lengths .entry)))) (stateOf setup (now (frames .exit)) (now (book .exit)) (now (procs .exit))) r [] ⌝ }
 {
     let before = *procs;
-    let left = push::push(frames, book, before, number, pc, top, bytes, lengths);
+    let left = push::push(setup, frames, book, before, number, pc, top, bytes, lengths);
     *procs = left.procs;
     told::tell(left.answer)
 }
 
 #[no_mangle]
 pub extern "C" fn holthrimi_break(
+    setup: Setup,
     frames: &mut [u8],
     book: &mut [u64],
     procs: &mut Procs,
     number: u64,
     addr: u64,
 ) -> Told
-    ensures { λ r. ⌜ Tells (stateOf (now (frames .entry)) (now (book .entry)) (now (procs .entry))) (call number (break addr)) (stateOf (now (frames .exit)) (now (book .exit)) (now (procs .exit))) r [] ⌝ }
+    ensures { λ r. ⌜ Tells (stateOf setup (now (frames .entry)) (now (book .entry)) (now (procs .entry))) (call number (break addr)) (stateOf setup (now (frames .exit)) (now (book .exit)) (now (procs .exit))) r [] ⌝ }
 {
     let before = *procs;
-    let left = brk::brk(frames, book, before, number, addr);
+    let left = brk::brk(setup, frames, book, before, number, addr);
     *procs = left.procs;
     told::tell(left.answer)
 }
@@ -86,37 +101,40 @@ pub extern "C" fn holthrimi_break(
 // The child's segments are its parent's record's.
 #[no_mangle]
 pub extern "C" fn holthrimi_fork(
+    setup: Setup,
     frames: &mut [u8],
     book: &mut [u64],
     procs: &mut Procs,
     number: u64,
     child: u64,
 ) -> Told
-    ensures { λ r. ⌜ Tells (stateOf (now (frames .entry)) (now (book .entry)) (now (procs .entry))) (call number (fork child (used (procAt (now (procs .entry)) number .segments)))) (stateOf (now (frames .exit)) (now (book .exit)) (now (procs .exit))) r [] ⌝ }
+    ensures { λ r. ⌜ Tells (stateOf setup (now (frames .entry)) (now (book .entry)) (now (procs .entry))) (call number (fork child (used (procAt (now (procs .entry)) number .segments)))) (stateOf setup (now (frames .exit)) (now (book .exit)) (now (procs .exit))) r [] ⌝ }
 {
     let before = *procs;
-    let left = fork::fork(frames, book, before, number, child);
+    let left = fork::fork(setup, frames, book, before, number, child);
     *procs = left.procs;
     told::tell(left.answer)
 }
 
 #[no_mangle]
 pub extern "C" fn holthrimi_end(
+    setup: Setup,
     frames: &mut [u8],
     book: &mut [u64],
     procs: &mut Procs,
     number: u64,
 ) -> Told
-    ensures { λ r. ⌜ Tells (stateOf (now (frames .entry)) (now (book .entry)) (now (procs .entry))) (call number end) (stateOf (now (frames .exit)) (now (book .exit)) (now (procs .exit))) r [] ⌝ }
+    ensures { λ r. ⌜ Tells (stateOf setup (now (frames .entry)) (now (book .entry)) (now (procs .entry))) (call number end) (stateOf setup (now (frames .exit)) (now (book .exit)) (now (procs .exit))) r [] ⌝ }
 {
     let before = *procs;
-    let left = end::end(frames, book, before, number);
+    let left = end::end(setup, frames, book, before, number);
     *procs = left.procs;
     told::tell(left.answer)
 }
 
 #[no_mangle]
 pub extern "C" fn holthrimi_copy_from_user(
+    setup: Setup,
     frames: &mut [u8],
     book: &mut [u64],
     procs: &mut Procs,
@@ -124,16 +142,17 @@ pub extern "C" fn holthrimi_copy_from_user(
     dst: &mut [u8],
     src: u64,
 ) -> Told
-    ensures { λ r. ⌜ Tells (stateOf (now (frames .entry)) (now (book .entry)) (now (procs .entry))) (call number (copy-from-user (now (dst .entry)) src)) (stateOf (now (frames .exit)) (now (book .exit)) (now (procs .exit))) r (now (dst .exit)) ⌝ }
+    ensures { λ r. ⌜ Tells (stateOf setup (now (frames .entry)) (now (book .entry)) (now (procs .entry))) (call number (copy-from-user (now (dst .entry)) src)) (stateOf setup (now (frames .exit)) (now (book .exit)) (now (procs .exit))) r (now (dst .exit)) ⌝ }
 {
     let before = *procs;
-    let left = access::copy_from_user(frames, book, before, number, dst, src);
+    let left = access::copy_from_user(setup, frames, book, before, number, dst, src);
     *procs = left.procs;
     told::tell(left.answer)
 }
 
 #[no_mangle]
 pub extern "C" fn holthrimi_copy_to_user(
+    setup: Setup,
     frames: &mut [u8],
     book: &mut [u64],
     procs: &mut Procs,
@@ -141,10 +160,10 @@ pub extern "C" fn holthrimi_copy_to_user(
     dst: u64,
     bytes: &[u8],
 ) -> Told
-    ensures { λ r. ⌜ Tells (stateOf (now (frames .entry)) (now (book .entry)) (now (procs .entry))) (call number (copy-to-user dst (now (bytes .entry)))) (stateOf (now (frames .exit)) (now (book .exit)) (now (procs .exit))) r [] ⌝ }
+    ensures { λ r. ⌜ Tells (stateOf setup (now (frames .entry)) (now (book .entry)) (now (procs .entry))) (call number (copy-to-user dst (now (bytes .entry)))) (stateOf setup (now (frames .exit)) (now (book .exit)) (now (procs .exit))) r [] ⌝ }
 {
     let before = *procs;
-    let left = access::copy_to_user(frames, book, before, number, dst, bytes);
+    let left = access::copy_to_user(setup, frames, book, before, number, dst, bytes);
     *procs = left.procs;
     told::tell(left.answer)
 }

@@ -1,19 +1,25 @@
 // Functions that are no calls: they change nothing but a lent buffer, and look at no process.
 
 ghost use mathlib.Core.Path.{_≡_};
+ghost use lib.ListN.{length};
 ghost use Rattle.spec.specs.Book.{range};
 ghost use Rattle.spec.specs.Elf.{elfError};
 ghost use Rattle.spec.specs.Exec.{stackSize};
 ghost use Rattle.spec.specs.Name.{kstrcpy};
-ghost use Rattle.spec.specs.Segment.{ibrk};
-ghost use Rattle.segment.specs.Rule.{breakOf};
-ghost use Rattle.args.specs.Sizes.{saturated, argsSize};
-ghost use Rattle.exec.specs.Plan.{planOf};
+ghost use Rattle.spec.specs.SetupText.{readSetup};
+ghost use Rattle.segment.specs.Rule.{optOf, breakOf};
+ghost use Rattle.text.specs.Text.{Puts};
+ghost use Rattle.setup_text.specs.Said.{told};
+ghost use Rattle.setup_put.specs.Text.{setupIn};
+ghost use Rattle.args.specs.Sizes.{saturated};
 ghost use Rattle.front.specs.Numbers.{stateOf};
-ghost use Rattle.holthrimi.specs.Rules.{bssOf, ruleOf, plannedOf, bookError};
+ghost use Rattle.holthrimi.specs.Rules.{bssOf, ruleOf, ibrkIn, argsIn, planIn, plannedOf, bookError};
+use exec::Plan;
 use segment::Break;
 use segment::Bss;
+use setup_text::SetupRead;
 use spec::Procs;
+use spec::Setup;
 use spec::UserSegment;
 use spec::VirtRange;
 
@@ -25,9 +31,9 @@ pub struct Rule {
     pub bss: VirtRange,
 }
 
-// What a start needs of an image: the number that it is refused with, 30 or 31, or 0, and with 30 the image's own number, 11 to 27, or 0
-// for the layout; its entry point; its record's segments, `count` of the image, then the stack; its bss; and the pages that it takes with
-// the stack. A refused image's are zeros.
+// What a start needs of an image: the number that it is refused with, 38 for its setup, 30 or 31, or 0, and with 30 the image's own
+// number, 11 to 27, or 0 for the layout; its entry point; its record's segments, `count` of the image, then the stack; its bss; and
+// the pages that it takes with the stack. A refused image's are zeros.
 #[repr(C)]
 pub struct Planned {
     pub number: u64,
@@ -59,16 +65,37 @@ fn ruled(b: Break) -> Rule
     }
 }
 
+// The break's rule, or 38 for a setup that breaks a condition, with the bss as it was.
+fn ibrk_in(setup: Setup, bss: Bss, addr: u64, free: u64) -> Break
+    ensures { λ r. ⌜ breakOf r ≡ ibrkIn setup (optOf bss) addr free ⌝ }
+{
+    if !setup::setup_ok(setup) {
+        return Break {
+            error: spec::SETUP,
+            value: 0,
+            bss,
+        };
+    }
+    segment::ibrk(setup, bss, addr, free)
+}
+
 // The break's rule, over an optional bss with any numbers in it and a free count. Without `set` there is no bss.
 #[no_mangle]
-pub extern "C" fn holthrimi_ibrk(set: bool, start: u64, end: u64, addr: u64, free: u64) -> Rule
-    ensures { λ r. ⌜ r ≡ ruleOf (ibrk (bssOf set (range start end)) addr free) ⌝ }
+pub extern "C" fn holthrimi_ibrk(
+    setup: Setup,
+    set: bool,
+    start: u64,
+    end: u64,
+    addr: u64,
+    free: u64,
+) -> Rule
+    ensures { λ r. ⌜ r ≡ ruleOf (ibrkIn setup (bssOf set (range start end)) addr free) ⌝ }
 {
     if set {
         let range = mem::range(start, end);
-        return ruled(segment::ibrk(Bss::Set(range), addr, free));
+        return ruled(ibrk_in(setup, Bss::Set(range), addr, free));
     }
-    ruled(segment::ibrk(Bss::Unset, addr, free))
+    ruled(ibrk_in(setup, Bss::Unset, addr, free))
 }
 
 // The stack that `nargs` arguments take, given their strings' size, NULs included.
@@ -79,14 +106,37 @@ pub extern "C" fn holthrimi_stack_size(strings: u64, nargs: u64) -> u64
     args::stack_size(strings, nargs)
 }
 
-// The number that arguments are refused with: 1 for lengths that don't sum to their bytes, 32 for a NUL, 33 if they take too much
-// of a stack; or 0.
+// The number that arguments are refused with: 1 for lengths that don't sum to their bytes, 38 for a setup that breaks a condition, 32
+// for a NUL, 33 if they take too much of a stack; or 0.
 #[no_mangle]
-pub extern "C" fn holthrimi_args_error(bytes: &[u8], lengths: &[u64]) -> u64
-    ensures { λ r. ⌜ r ≡ argsSize (now (bytes .entry)) (now (lengths .entry)) .error ⌝ }
+pub extern "C" fn holthrimi_args_error(setup: Setup, bytes: &[u8], lengths: &[u64]) -> u64
+    ensures { λ r. ⌜ r ≡ argsIn setup (now (bytes .entry)) (now (lengths .entry)) ⌝ }
 {
-    let a = args::args_size(bytes, lengths);
+    if !args::lengths_fit(bytes, lengths) {
+        return spec::SIZES;
+    }
+    if !setup::setup_ok(setup) {
+        return spec::SETUP;
+    }
+    let a = args::args_size(setup, bytes, lengths);
     a.error
+}
+
+// The machine's numbers that four lines give, or 37 or 38.
+#[no_mangle]
+pub extern "C" fn holthrimi_read_setup(bytes: &[u8]) -> SetupRead
+    ensures { λ r. ⌜ told r ≡ readSetup (now (bytes .entry)) ⌝ }
+{
+    setup_text::read_setup(bytes)
+}
+
+// Puts the four lines of a setup into a buffer, and answers their length; one without room for the longest is left as it is, and the
+// answer is 0.
+#[no_mangle]
+pub extern "C" fn holthrimi_write_setup(setup: Setup, out: &mut [u8]) -> usize
+    ensures { λ r. ⌜ Puts (now (out .entry)) 0 (setupIn (length (now (out .entry))) setup) (now (out .exit)) r ⌝ }
+{
+    setup_put::setup_into(out, setup)
 }
 
 // Copies a name into 28 bytes, as Plan 9's kstrcpy.
@@ -109,11 +159,34 @@ pub extern "C" fn holthrimi_parse(image: &[u8]) -> u64
     }
 }
 
-#[no_mangle]
-pub extern "C" fn holthrimi_plan(image: &[u8]) -> Planned
-    ensures { λ r. ⌜ r ≡ plannedOf (planOf (now (image .entry))) ⌝ }
+// The plan of an image, or 38 for a setup that breaks a condition.
+fn plan_in(setup: Setup, image: &[u8]) -> Plan
+    ensures { λ r. ⌜ r ≡ planIn setup (now (image .entry)) ⌝ }
 {
-    let p = exec::plan_of(image);
+    if !setup::setup_ok(setup) {
+        let zero = UserSegment {
+            range: VirtRange { start: 0, end: 0 },
+            perm: 0,
+        };
+        let segments = [zero; 16];
+        return Plan {
+            number: spec::SETUP,
+            elf: 0,
+            entry: 0,
+            segments,
+            count: 0,
+            bss: VirtRange { start: 0, end: 0 },
+            pages: 0,
+        };
+    }
+    exec::plan_of(setup, image)
+}
+
+#[no_mangle]
+pub extern "C" fn holthrimi_plan(setup: Setup, image: &[u8]) -> Planned
+    ensures { λ r. ⌜ r ≡ plannedOf (planIn setup (now (image .entry))) ⌝ }
+{
+    let p = plan_in(setup, image);
     let segments = p.segments;
     let bss = p.bss;
     Planned {
@@ -127,23 +200,26 @@ pub extern "C" fn holthrimi_plan(image: &[u8]) -> Planned
     }
 }
 
-// The number that frames, book and records are refused with by every call, 1 or 2, or 0.
-fn book_error(frames: &[u8], book: &[u64], procs: Procs) -> u64
-    ensures { λ r. ⌜ r ≡ bookError (stateOf (now (frames .entry)) (now (book .entry)) procs) ⌝ }
+// The number that frames, book and records are refused with by every call, 1, 38 or 2, or 0.
+fn book_error(setup: Setup, frames: &[u8], book: &[u64], procs: Procs) -> u64
+    ensures { λ r. ⌜ r ≡ bookError (stateOf setup (now (frames .entry)) (now (book .entry)) procs) ⌝ }
 {
     if !front::numbers::sizes_ok(frames, book) {
         return spec::SIZES;
     }
-    if !sound::sound(book, procs) {
+    if !setup::setup_ok(setup) {
+        return spec::SETUP;
+    }
+    if !sound::sound(setup, book, procs) {
         return spec::TORN;
     }
     0
 }
 
 #[no_mangle]
-pub extern "C" fn holthrimi_check(frames: &[u8], book: &[u64], procs: &Procs) -> u64
-    ensures { λ r. ⌜ r ≡ bookError (stateOf (now (frames .entry)) (now (book .entry)) (now (procs .entry))) ⌝ }
+pub extern "C" fn holthrimi_check(setup: Setup, frames: &[u8], book: &[u64], procs: &Procs) -> u64
+    ensures { λ r. ⌜ r ≡ bookError (stateOf setup (now (frames .entry)) (now (book .entry)) (now (procs .entry))) ⌝ }
 {
     let records = *procs;
-    book_error(frames, book, records)
+    book_error(setup, frames, book, records)
 }

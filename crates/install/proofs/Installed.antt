@@ -5,7 +5,7 @@ use mathlib.Core.Path.{_≡_, ap, _∙_}
 use mathlib.Core.Bool.{true}
 use mathlib.Core.Option.{Option, some}
 use mathlib.Core.List.{List, [], _∷_, _++_}
-use Rattle.spec.specs.Numbers.{ustktop, ustksize, pageBytes}
+use Rattle.spec.specs.Numbers.{pageBytes}
 use Rattle.spec.specs.Book.{bookPerm, stack, bssSegment, inSegment, permAt}
 use Rattle.spec.specs.Frames.{Store, pagesOf, place}
 use Rattle.spec.specs.Elf.{entry, segmentsOf}
@@ -24,6 +24,7 @@ use Rattle.pagealloc.specs.Lent.{Mapped}
 use Rattle.exec.specs.Plan.{acceptedPlan}
 use Rattle.exec.specs.declared.Plan.{Plan}
 use Rattle.exec.proofs.Planned.{plan-accepted}
+use Rattle.spec.specs.declared.Setup.{Setup}
 use Rattle.install.specs.Installing.{Installable, recordOf}
 
 -- the last of pieces gives its addresses a permission, unless another does
@@ -31,19 +32,19 @@ last-there : (gs : List UserSegment) (b g : UserSegment) (a : ℕ) → inSegment
 last-there [] b g a h = split (inSegment a b) (λ s. (b .perm, rw s)) (λ s. (g .perm, rw (s, h)))
 last-there (x ∷ gs) b g a h = split (inSegment a x) (λ s. (x .perm, rw s)) (λ s. let r = last-there gs b g a h in (r .0, rw s (r .1)))
 
-module _ (m : Store) (n : ℕ) (image : List ℕ) (plan : Plan) (bytes lengths : List ℕ) (i : Installable m n image plan bytes lengths) where
+module _ {setup : Setup} (m : Store) (n : ℕ) (image : List ℕ) (plan : Plan) (i : Installable setup m n image plan) where
   abbrev page : ℕ → List ℕ
   page = pageBytes (fileByte (segmentsOf image))
 
-  whole : Whole n page (startPieces image)
+  whole : Whole n page (startPieces setup image)
   whole = record {
     owner = omega (arith, valid-means n (i .number) .1);
-    pieces = start-apart image (i .accepted);
-    small = λ a q s. omega (arith, start-perm image (i .accepted) a q s .1);
+    pieces = start-apart setup (i .setup-ok) image (i .accepted);
+    small = λ a q s. omega (arith, start-perm setup image (i .accepted) a q s .1);
     bytes = λ a q z s. length-page (fileByte (segmentsOf image)) a;
   }
 
-  room : Room m n (startPieces image)
+  room : Room m n (startPieces setup image)
   room = record {
     owner = valid-means n (i .number) .0;
     fresh = λ a q z s. page-perm m n a z ∙ ap history.permIn (i .empty a);
@@ -51,16 +52,16 @@ module _ (m : Store) (n : ℕ) (image : List ℕ) (plan : Plan) (bytes lengths :
   }
 
   abbrev placed : Store
-  placed = place m n (pagesOf page (startPieces image))
+  placed = place m n (pagesOf page (startPieces setup image))
 
-  pub stack-mapped : Mapped (placed .book) n (ustktop - ustksize) ustktop
+  pub stack-mapped : Mapped (placed .book) n (setup .ustktop - setup .ustksize) (setup .ustktop)
   stack-mapped a z l u =
-      let r = last-there (imageSegments image) (bssSegment (imageBss image)) stack a (within-test (ustktop - ustksize) ustktop a l u) in
-      frame-perm (placed .book) n a (r .0) (perm-placed m n page (startPieces image) (i .sizes) whole room a z ∙ ap (λ (o : Option ℕ). orPerm o (bookPerm (m .book) n a)) (r .1))
+      let r = last-there (imageSegments image) (bssSegment (imageBss image)) (stack setup) a (within-test (setup .ustktop - setup .ustksize) (setup .ustktop) a l u) in
+      frame-perm (placed .book) n a (r .0) (perm-placed m n page (startPieces setup image) (i .sizes) whole room a z ∙ ap (λ (o : Option ℕ). orPerm o (bookPerm (m .book) n a)) (r .1))
 
   -- the plan is the image's
-  plan-is : plan ≡ acceptedPlan image
-  plan-is = i .planned ∙ plan-accepted image (i .accepted)
+  plan-is : plan ≡ acceptedPlan setup image
+  plan-is = i .planned ∙ plan-accepted setup image (i .accepted)
 
   pub plan-bss : plan .bss ≡ imageBss image
   plan-bss = ap (λ (p : Plan). p .bss) plan-is
@@ -68,5 +69,5 @@ module _ (m : Store) (n : ℕ) (image : List ℕ) (plan : Plan) (bytes lengths :
   pub plan-entry : plan .entry ≡ entry image
   plan-entry = ap (λ (p : Plan). p .entry) plan-is
 
-  pub plan-record : (name : List ℕ) → recordOf plan name ≡ procOf image name
+  pub plan-record : (name : List ℕ) → recordOf plan name ≡ procOf setup image name
   plan-record name = ap (λ (p : Plan). recordOf p name) plan-is

@@ -1,18 +1,20 @@
 -- The arguments of replace: one turn of reading them, by its tests; and those that were read have no NUL and are within the limit.
 use Prim.Native.Nat.{ℕ, zero, suc, _+_, _*_}
 use native.Mathlib.Numerals.{add-one}
+use native.Mathlib.Omega.{arith}
 use mathlib.Core.Path.{_≡_, refl, sym, subst, _∙_}
 use mathlib.Core.Bool.{Bool, true, false, not}
 use mathlib.Core.List.{List, [], _∷_, _++_}
 use lib.ListN.{length, take}
 use Rattle.spec.specs.Tests.{_is_, _above_, _⇒_else_, any, has}
-use Rattle.spec.specs.Numbers.{argLimit, le}
+use Rattle.spec.specs.Numbers.{argLimit, le, SetupOk}
 use Rattle.spec.specs.Frames.{Mem}
 use Rattle.spec.specs.Access.{userRangeOk, byteOf, bytesAt, Str, copyStr}
 use Rattle.spec.specs.Exec.{strings, stackSize, argsError, Argv, argBuffer, argvFrom, copyArgv}
-use Rattle.spec.proofs.Bools.{split}
 use Rattle.spec.proofs.Lists.{any-append}
 use Rattle.spec.proofs.Args.{args-means}
+use Rattle.spec.proofs.Bools.{split, not-above}
+use Rattle.spec.specs.declared.Setup.{Setup}
 
 -- ---- one turn, by its tests
 
@@ -25,46 +27,47 @@ turn ok z w f g before more =
     g ⇒ record { error = 33; args = [] } else
     more
 
--- neither 35 nor 33 is given but where nothing is: then the arguments can be pushed
-abbrev pub Fits : Argv → Type 0
-Fits r = (r .error ≡ 35 → ⊥) → (r .error ≡ 33 → ⊥) → (r .error ≡ 0) × (argsError (r .args) ≡ 0)
+module _ (setup : Setup) where
+  -- neither 35 nor 33 is given but where nothing is: then the arguments can be pushed
+  abbrev pub Fits : Argv → Type 0
+  Fits r = (r .error ≡ 35 → ⊥) → (r .error ≡ 33 → ⊥) → (r .error ≡ 0) × (argsError setup (r .args) ≡ 0)
 
-fits-turn : (ok z w f g : Bool) (before : List (List ℕ)) (more : Argv) → argsError before ≡ 0 → (g ≡ false → Fits more) → Fits (turn ok z w f g before more)
-fits-turn true true w f g before more e h = λ x y. (refl, e)
-fits-turn true false true true g before more e h = λ x y. absurd (y refl)
-fits-turn true false true false true before more e h = λ x y. absurd (y refl)
-fits-turn true false true false false before more e h = h refl
-fits-turn true false false f g before more e h = λ x y. absurd (x refl)
-fits-turn false z w f g before more e h = λ x y. absurd (x refl)
+  fits-turn : (ok z w f g : Bool) (before : List (List ℕ)) (more : Argv) → argsError setup before ≡ 0 → (g ≡ false → Fits more) → Fits (turn ok z w f g before more)
+  fits-turn true true w f g before more e h = λ x y. (refl, e)
+  fits-turn true false true true g before more e h = λ x y. absurd (y refl)
+  fits-turn true false true false true before more e h = λ x y. absurd (y refl)
+  fits-turn true false true false false before more e h = h refl
+  fits-turn true false false f g before more e h = λ x y. absurd (x refl)
+  fits-turn false z w f g before more e h = λ x y. absurd (x refl)
 
--- ---- one argument more
+  -- ---- one argument more
 
--- no byte of a string that was read is a NUL
-pub str-no-nul : (mem : Mem) (d : List ℕ) (a : ℕ) → has 0 (take (copyStr mem d a .size) (copyStr mem d a .buffer)) ≡ false
-str-no-nul mem [] a = refl
-str-no-nul mem (x ∷ d) a =
-    split (userRangeOk mem false a 1)
-    (λ q. split (byteOf (mem a) is 0) (λ z. rw (q, z)) (λ z. rw (q, z, add-one (copyStr mem d (a + 1) .size)) (rw z (str-no-nul mem d (a + 1)))))
-    (λ q. rw q)
+  -- no byte of a string that was read is a NUL
+  pub str-no-nul : (mem : Mem) (d : List ℕ) (a : ℕ) → has 0 (take (copyStr setup mem d a .size) (copyStr setup mem d a .buffer)) ≡ false
+  str-no-nul mem [] a = refl
+  str-no-nul mem (x ∷ d) a =
+      split (userRangeOk setup mem false a 1)
+      (λ q. split (byteOf (mem a) is 0) (λ z. rw (q, z)) (λ z. rw (q, z, add-one (copyStr setup mem d (a + 1) .size)) (rw z (str-no-nul mem d (a + 1)))))
+      (λ q. rw q)
 
-error-more : (args : List (List ℕ)) (a : List ℕ) → argsError args ≡ 0 → has 0 a ≡ false → (stackSize (length (strings (args ++ a ∷ []))) (length (args ++ a ∷ [])) above argLimit) ≡ false → argsError (args ++ a ∷ []) ≡ 0
-error-more args a e n l =
-    let none : any (has 0) (args ++ a ∷ []) ≡ false = any-append (has 0) args (a ∷ []) ∙ rw (args-means args e .0, n) in
-    rw (none, l)
+  error-more : (args : List (List ℕ)) (a : List ℕ) → argsError setup args ≡ 0 → has 0 a ≡ false → (stackSize (length (strings (args ++ a ∷ []))) (length (args ++ a ∷ [])) above argLimit setup) ≡ false → argsError setup (args ++ a ∷ []) ≡ 0
+  error-more args a e n l =
+      let none : any (has 0) (args ++ a ∷ []) ≡ false = any-append (has 0) args (a ∷ []) ∙ rw (args-means setup args e .0, n) in
+      rw (none, l)
 
--- ---- all of them
+  -- ---- all of them
 
-fits-from : (mem : Mem) (argv turns : ℕ) (before : List (List ℕ)) → argsError before ≡ 0 → Fits (argvFrom mem argv before turns)
-fits-from mem argv zero before e = λ x y. absurd (y refl)
-fits-from mem argv (suc turns) before e =
-    let at : ℕ = argv + 8 * length before in
-    let s : ℕ = le 8 (bytesAt mem at 8) 0 in
-    let str : Str = copyStr mem argBuffer s in
-    let text : List ℕ = take (str .size) (str .buffer) in
-    let args : List (List ℕ) = before ++ text ∷ [] in
-    fits-turn (userRangeOk mem false at 8) (s is 0) (str .whole) (str .size is argLimit) (stackSize (length (strings args)) (length args) above argLimit) before (argvFrom mem argv args turns) e
-    (λ q. fits-from mem argv turns args (error-more before text e (str-no-nul mem argBuffer s) q))
+  fits-from : (mem : Mem) (argv turns : ℕ) (before : List (List ℕ)) → argsError setup before ≡ 0 → Fits (argvFrom setup mem argv before turns)
+  fits-from mem argv zero before e = λ x y. absurd (y refl)
+  fits-from mem argv (suc turns) before e =
+      let at : ℕ = argv + 8 * length before in
+      let s : ℕ = le 8 (bytesAt mem at 8) 0 in
+      let str : Str = copyStr setup mem (argBuffer setup) s in
+      let text : List ℕ = take (str .size) (str .buffer) in
+      let args : List (List ℕ) = before ++ text ∷ [] in
+      fits-turn (userRangeOk setup mem false at 8) (s is 0) (str .whole) (str .size is argLimit setup) (stackSize (length (strings args)) (length args) above argLimit setup) before (argvFrom setup mem argv args turns) e
+      (λ q. fits-from mem argv turns args (error-more before text e (str-no-nul mem (argBuffer setup) s) q))
 
-pub argv-fits : (mem : Mem) (argv : ℕ) (r : Argv) → r ≡ copyArgv mem argv → Fits r
-unfolding copyArgv
-argv-fits mem argv r h = subst Fits (sym h) (fits-from mem argv argLimit [] refl)
+  pub argv-fits : SetupOk setup → (mem : Mem) (argv : ℕ) (r : Argv) → r ≡ copyArgv setup mem argv → Fits r
+  unfolding copyArgv
+  argv-fits ok mem argv r h = subst Fits (sym h) (fits-from mem argv (argLimit setup) [] (rw (not-above 16 (argLimit setup) (omega (arith, ok)))))

@@ -1,21 +1,23 @@
--- The premise of demand 3 is met: a book of zeros, with no process, is where calls may begin.
+-- The premise of demand 3 is met, for every accepted setup: a book of zeros, with no process, is where calls may begin.
 use Prim.Native.Nat.{ℕ, zero, suc, _+_, _*_, _-_, _≤_}
 use native.Mathlib.Omega.{arith}
 use mathlib.Core.Path.{_≡_, refl, sym, ap, _∙_}
-use mathlib.Core.Bool.{_&&_, and-false}
+use mathlib.Core.Bool.{true, _&&_, and-false}
 use mathlib.Core.List.{List}
 use lib.ListN.{length, getD, replicate, length-replicate}
 use borrow.Author.Tests.{eq-eqb}
 use Rattle.spec.proofs.Bools.{clash, and-test, within-test}
 use Rattle.spec.proofs.Search.{highest-none}
+use Rattle.spec.proofs.Setups.{setup-means}
 use Rattle.spec.specs.Tests.{_is_, within}
-use Rattle.spec.specs.Numbers.{maxFrames}
+use Rattle.spec.specs.Numbers.{maxFrames, setupOk, SetupOk}
 use Rattle.spec.specs.Book.{valid, owns, permIn, zeroProc, lives, permAt, procAt, piecesOf}
 use Rattle.spec.specs.Sound.{Sound}
 use Rattle.spec.specs.World.{State}
 use Rattle.spec.specs.History.{Begin}
 use Rattle.spec.specs.declared.Proc.{Proc}
 use Rattle.spec.specs.declared.Procs.{Procs}
+use Rattle.spec.specs.declared.Setup.{Setup}
 use Rattle.laws.proofs.Lists.{getD-same}
 use Rattle.laws.proofs.Record.{typed-whole}
 use Rattle.laws.proofs.OwnPieces.{zero-pieces}
@@ -25,11 +27,12 @@ use Rattle.laws.proofs.Facts.{facts-sound}
 abbrev noProcs : Procs
 noProcs = record { all = replicate 16 zeroProc }
 
-abbrev pub blank : ℕ → List ℕ → State
-blank n frames = record { store = record { frames = frames; book = replicate n 0 }; procs = noProcs }
+abbrev pub blank : Setup → ℕ → List ℕ → State
+blank setup n frames = record { setup = setup; store = record { frames = frames; book = replicate n 0 }; procs = noProcs }
 
-zero-book : (n : ℕ) → Sound (replicate n 0) noProcs
-zero-book n = record {
+zero-book : (setup : Setup) → SetupOk setup → (n : ℕ) → Sound setup (replicate n 0) noProcs
+zero-book setup ok n = record {
+  accepted = ok;
   words = λ k nz. absurd (nz (getD-same n k 0));
   once = λ j k nz. absurd (nz (getD-same n j 0));
   shape = λ p v l. clash (lives (procAt noProcs p)) l (ap lives (getD-same 16 (p - 1) zeroProc));
@@ -38,13 +41,14 @@ zero-book n = record {
       ∙ sym (ap (λ (x : Proc). permAt (piecesOf x) page) (getD-same 16 (p - 1) zeroProc) ∙ zero-pieces page);
 }
 
-pub blank-begins : (n : ℕ) (frames : List ℕ) → 1 ≤ n → n ≤ maxFrames → length frames ≡ 4096 * n → Begin (blank n frames)
-blank-begins n frames l h e = record {
+pub blank-begins : (setup : Setup) (n : ℕ) (frames : List ℕ) → setupOk setup ≡ true → 1 ≤ n → n ≤ maxFrames → length frames ≡ 4096 * n → Begin (blank setup n frames)
+blank-begins setup n frames ok l h e = record {
   types = refl;
+  numbers = ok;
   sizes =
       let k = length-replicate {A = ℕ} n 0 in
       and-test (length frames is 4096 * length (replicate n 0)) (within 1 (maxFrames + 1) (length (replicate n 0)))
       (eq-eqb (length frames) (4096 * length (replicate n 0)) (omega arith)) (within-test 1 (maxFrames + 1) (length (replicate n 0)) (omega arith) (omega arith));
-  book = facts-sound (replicate n 0) noProcs (typed-whole (blank n frames) refl) (zero-book n);
+  book = facts-sound setup (replicate n 0) noProcs (typed-whole (blank setup n frames) refl) (zero-book setup (setup-means setup ok) n);
   nobody = λ p. ap (λ (x : Proc). valid p && lives x) (getD-same 16 (p - 1) zeroProc) ∙ and-false (valid p);
 }

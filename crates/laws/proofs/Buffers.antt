@@ -9,12 +9,14 @@ use lib.ListN.{length, take, drop}
 use Rattle.spec.proofs.Bools.{split, clash}
 use Rattle.spec.specs.Tests.{_is_, _⇒_else_}
 use Rattle.spec.specs.Book.{valid, free}
+use Rattle.spec.specs.Numbers.{setupOk}
 use Rattle.spec.specs.Frames.{Mem, sized}
 use Rattle.spec.specs.Access.{userRangeOk, byteOf, bytesAt, copyStr}
 use Rattle.spec.specs.Machine.{Ask, start, replace, push, break, fork, end, user-range-ok, copy-from-user, copy-to-user, try-copy-str-from-user, Call, accepted, refused, ended, Reply, outcome, outcomeOf, numberOf, lent, refuse, Machine, lengthsFit, kind, listFits, numbered, living, unclaimed, weigh, judge}
 use Rattle.spec.specs.World.{State, sound, taken, view, answer}
 use Rattle.spec.specs.declared.Answer.{Answer}
 use Rattle.spec.specs.declared.Answer.the-variants.{Value, Done, Refused, Ended}
+use Rattle.spec.specs.declared.Setup.{Setup}
 
 -- the string copy's 35
 abbrev strayString : Ask → Answer → Bool
@@ -58,9 +60,9 @@ weigh-kept m free (fork child segments) e f = refl
 weigh-kept m free end e f = refl
 weigh-kept m free (user-range-ok addr len write) e f = refl
 weigh-kept m free (copy-from-user buffer src) e f =
-    absurd (copy-answers (not (userRangeOk (m .mem) false src (length buffer))) (record { says = Ended 35; buffer = buffer }) (record { says = Done; buffer = bytesAt (m .mem) src (length buffer) }) refl refl e)
+    absurd (copy-answers (not (userRangeOk (m .setup) (m .mem) false src (length buffer))) (record { says = Ended 35; buffer = buffer }) (record { says = Done; buffer = bytesAt (m .mem) src (length buffer) }) refl refl e)
 weigh-kept m free (copy-to-user dst bytes) e f = refl
-weigh-kept m free (try-copy-str-from-user buffer src) e f = absurd (string-answers (copyStr (m .mem) buffer src .whole) (copyStr (m .mem) buffer src .size) e f)
+weigh-kept m free (try-copy-str-from-user buffer src) e f = absurd (string-answers (copyStr (m .setup) (m .mem) buffer src .whole) (copyStr (m .setup) (m .mem) buffer src .size) e f)
 
 pub refused-lent : (s : State) (c : Call) → outcome (answer s c) ≡ refused → strayString (c .ask) (answer s c .says) ≡ false → answer s c .buffer ≡ lent (c .ask)
 unfolding answer judge
@@ -73,13 +75,15 @@ refused-lent s c =
     let r₂ : Reply = not (listFits m (c .number) (kind q)) ⇒ refuse 2 q else r₃ in
     let r₁ : Reply = not (lengthsFit q) ⇒ refuse 1 q else r₂ in
     let r₀ : Reply = not (sound s) ⇒ refuse 2 q else r₁ in
-    refuse-kept (not (sized (s .store) && lengthsFit q)) 1 q r₀
+    let r : Reply = not (setupOk (s .setup)) ⇒ refuse 38 q else r₀ in
+    refuse-kept (not (sized (s .store) && lengthsFit q)) 1 q r
+    (refuse-kept (not (setupOk (s .setup))) 38 q r₀
     (refuse-kept (not (sound s)) 2 q r₁
     (refuse-kept (not (lengthsFit q)) 1 q r₂
     (refuse-kept (not (listFits m (c .number) (kind q))) 2 q r₃
     (refuse-kept (not (numbered (c .number) (kind q))) 3 q r₄
     (refuse-kept (not (living (taken s) (c .number) (kind q))) 4 q r₅
-    (refuse-kept (not (unclaimed (taken s) (c .number) (kind q))) 5 q (weigh m (free (s .store .book)) q) (weigh-kept m (free (s .store .book)) q)))))))
+    (refuse-kept (not (unclaimed (taken s) (c .number) (kind q))) 5 q (weigh m (free (s .store .book)) q) (weigh-kept m (free (s .store .book)) q))))))))
 
 -- ---- and what the string copy's 35 leaves
 
@@ -89,7 +93,7 @@ others-number false k q r ne e = refl
 
 pub string-left : (s : State) (n : ℕ) (buffer : List ℕ) (src : ℕ)
     → let c : Call = record { number = n; ask = try-copy-str-from-user buffer src } in
-    answer s c .says ≡ Refused 35 → answer s c .buffer ≡ copyStr (view s n .mem) buffer src .buffer
+    answer s c .says ≡ Refused 35 → answer s c .buffer ≡ copyStr (s .setup) (view s n .mem) buffer src .buffer
 unfolding answer judge
 string-left s n buffer src e =
     let q : Ask = try-copy-str-from-user buffer src in
@@ -97,19 +101,21 @@ string-left s n buffer src e =
     let r₃ : Reply = not (taken s n) ⇒ refuse 4 q else r₄ in
     let r₂ : Reply = not (valid n) ⇒ refuse 3 q else r₃ in
     let r₁ : Reply = not (sound s) ⇒ refuse 2 q else r₂ in
-    let p₁ = others-number (not (sized (s .store) && true)) 1 q r₁ (λ z. omega arith) e in
+    let r₀ : Reply = not (setupOk (s .setup)) ⇒ refuse 38 q else r₁ in
+    let p₀ = others-number (not (sized (s .store) && true)) 1 q r₀ (λ z. omega arith) e in
+    let p₁ = p₀ ∙ others-number (not (setupOk (s .setup))) 38 q r₁ (λ z. omega arith) (ap (λ (r : Reply). r .says) (sym p₀) ∙ e) in
     let p₂ = others-number (not (sound s)) 2 q r₂ (λ z. omega arith) (ap (λ (r : Reply). r .says) (sym p₁) ∙ e) in
     let p₃ = others-number (not (valid n)) 3 q r₃ (λ z. omega arith) (ap (λ (r : Reply). r .says) (sym (p₁ ∙ p₂)) ∙ e) in
     let p₄ = others-number (not (taken s n)) 4 q r₄ (λ z. omega arith) (ap (λ (r : Reply). r .says) (sym (p₁ ∙ p₂ ∙ p₃)) ∙ e) in
     ap (λ (r : Reply). r .buffer) (p₁ ∙ p₂ ∙ p₃ ∙ p₄)
 
 -- bytes before the string's end, or a bad page, are copied
-pub string-copied : (mem : Mem) (dst : List ℕ) (a : ℕ) → take (copyStr mem dst a .size) (copyStr mem dst a .buffer) ≡ bytesAt mem a (copyStr mem dst a .size)
-string-copied mem [] a = refl
-string-copied mem (d ∷ dst) a =
-    split (userRangeOk mem false a 1)
+pub string-copied : (setup : Setup) (mem : Mem) (dst : List ℕ) (a : ℕ) → take (copyStr setup mem dst a .size) (copyStr setup mem dst a .buffer) ≡ bytesAt mem a (copyStr setup mem dst a .size)
+string-copied setup mem [] a = refl
+string-copied setup mem (d ∷ dst) a =
+    split (userRangeOk setup mem false a 1)
     (λ q.
     split (byteOf (mem a) is 0)
     (λ z. rw (q, z))
-    (λ z. rw (q, z, add-one (copyStr mem dst (a + 1) .size)) (ap (λ (x : List ℕ). byteOf (mem a) ∷ x) (string-copied mem dst (a + 1)))))
+    (λ z. rw (q, z, add-one (copyStr setup mem dst (a + 1) .size)) (ap (λ (x : List ℕ). byteOf (mem a) ∷ x) (string-copied setup mem dst (a + 1)))))
     (λ q. rw q)

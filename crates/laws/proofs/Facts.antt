@@ -8,12 +8,13 @@ use mathlib.Core.List.{List, []}
 use lib.ListN.{getD}
 use Rattle.spec.proofs.Bools.{split, both, and-test, below-at, below-test, all-at, all-test, living-ok, dead-ok}
 use Rattle.spec.specs.Tests.{all, allBelow}
-use Rattle.spec.specs.Numbers.{utzero, uaddrtop, pageDown}
+use Rattle.spec.specs.Numbers.{pageDown, SetupOk}
 use Rattle.spec.specs.Book.{permOf, valid, frameOf, permIn, bookPerm, lives, permAt, procAt, piecesOf}
 use Rattle.spec.specs.Sound.{wordOk, once, segmentsOk, booked, recorded, procOk, soundBook, Word, Shape, Sound}
 use Rattle.spec.specs.declared.UserSegment.{UserSegment}
 use Rattle.spec.specs.declared.Proc.{Proc}
 use Rattle.spec.specs.declared.Procs.{Procs}
+use Rattle.spec.specs.declared.Setup.{Setup}
 use Rattle.laws.proofs.Record.{WholeProc, Whole, dead-zero}
 use Rattle.laws.proofs.Shape.{segments-shape, shape-segments}
 use Rattle.laws.proofs.Pieces.{Pieces, perm-page}
@@ -27,123 +28,126 @@ use Rattle.laws.proofs.Exact.{some-none, exact-means, exact-recorded, e
 abbrev Exact : List ℕ → ℕ → Proc → Type 0
 Exact book n p = (page : ℕ) → page % 4096 ≡ 0 → bookPerm book n page ≡ permAt (piecesOf p) page
 
-abbrev pub Shaped : Proc → Type 0
-Shaped p = (image : List UserSegment) × Shape p image
+module _ (setup : Setup) where
+  abbrev pub Shaped : Proc → Type 0
+  Shaped p = (image : List UserSegment) × Shape setup p image
 
--- the tests of a living process, and of a dead one
-living-parts : (book : List ℕ) (n : ℕ) (p : Proc) → procOk book n p ≡ true → lives p ≡ true
-    → (segmentsOk utzero (p .bss) (p .segments) ≡ true) × (all (booked book n) (piecesOf p) ≡ true) × (all (recorded n (piecesOf p)) book ≡ true)
-living-parts book n p e l =
-    let ok = living-ok (lives p) (segmentsOk utzero (p .bss) (p .segments) && all (booked book n) (piecesOf p) && all (recorded n (piecesOf p)) book) (all (recorded n []) book) e l in
-    let x = both (segmentsOk utzero (p .bss) (p .segments) && all (booked book n) (piecesOf p)) (all (recorded n (piecesOf p)) book) ok in
-    let y = both (segmentsOk utzero (p .bss) (p .segments)) (all (booked book n) (piecesOf p)) (x .0) in
-    (y .0, y .1, x .1)
+  -- the tests of a living process, and of a dead one
+  living-parts : (book : List ℕ) (n : ℕ) (p : Proc) → procOk setup book n p ≡ true → lives p ≡ true
+      → (segmentsOk setup (setup .utzero) (p .bss) (p .segments) ≡ true) × (all (booked book n) (piecesOf p) ≡ true) × (all (recorded n (piecesOf p)) book ≡ true)
+  living-parts book n p e l =
+      let ok = living-ok (lives p) (segmentsOk setup (setup .utzero) (p .bss) (p .segments) && all (booked book n) (piecesOf p) && all (recorded n (piecesOf p)) book) (all (recorded n []) book) e l in
+      let x = both (segmentsOk setup (setup .utzero) (p .bss) (p .segments) && all (booked book n) (piecesOf p)) (all (recorded n (piecesOf p)) book) ok in
+      let y = both (segmentsOk setup (setup .utzero) (p .bss) (p .segments)) (all (booked book n) (piecesOf p)) (x .0) in
+      (y .0, y .1, x .1)
 
-dead-parts : (book : List ℕ) (n : ℕ) (p : Proc) → procOk book n p ≡ true → lives p ≡ false → all (recorded n []) book ≡ true
-dead-parts book n p e l = dead-ok (lives p) (segmentsOk utzero (p .bss) (p .segments) && all (booked book n) (piecesOf p) && all (recorded n (piecesOf p)) book) (all (recorded n []) book) e l
+  dead-parts : (book : List ℕ) (n : ℕ) (p : Proc) → procOk setup book n p ≡ true → lives p ≡ false → all (recorded n []) book ≡ true
+  dead-parts book n p e l = dead-ok (lives p) (segmentsOk setup (setup .utzero) (p .bss) (p .segments) && all (booked book n) (piecesOf p) && all (recorded n (piecesOf p)) book) (all (recorded n []) book) e l
 
-proc-shape : (book : List ℕ) (n : ℕ) (p : Proc) → WholeProc p → procOk book n p ≡ true → lives p ≡ true → Shaped p
-proc-shape book n p w e l = segments-shape p (w .segments) (living-parts book n p e l .0)
+  proc-shape : (book : List ℕ) (n : ℕ) (p : Proc) → WholeProc p → procOk setup book n p ≡ true → lives p ≡ true → Shaped p
+  proc-shape book n p w e l = segments-shape setup p (w .segments) (living-parts book n p e l .0)
 
-proc-exact : (book : List ℕ) (n : ℕ) (p : Proc) → WholeProc p → procOk book n p ≡ true → Exact book n p
-proc-exact book n p w e page z =
+proc-exact : (setup : Setup) (ok : SetupOk setup) (book : List ℕ) (n : ℕ) (p : Proc) → WholeProc p → procOk setup book n p ≡ true → Exact book n p
+proc-exact setup ok book n p w e page z =
     split (lives p)
     (λ l.
-    let t = living-parts book n p e l in
-    let s = proc-shape book n p w e l in
-    exact-means book n (piecesOf p) (own-pieces p (s .0) (s .1)) (t .1) (t .2) page z)
-    (λ l. exact-means book n [] tt refl (dead-parts book n p e l) page z ∙ sym (zero-pieces page) ∙ ap (λ (x : Proc). permAt (piecesOf x) page) (sym (dead-zero p w l)))
+    let t = living-parts setup book n p e l in
+    let s = proc-shape setup book n p w e l in
+    exact-means book n (piecesOf p) (own-pieces setup ok p (s .0) (s .1)) (t .1) (t .2) page z)
+    (λ l. exact-means book n [] tt refl (dead-parts setup book n p e l) page z ∙ sym (zero-pieces page) ∙ ap (λ (x : Proc). permAt (piecesOf x) page) (sym (dead-zero p w l)))
 
-proc-test : (book : List ℕ) (n : ℕ) (p : Proc) → WholeProc p → Once book → (lives p ≡ true → Shaped p) → Exact book n p → procOk book n p ≡ true
-proc-test book n p w once shape x =
+proc-test : (setup : Setup) (ok : SetupOk setup) (book : List ℕ) (n : ℕ) (p : Proc) → WholeProc p → Once book → (lives p ≡ true → Shaped setup p) → Exact book n p → procOk setup book n p ≡ true
+proc-test setup ok book n p w once shape x =
     split (lives p)
     (λ l.
     let s = shape l in
-    rw (l, shape-segments p (s .0) (s .1), exact-booked book n (piecesOf p) (own-pieces p (s .0) (s .1)) x) (exact-recorded book n (piecesOf p) once x))
+    rw (l, shape-segments setup p (s .0) (s .1), exact-booked book n (piecesOf p) (own-pieces setup ok p (s .0) (s .1)) x) (exact-recorded book n (piecesOf p) once x))
     (λ l. rw l (exact-recorded book n [] once (λ page z. x page z ∙ ap (λ (y : Proc). permAt (piecesOf y) page) (dead-zero p w l) ∙ zero-pieces page)))
 
 -- ---- the whole book
 
 -- the three parts of the test
-sound-parts : (book : List ℕ) (ps : Procs) → soundBook book ps ≡ true
-    → (all wordOk book ≡ true) × (once book ≡ true) × ((n : ℕ) → valid n ≡ true → procOk book n (procAt ps n) ≡ true)
+sound-parts : (setup : Setup) (book : List ℕ) (ps : Procs) → soundBook setup book ps ≡ true
+    → (all (wordOk setup) book ≡ true) × (once book ≡ true) × ((n : ℕ) → valid n ≡ true → procOk setup book n (procAt ps n) ≡ true)
 unfolding soundBook
-sound-parts book ps e =
-    let p = both (all wordOk book && once book) (allBelow 16 (λ i. procOk book (i + 1) (procAt ps (i + 1)))) e in
-    let q = both (all wordOk book) (once book) (p .0) in (
+sound-parts setup book ps e =
+    let p = both (all (wordOk setup) book && once book) (allBelow 16 (λ i. procOk setup book (i + 1) (procAt ps (i + 1)))) e in
+    let q = both (all (wordOk setup) book) (once book) (p .0) in (
       q .0,
       q .1,
       λ n v.
           let r = valid-means n v in
           let k : n - 1 + 1 ≡ n = omega (arith, r .0) in
-          ap (λ (i : ℕ). procOk book i (procAt ps i)) (sym k) ∙ below-at 16 (λ i. procOk book (i + 1) (procAt ps (i + 1))) (p .1) (n - 1) (omega (arith, r .0, r .1)),
+          ap (λ (i : ℕ). procOk setup book i (procAt ps i)) (sym k) ∙ below-at 16 (λ i. procOk setup book (i + 1) (procAt ps (i + 1))) (p .1) (n - 1) (omega (arith, r .0, r .1)),
     )
 
-pub sound-test : (book : List ℕ) (ps : Procs) → all wordOk book ≡ true → once book ≡ true → ((n : ℕ) → valid n ≡ true → procOk book n (procAt ps n) ≡ true) → soundBook book ps ≡ true
+pub sound-test : (setup : Setup) (book : List ℕ) (ps : Procs) → all (wordOk setup) book ≡ true → once book ≡ true → ((n : ℕ) → valid n ≡ true → procOk setup book n (procAt ps n) ≡ true) → soundBook setup book ps ≡ true
 unfolding soundBook
-sound-test book ps w o f =
-    and-test (all wordOk book && once book) (allBelow 16 (λ i. procOk book (i + 1) (procAt ps (i + 1)))) (and-test (all wordOk book) (once book) w o)
-    (below-test 16 (λ i. procOk book (i + 1) (procAt ps (i + 1))) (λ i l. f (i + 1) (valid-test (i + 1) (omega arith) (omega arith))))
+sound-test setup book ps w o f =
+    and-test (all (wordOk setup) book && once book) (allBelow 16 (λ i. procOk setup book (i + 1) (procAt ps (i + 1)))) (and-test (all (wordOk setup) book) (once book) w o)
+    (below-test 16 (λ i. procOk setup book (i + 1) (procAt ps (i + 1))) (λ i l. f (i + 1) (valid-test (i + 1) (omega arith) (omega arith))))
 
 -- a book that passes the test is sound
-pub sound-facts : (book : List ℕ) (ps : Procs) → Whole ps → soundBook book ps ≡ true → Sound book ps
-sound-facts book ps w e = record {
+pub sound-facts : (setup : Setup) (ok : SetupOk setup) (book : List ℕ) (ps : Procs) → Whole ps → soundBook setup book ps ≡ true → Sound setup book ps
+sound-facts setup ok book ps w e = record {
+  accepted = ok;
   words = words;
   once = once-words book (λ k nz. words k nz .owner .0) (once-tells book (parts .1));
-  shape = λ n v. proc-shape book n (procAt ps n) (w .each (n - 1)) (parts .2 n v);
-  exact = λ n page v. proc-exact book n (procAt ps n) (w .each (n - 1)) (parts .2 n v) page;
+  shape = λ n v. proc-shape setup book n (procAt ps n) (w .each (n - 1)) (parts .2 n v);
+  exact = λ n page v. proc-exact setup ok book n (procAt ps n) (w .each (n - 1)) (parts .2 n v) page;
 }
   where
-    parts : (all wordOk book ≡ true) × (once book ≡ true) × ((n : ℕ) → valid n ≡ true → procOk book n (procAt ps n) ≡ true)
-    parts = sound-parts book ps e
+    parts : (all (wordOk setup) book ≡ true) × (once book ≡ true) × ((n : ℕ) → valid n ≡ true → procOk setup book n (procAt ps n) ≡ true)
+    parts = sound-parts setup book ps e
 
-    words : (k : ℕ) → ¬ (getD book k 0 ≡ 0) → Word (getD book k 0)
-    words k nz = word-means (getD book k 0) (all-at wordOk 0 book (parts .0) k (in-range book k nz)) nz
+    words : (k : ℕ) → ¬ (getD book k 0 ≡ 0) → Word setup (getD book k 0)
+    words k nz = word-means setup (getD book k 0) (all-at (wordOk setup) 0 book (parts .0) k (in-range book k nz)) nz
 
--- and a sound book passes it
-pub facts-sound : (book : List ℕ) (ps : Procs) → Whole ps → Sound book ps → soundBook book ps ≡ true
-facts-sound book ps w s =
-    sound-test book ps (all-test wordOk 0 book (λ k l. word-test (getD book k 0) (s .words k))) (once-test book (once-means book (s .once)))
-    (λ n v. proc-test book n (procAt ps n) (w .each (n - 1)) (once-means book (s .once)) (s .shape n v) (λ page. s .exact n page v))
+module _ (setup : Setup) where
+  -- and a sound book passes it
+  pub facts-sound : (book : List ℕ) (ps : Procs) → Whole ps → Sound setup book ps → soundBook setup book ps ≡ true
+  facts-sound book ps w s =
+      sound-test setup book ps (all-test (wordOk setup) 0 book (λ k l. word-test setup (getD book k 0) (s .words k))) (once-test book (once-means book (s .once)))
+      (λ n v. proc-test setup (s .accepted) book n (procAt ps n) (w .each (n - 1)) (once-means book (s .once)) (s .shape n v) (λ page. s .exact n page v))
 
--- ---- what a sound book says of one process
+  -- ---- what a sound book says of one process
 
--- a living process's pieces are aligned and disjoint, and so are a dead one's, which has none but an empty bss
-sound-pieces : (book : List ℕ) (ps : Procs) → Whole ps → Sound book ps → (n : ℕ) → valid n ≡ true → Pieces (piecesOf (procAt ps n))
-sound-pieces book ps w s n v =
-    split (lives (procAt ps n))
-    (λ l. let h = s .shape n v l in own-pieces (procAt ps n) (h .0) (h .1))
-    (λ l. rw (dead-zero (procAt ps n) (w .each (n - 1)) l) zero-apart)
+  -- a living process's pieces are aligned and disjoint, and so are a dead one's, which has none but an empty bss
+  sound-pieces : (book : List ℕ) (ps : Procs) → Whole ps → Sound setup book ps → (n : ℕ) → valid n ≡ true → Pieces (piecesOf (procAt ps n))
+  sound-pieces book ps w s n v =
+      split (lives (procAt ps n))
+      (λ l. let h = s .shape n v l in own-pieces setup (s .accepted) (procAt ps n) (h .0) (h .1))
+      (λ l. rw (dead-zero (procAt ps n) (w .each (n - 1)) l) zero-apart)
 
--- the book gives each address's page what the record gives the address
-pub sound-perm : (book : List ℕ) (ps : Procs) → Whole ps → Sound book ps → (n a : ℕ) → valid n ≡ true → bookPerm book n (pageDown a) ≡ permAt (piecesOf (procAt ps n)) a
-sound-perm book ps w s n a v = s .exact n (pageDown a) v (omega arith) ∙ perm-page (piecesOf (procAt ps n)) a (sound-pieces book ps w s n v)
+  -- the book gives each address's page what the record gives the address
+  pub sound-perm : (book : List ℕ) (ps : Procs) → Whole ps → Sound setup book ps → (n a : ℕ) → valid n ≡ true → bookPerm book n (pageDown a) ≡ permAt (piecesOf (procAt ps n)) a
+  sound-perm book ps w s n a v = s .exact n (pageDown a) v (omega arith) ∙ perm-page (piecesOf (procAt ps n)) a (sound-pieces book ps w s n v)
 
--- a dead process owns nothing
-pub dead-frame : (book : List ℕ) (ps : Procs) → Whole ps → Sound book ps → (n : ℕ) → valid n ≡ true → lives (procAt ps n) ≡ false → (page : ℕ) → frameOf book n page ≡ none
-dead-frame book ps w s n v d page = go (frameOf book n page) refl
-  where
-    go : (o : Option ℕ) → frameOf book n page ≡ o → o ≡ none
-    go none e = refl
-    go (some k) e =
-        let aligned : page % 4096 ≡ 0 = omega (arith, frame-found book n page k e .1 .page) in
-        some-none (bookPerm book n page) (permOf (getD book k 0)) (ap (permIn book) e)
-        (s .exact n page v aligned ∙ ap (λ (p : Proc). permAt (piecesOf p) page) (dead-zero (procAt ps n) (w .each (n - 1)) d) ∙ zero-pieces page)
+  -- a dead process owns nothing
+  pub dead-frame : (book : List ℕ) (ps : Procs) → Whole ps → Sound setup book ps → (n : ℕ) → valid n ≡ true → lives (procAt ps n) ≡ false → (page : ℕ) → frameOf book n page ≡ none
+  dead-frame book ps w s n v d page = go (frameOf book n page) refl
+    where
+      go : (o : Option ℕ) → frameOf book n page ≡ o → o ≡ none
+      go none e = refl
+      go (some k) e =
+          let aligned : page % 4096 ≡ 0 = omega (arith, frame-found book n page k e .1 .page) in
+          some-none (bookPerm book n page) (permOf (getD book k 0)) (ap (permIn book) e)
+          (s .exact n page v aligned ∙ ap (λ (p : Proc). permAt (piecesOf p) page) (dead-zero (procAt ps n) (w .each (n - 1)) d) ∙ zero-pieces page)
 
--- an address whose page is found lies below UADDRTOP, from UTZERO on
-pub found-between : (book : List ℕ) (ps : Procs) → Sound book ps → (n a k : ℕ) → frameOf book n (pageDown a) ≡ some k → (utzero ≤ a) × (a < uaddrtop)
-found-between book ps s n a k e =
-    let o = frame-found book n (pageDown a) k e .1 in
-    let w = s .words k (o .used) in
-    (omega (arith, o .page, w .page .0), omega (arith, o .page, w .page .1))
+  -- an address whose page is found lies below UADDRTOP, from UTZERO on
+  pub found-between : (book : List ℕ) (ps : Procs) → Sound setup book ps → (n a k : ℕ) → frameOf book n (pageDown a) ≡ some k → (setup .utzero ≤ a) × (a < setup .uaddrtop)
+  found-between book ps s n a k e =
+      let o = frame-found book n (pageDown a) k e .1 in
+      let w = s .words k (o .used) in
+      (omega (arith, o .page, w .page .0), omega (arith, o .page, w .page .1))
 
--- and a record gives permissions 1 to 3
-pub sound-between : (book : List ℕ) (ps : Procs) → Whole ps → Sound book ps → (n a q : ℕ) → valid n ≡ true → permAt (piecesOf (procAt ps n)) a ≡ some q → (1 ≤ q) × (q ≤ 3)
-sound-between book ps w s n a q v e = go (frameOf book n (pageDown a)) refl
-  where
-    go : (o : Option ℕ) → frameOf book n (pageDown a) ≡ o → (1 ≤ q) × (q ≤ 3)
-    go none f = some-none (bookPerm book n (pageDown a)) q (sound-perm book ps w s n a v ∙ e) (ap (permIn book) f)
-    go (some k) f =
-        let r : some (permOf (getD book k 0)) ≡ some q = sym (ap (permIn book) f) ∙ sound-perm book ps w s n a v ∙ e in
-        let same : permOf (getD book k 0) ≡ q = cc in
-        rw (← same) (s .words k (frame-found book n (pageDown a) k f .1 .used) .perm)
+  -- and a record gives permissions 1 to 3
+  pub sound-between : (book : List ℕ) (ps : Procs) → Whole ps → Sound setup book ps → (n a q : ℕ) → valid n ≡ true → permAt (piecesOf (procAt ps n)) a ≡ some q → (1 ≤ q) × (q ≤ 3)
+  sound-between book ps w s n a q v e = go (frameOf book n (pageDown a)) refl
+    where
+      go : (o : Option ℕ) → frameOf book n (pageDown a) ≡ o → (1 ≤ q) × (q ≤ 3)
+      go none f = some-none (bookPerm book n (pageDown a)) q (sound-perm book ps w s n a v ∙ e) (ap (permIn book) f)
+      go (some k) f =
+          let r : some (permOf (getD book k 0)) ≡ some q = sym (ap (permIn book) f) ∙ sound-perm book ps w s n a v ∙ e in
+          let same : permOf (getD book k 0) ≡ q = cc in
+          rw (← same) (s .words k (frame-found book n (pageDown a) k f .1 .used) .perm)

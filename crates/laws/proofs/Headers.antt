@@ -1,16 +1,16 @@
 -- Headers that pass checks 21 to 26, and the segments that they describe.
 use Prim.Native.Nat.{ℕ, _+_, _-_, _%_, _^_, _≤_}
 use native.Mathlib.Omega.{arith}
-use mathlib.Core.Path.{_≡_, refl, sym, _∙_}
-use mathlib.Core.Bool.{Bool, true}
+use mathlib.Core.Path.{_≡_, refl, sym, ap, _∙_}
+use mathlib.Core.Bool.{Bool, true, _&&_}
 use mathlib.Core.List.{List, [], _∷_, map}
 use lib.ListN.{length, drop, length-take, length-drop}
 use borrow.Author.Tests.{eqb-true, eqb-false, ltb-false}
 use Rattle.spec.proofs.Bools.{split, both, not-true, un-not}
 use Rattle.spec.proofs.Flags.{flag-most}
-use Rattle.spec.specs.Tests.{_is_, _isnt_, _below_, _above_, _⇒_else_, _orElse_, all, filter}
+use Rattle.spec.specs.Tests.{_is_, _isnt_, _below_, _above_, _⇒_else_, _orElse_, all, any, filter}
 use Rattle.spec.specs.Numbers.{pageUp, pageDown}
-use Rattle.spec.specs.Elf.{Phdr, phdrsFrom, loads, phdrs, flagPerm, phoff, phnum, ehdrError, phdrError, Segment, segmentOf, segmentsOf, entryInText, elfError}
+use Rattle.spec.specs.Elf.{Phdr, phdrsFrom, loads, phdrs, flagPerm, phoff, phnum, ehdrError, phdrError, Segment, segmentOf, segmentsOf, inFile, entry, entryInText, elfError}
 use Rattle.laws.proofs.Checks.{checks, passes, failed, or-else}
 
 -- ---- one header
@@ -103,3 +103,12 @@ elf-loads image e =
     let q = or-else (ehdrError image) (phdrError image 0 (phdrs image) orElse (entryInText image ⇒ 0 else 27)) e in
     let r = or-else (phdrError image 0 (phdrs image)) (entryInText image ⇒ 0 else 27) (q .1) in
     all-load image 0 (phdrs image) (all-filter loads (phdrsFrom image (phoff image) (phnum image))) (r .0)
+
+-- and that there is one, which has the entry
+pub elf-some : (image : List ℕ) → elfError image ≡ 0 → segmentsOf image ≡ [] → ⊥
+unfolding elfError
+elf-some image e none =
+    let q = or-else (ehdrError image) (phdrError image 0 (phdrs image) orElse (entryInText image ⇒ 0 else 27)) e in
+    let r = or-else (phdrError image 0 (phdrs image)) (entryInText image ⇒ 0 else 27) (q .1) in
+    let z : _≡_ {A = ℕ} 27 0 = ap (λ (gs : List Segment). any (λ g. g .perm is 1 && inFile (entry image) g) gs ⇒ 0 else 27) (sym none) ∙ r .1 in
+    omega arith

@@ -10,9 +10,9 @@ use lib.ListN.{length, getD, List·getD-eq-default}
 use borrow.Author.Tests.{eqb-false, ltb-true, ltb-false, ne-eqb}
 use Rattle.spec.proofs.Bools.{split, clash, both, and-test, or-fact, or-test, neither, not-true, not-false, within-means, within-test}
 use Rattle.spec.specs.Tests.{_is_, within, any}
-use Rattle.spec.specs.Numbers.{utzero, uaddrtop}
 use Rattle.spec.specs.Book.{pageOf, ownerOf, permOf, valid, owns}
 use Rattle.spec.specs.Sound.{wordOk, once, Word}
+use Rattle.spec.specs.declared.Setup.{Setup}
 use Rattle.laws.proofs.Frame.{Owns, owns-test, owns-not, Once}
 
 -- ---- process numbers
@@ -25,19 +25,19 @@ valid-test n l h = within-test 1 17 n l (omega arith)
 
 -- ---- words
 
-pub word-means : (w : ℕ) → wordOk w ≡ true → ¬ (w ≡ 0) → Word w
-word-means w e ne =
-    let t = or-fact (w is 0) (valid (ownerOf w) && within 1 4 (permOf w) && within utzero uaddrtop (pageOf w)) e (ne-eqb w 0 ne) in
-    let p = both (valid (ownerOf w) && within 1 4 (permOf w)) (within utzero uaddrtop (pageOf w)) t in
+pub word-means : (setup : Setup) (w : ℕ) → wordOk setup w ≡ true → ¬ (w ≡ 0) → Word setup w
+word-means setup w e ne =
+    let t = or-fact (w is 0) (valid (ownerOf w) && within 1 4 (permOf w) && within (setup .utzero) (setup .uaddrtop) (pageOf w)) e (ne-eqb w 0 ne) in
+    let p = both (valid (ownerOf w) && within 1 4 (permOf w)) (within (setup .utzero) (setup .uaddrtop) (pageOf w)) t in
     let q = both (valid (ownerOf w)) (within 1 4 (permOf w)) (p .0) in
     let b = within-means 1 4 (permOf w) (q .1) in
-    record { owner = valid-means (ownerOf w) (q .0); perm = (b .0, omega (arith, b .1)); page = within-means utzero uaddrtop (pageOf w) (p .1) }
+    record { owner = valid-means (ownerOf w) (q .0); perm = (b .0, omega (arith, b .1)); page = within-means (setup .utzero) (setup .uaddrtop) (pageOf w) (p .1) }
 
-pub word-test : (w : ℕ) → (¬ (w ≡ 0) → Word w) → wordOk w ≡ true
-word-test w f =
-    or-test (w is 0) (valid (ownerOf w) && within 1 4 (permOf w) && within utzero uaddrtop (pageOf w))
+pub word-test : (setup : Setup) (w : ℕ) → (¬ (w ≡ 0) → Word setup w) → wordOk setup w ≡ true
+word-test setup w f =
+    or-test (w is 0) (valid (ownerOf w) && within 1 4 (permOf w) && within (setup .utzero) (setup .uaddrtop) (pageOf w))
     (λ q. let h = f (eqb-false w 0 q) in
-    rw (valid-test (ownerOf w) (h .owner .0) (h .owner .1), within-test 1 4 (permOf w) (h .perm .0) (omega (arith, h .perm .1)), within-test utzero uaddrtop (pageOf w) (h .page .0) (h .page .1)))
+    rw (valid-test (ownerOf w) (h .owner .0) (h .owner .1), within-test 1 4 (permOf w) (h .perm .0) (omega (arith, h .perm .1)), within-test (setup .utzero) (setup .uaddrtop) (pageOf w) (h .page .0) (h .page .1)))
 
 -- a place past the book's end holds 0
 pub in-range : (book : List ℕ) (k : ℕ) → ¬ (getD book k 0 ≡ 0) → k < length book

@@ -8,13 +8,14 @@ use lib.ListN.{length, getD, take, replicate, length-append, length-replicate, l
 use borrow.Author.Tests.{ltb-true}
 use Rattle.spec.proofs.Bools.{split}
 use Rattle.spec.specs.Tests.{_below_, within, ascii}
-use Rattle.spec.specs.Numbers.{utzero, uaddrtop, pageUp}
+use Rattle.spec.specs.Numbers.{pageUp, SetupOk}
 use Rattle.spec.specs.Name.{elem, cut, padded, kstrcpy}
 use Rattle.spec.specs.Book.{zeroSegment, stack, bssSegment, permAt, piecesOf}
 use Rattle.spec.specs.Elf.{Segment, segmentsOf}
 use Rattle.spec.specs.Exec.{userSegment, imageSegments, imageBss, imageError, startPieces, kept}
 use Rattle.spec.specs.World.{procOf}
 use Rattle.spec.specs.declared.UserSegment.{UserSegment}
+use Rattle.spec.specs.declared.Setup.{Setup}
 use Rattle.laws.proofs.Lists.{Each, each-append}
 use Rattle.laws.proofs.Record.{WholeProc}
 use Rattle.laws.proofs.Shape.{imageEnd}
@@ -39,21 +40,21 @@ name-long s =
     (λ q. let l = ltb-true (length s) 28 q in rw q (padded-long s (omega arith)))
     (λ q. rw q (padded-long (take (cut s 24) s ++ ascii "...") (omega (arith, length-append (take (cut s 24) s) (ascii "..."), length-take (cut s 24) s, cut-low s 24))))
 
-pub proc-whole : (image name : List ℕ) → imageError image ≡ 0 → WholeProc (procOf image name)
-proc-whole image name e = record {
+pub proc-whole : (setup : Setup) (image name : List ℕ) → imageError setup image ≡ 0 → WholeProc (procOf setup image name)
+proc-whole setup image name e = record {
   segments =
       let k : ℕ = 15 - length (imageSegments image) in
-      omega (arith, length-append (imageSegments image) (stack ∷ replicate k zeroSegment), length-replicate k zeroSegment, accepted-means image e .few);
+      omega (arith, length-append (imageSegments image) (stack setup ∷ replicate k zeroSegment), length-replicate k zeroSegment, accepted-means setup image e .few);
   text = name-long (elem name);
 }
 
 -- ---- its pages
 
 -- permissions are 1 to 3
-pub start-perm : (image : List ℕ) → imageError image ≡ 0 → (a q : ℕ) → permAt (startPieces image) a ≡ some q → (1 ≤ q) × (q ≤ 3)
-start-perm image e =
-    perm-each (λ q. (1 ≤ q) × (q ≤ 3)) (startPieces image)
-    (each-append _ (imageSegments image) (bssSegment (imageBss image) ∷ stack ∷ []) (each (segmentsOf image) 0 (elf-loads image (accepted-means image e .elf))) ((omega arith, omega arith), ((omega arith, omega arith), tt)))
+pub start-perm : (setup : Setup) (image : List ℕ) → imageError setup image ≡ 0 → (a q : ℕ) → permAt (startPieces setup image) a ≡ some q → (1 ≤ q) × (q ≤ 3)
+start-perm setup image e =
+    perm-each (λ q. (1 ≤ q) × (q ≤ 3)) (startPieces setup image)
+    (each-append _ (imageSegments image) (bssSegment (imageBss image) ∷ stack setup ∷ []) (each (segmentsOf image) 0 (elf-loads image (accepted-means setup image e .elf))) ((omega arith, omega arith), ((omega arith, omega arith), tt)))
   where
     each : (gs : List Segment) (end : ℕ) → AllLoad end gs → Each (λ g. (1 ≤ g .perm) × (g .perm ≤ 3)) (kept (imageBss image) gs)
     each [] end l = tt
@@ -61,21 +62,22 @@ start-perm image e =
         let more = each gs (pageUp (g .vaddr + g .memsz)) (l .1) in
         split (nonEmpty (userSegment (imageBss image) g)) (λ q. rw q (l .0 .perm, more)) (λ q. rw q more)
 
--- they are aligned and disjoint
-pub start-apart : (image : List ℕ) → imageError image ≡ 0 → Pieces (startPieces image)
-start-apart image e =
-    let r = image-recorded image e in
-    let end : ℕ = imageEnd utzero (imageSegments image) in
-    image-apart utzero (imageSegments image) (bssSegment (imageBss image) ∷ stack ∷ []) (r .ascends) (bss-stack-apart end (imageBss image) (r .bss-ok)) (bss-stack-low end (imageBss image) (r .bss-ok))
+module _ (setup : Setup) (ok : SetupOk setup) where
+  -- they are aligned and disjoint
+  pub start-apart : (image : List ℕ) → imageError setup image ≡ 0 → Pieces (startPieces setup image)
+  start-apart image e =
+      let r = image-recorded setup ok image e in
+      let end : ℕ = imageEnd (setup .utzero) (imageSegments image) in
+      image-apart setup (setup .utzero) (imageSegments image) (bssSegment (imageBss image) ∷ stack setup ∷ []) (r .ascends) (bss-stack-apart setup ok end (imageBss image) (r .bss-ok)) (bss-stack-low setup ok end (imageBss image) (r .bss-ok))
 
--- the pages in the order of a start, and of the record that it leaves, give every address the same
-pub start-pieces : (image name : List ℕ) → imageError image ≡ 0 → (a : ℕ) → permAt (startPieces image) a ≡ permAt (piecesOf (procOf image name)) a
-start-pieces image name e a =
-    let r = image-recorded image e in
-    tail-same (imageSegments image) (bssSegment (imageBss image) ∷ stack ∷ []) (stack ∷ bssSegment (imageBss image) ∷ []) a (swap-stack (imageEnd utzero (imageSegments image)) (imageBss image) (r .bss-ok) a)
-    ∙ ap (λ (x : List UserSegment). permAt x a) (sym (shape-pieces (procOf image name) (imageSegments image) (image-shape image name e)))
+  -- the pages in the order of a start, and of the record that it leaves, give every address the same
+  pub start-pieces : (image name : List ℕ) → imageError setup image ≡ 0 → (a : ℕ) → permAt (startPieces setup image) a ≡ permAt (piecesOf (procOf setup image name)) a
+  start-pieces image name e a =
+      let r = image-recorded setup ok image e in
+      tail-same (imageSegments image) (bssSegment (imageBss image) ∷ stack setup ∷ []) (stack setup ∷ bssSegment (imageBss image) ∷ []) a (swap-stack setup ok (imageEnd (setup .utzero) (imageSegments image)) (imageBss image) (r .bss-ok) a)
+      ∙ ap (λ (x : List UserSegment). permAt x a) (sym (shape-pieces setup (procOf setup image name) (imageSegments image) (image-shape setup ok image name e)))
 
--- they lie in user memory
-pub start-between : (image : List ℕ) → imageError image ≡ 0 → (a q : ℕ) → permAt (startPieces image) a ≡ some q → (utzero ≤ a) × (a < uaddrtop)
-start-between image e a q f =
-    shape-between (procOf image []) (imageSegments image) (image-shape image [] e) a q (sym (start-pieces image [] e a) ∙ f)
+  -- they lie in user memory
+  pub start-between : (image : List ℕ) → imageError setup image ≡ 0 → (a q : ℕ) → permAt (startPieces setup image) a ≡ some q → (setup .utzero ≤ a) × (a < setup .uaddrtop)
+  start-between image e a q f =
+      shape-between setup ok (procOf setup image []) (imageSegments image) (image-shape setup ok image [] e) a q (sym (start-pieces image [] e a) ∙ f)

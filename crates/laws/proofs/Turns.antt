@@ -7,10 +7,11 @@ use mathlib.Core.List.{List, [], _∷_, _++_}
 use lib.ListN.{length, take, length-append}
 use borrow.Author.Tests.{ltb-false}
 use Rattle.spec.specs.Tests.{_is_, _above_, _⇒_else_}
-use Rattle.spec.specs.Numbers.{argLimit, le}
+use Rattle.spec.specs.Numbers.{argLimit, le, SetupOk}
 use Rattle.spec.specs.Frames.{Mem}
 use Rattle.spec.specs.Access.{userRangeOk, bytesAt, Str, copyStr}
 use Rattle.spec.specs.Exec.{strings, stackSize, Argv, argBuffer, argvFrom, copyArgv}
+use Rattle.spec.specs.declared.Setup.{Setup}
 
 -- a turn whose next turns agree wherever they are taken
 turn-same : (t z w f g : Bool) (u v x y q r s : Argv) → (g ≡ false → r ≡ s)
@@ -19,30 +20,30 @@ turn-same t z w f true u v x y q r s h = refl
 turn-same t z w f false u v x y q r s h = ap (λ (k : Argv). not t ⇒ u else z ⇒ v else not w ⇒ x else f ⇒ y else k) (h refl)
 
 -- each argument takes 8 bytes of the limit or more, besides 16
-turns-past : (mem : Mem) (argv extra turns : ℕ) (before : List (List ℕ)) → 1 ≤ turns → argLimit < 8 * (length before + turns + 2)
-    → argvFrom mem argv before (turns + extra) ≡ argvFrom mem argv before turns
-turns-past mem argv extra zero before l h = absurd (omega arith)
-turns-past mem argv extra (suc turns) before l h =
+turns-past : (setup : Setup) (mem : Mem) (argv extra turns : ℕ) (before : List (List ℕ)) → 1 ≤ turns → argLimit setup < 8 * (length before + turns + 2)
+    → argvFrom setup mem argv before (turns + extra) ≡ argvFrom setup mem argv before turns
+turns-past setup mem argv extra zero before l h = absurd (omega arith)
+turns-past setup mem argv extra (suc turns) before l h =
     let at : ℕ = argv + 8 * length before in
     let s : ℕ = le 8 (bytesAt mem at 8) 0 in
-    let str : Str = copyStr mem argBuffer s in
+    let str : Str = copyStr setup mem (argBuffer setup) s in
     let args : List (List ℕ) = before ++ take (str .size) (str .buffer) ∷ [] in
     let more : suc turns + extra ≡ suc (turns + extra) = omega arith in
-    ap (argvFrom mem argv before) more
-    ∙ turn-same (userRangeOk mem false at 8) (s is 0) (str .whole) (str .size is argLimit) (stackSize (length (strings args)) (length args) above argLimit)
+    ap (argvFrom setup mem argv before) more
+    ∙ turn-same (userRangeOk setup mem false at 8) (s is 0) (str .whole) (str .size is argLimit setup) (stackSize (length (strings args)) (length args) above argLimit setup)
     (record { error = 35; args = [] }) (record { error = 0; args = before }) (record { error = 35; args = [] }) (record { error = 33; args = [] }) (record { error = 33; args = [] })
-    (argvFrom mem argv args (turns + extra)) (argvFrom mem argv args turns)
+    (argvFrom setup mem argv args (turns + extra)) (argvFrom setup mem argv args turns)
     (λ q.
-    let fits : stackSize (length (strings args)) (length args) ≤ argLimit = ltb-false argLimit (stackSize (length (strings args)) (length args)) q in
+    let fits : stackSize (length (strings args)) (length args) ≤ argLimit setup = ltb-false (argLimit setup) (stackSize (length (strings args)) (length args)) q in
     let count = length-append before (take (str .size) (str .buffer) ∷ []) in
-    turns-past mem argv extra turns args (omega arith) (omega arith))
+    turns-past setup mem argv extra turns args (omega arith) (omega arith))
 
-turns-enough : (mem : Mem) (argv extra : ℕ) → argvFrom mem argv [] (argLimit + extra) ≡ argvFrom mem argv [] argLimit
-turns-enough mem argv extra = turns-past mem argv extra argLimit [] (omega arith) (omega arith)
+turns-enough : (setup : Setup) (ok : SetupOk setup) (mem : Mem) (argv extra : ℕ) → argvFrom setup mem argv [] (argLimit setup + extra) ≡ argvFrom setup mem argv [] (argLimit setup)
+turns-enough setup ok mem argv extra = turns-past setup mem argv extra (argLimit setup) [] (omega arith) (omega arith)
 
 -- so the arguments read don't depend on how many turns there are
-pub turns-any : (mem : Mem) (argv turns : ℕ) → argLimit ≤ turns → argvFrom mem argv [] turns ≡ copyArgv mem argv
+pub turns-any : (setup : Setup) (ok : SetupOk setup) (mem : Mem) (argv turns : ℕ) → argLimit setup ≤ turns → argvFrom setup mem argv [] turns ≡ copyArgv setup mem argv
 unfolding copyArgv
-turns-any mem argv turns h =
-    let e : argLimit + (turns - argLimit) ≡ turns = omega arith in
-    ap (argvFrom mem argv []) (sym e) ∙ turns-enough mem argv (turns - argLimit)
+turns-any setup ok mem argv turns h =
+    let e : argLimit setup + (turns - argLimit setup) ≡ turns = omega arith in
+    ap (argvFrom setup mem argv []) (sym e) ∙ turns-enough setup ok mem argv (turns - argLimit setup)

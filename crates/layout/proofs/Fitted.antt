@@ -9,7 +9,7 @@ use lib.ListN.{length, drop, length-drop}
 use lib.Seq.{length-take-le}
 use borrow.Author.Tests.{ne-eqb}
 use Rattle.spec.specs.Tests.{_is_, _below_, _above_, _⇒_else_}
-use Rattle.spec.specs.Numbers.{utzero, limit}
+use Rattle.spec.specs.Numbers.{limit}
 use Rattle.spec.specs.Elf.{Segment, phdrAt}
 use Rattle.spec.specs.Exec.{layoutOk, bssOf}
 use Rattle.elf.specs.Reader.{Checked, CheckedLoad, loadOf}
@@ -18,6 +18,7 @@ use Rattle.elf.specs.declared.Load.{Load}
 use Rattle.elf.specs.declared.Load.the-variants.{Skip, Segment as Taken}
 use Rattle.elf.proofs.Walk.{segmentIn, front, segs, segs-none, segs-some}
 use Rattle.spec.proofs.Bools.{split}
+use Rattle.spec.specs.declared.Setup.{Setup}
 use Rattle.elf.proofs.Ahead.{Ahead, ahead-here}
 use Rattle.layout.specs.Fits.{laid, fitOf, nothing, lastOf, fits}
 use Rattle.layout.specs.declared.Laid.{Laid}
@@ -25,9 +26,9 @@ use Rattle.layout.specs.declared.Fit.{Fit}
 use Rattle.layout.specs.declared.Fit.the-variants.{Fits, Refused}
 
 -- the segments behind one, after what it came to
-abbrev pub then : Fit → List Segment → Fit
-then Refused gs = Refused
-then (Fits t) gs = fits t gs
+abbrev pub then : (setup : Setup) → Fit → List Segment → Fit
+then setup Refused gs = Refused
+then setup (Fits t) gs = fits setup t gs
 
 -- the same tests, in the code's order
 order : (closed low high last none rest : Bool) (x y : Fit)
@@ -45,28 +46,29 @@ choose : (b : Bool) (x y : Fit) (f : Fit → Fit) → f (b ⇒ x else y) ≡ (b 
 choose true x y f = refl
 choose false x y f = refl
 
--- one segment of a layout
-fits-one : (image : List ℕ) (before : Laid) (g : Held) (gs : List Segment) → Checked (length image) g → fits before (segmentIn image g ∷ gs) ≡ then (fitOf before (Taken g)) gs
-fits-one image before g gs c =
-    rw (file-long image g c, ne-eqb (suc (length gs)) 0 (λ z. omega arith))
-    (order (before .closed) (g .vaddr below utzero) (g .vaddr + g .memsz above limit) (g .perm is 3) (length gs is 0) (layoutOk gs) (Fits (lastOf (laid g) gs)) Refused
-    ∙ sym (choose (before .closed || g .vaddr below utzero || g .vaddr + g .memsz above limit) Refused (Fits (laid g)) (λ f. then f gs)))
+module _ (setup : Setup) where
+  -- one segment of a layout
+  fits-one : (image : List ℕ) (before : Laid) (g : Held) (gs : List Segment) → Checked (length image) g → fits setup before (segmentIn image g ∷ gs) ≡ then setup (fitOf setup before (Taken g)) gs
+  fits-one image before g gs c =
+      rw (file-long image g c, ne-eqb (suc (length gs)) 0 (λ z. omega arith))
+      (order (before .closed) (g .vaddr below setup .utzero) (g .vaddr + g .memsz above limit setup) (g .perm is 3) (length gs is 0) (layoutOk setup gs) (Fits (lastOf (laid g) gs)) Refused
+      ∙ sym (choose (before .closed || g .vaddr below setup .utzero || g .vaddr + g .memsz above limit setup) Refused (Fits (laid g)) (λ f. then setup f gs)))
 
-pub fits-load : (image : List ℕ) (before : Laid) (l : Load) (gs : List Segment) → CheckedLoad (length image) l → fits before (front image l gs) ≡ then (fitOf before l) gs
-fits-load image before Skip gs c = refl
-fits-load image before (Taken g) gs c = fits-one image before g gs c
+  pub fits-load : (image : List ℕ) (before : Laid) (l : Load) (gs : List Segment) → CheckedLoad (length image) l → fits setup before (front image l gs) ≡ then setup (fitOf setup before l) gs
+  fits-load image before Skip gs c = refl
+  fits-load image before (Taken g) gs c = fits-one image before g gs c
 
--- one header of a layout
-pub fits-some : (image : List ℕ) (at k : ℕ) (before : Laid) (f : Fit) → 0 < k → Ahead image at k → f ≡ fitOf before (loadOf (phdrAt image at))
-    → fits before (segs image at k) ≡ then f (segs image (at + 56) (k - 1))
-fits-some image at k before f h a e =
-    let l = loadOf (phdrAt image at) in
-    ap (fits before) (segs-some image at k l h refl) ∙ fits-load image before l (segs image (at + 56) (k - 1)) (ahead-here image at k h a)
-    ∙ ap (λ (x : Fit). then x (segs image (at + 56) (k - 1))) (sym e)
+  -- one header of a layout
+  pub fits-some : (image : List ℕ) (at k : ℕ) (before : Laid) (f : Fit) → 0 < k → Ahead image at k → f ≡ fitOf setup before (loadOf (phdrAt image at))
+      → fits setup before (segs image at k) ≡ then setup f (segs image (at + 56) (k - 1))
+  fits-some image at k before f h a e =
+      let l = loadOf (phdrAt image at) in
+      ap (fits setup before) (segs-some image at k l h refl) ∙ fits-load image before l (segs image (at + 56) (k - 1)) (ahead-here image at k h a)
+      ∙ ap (λ (x : Fit). then setup x (segs image (at + 56) (k - 1))) (sym e)
 
--- no more headers
-pub fits-end : (image : List ℕ) (at k : ℕ) (before : Laid) → k ≤ 0 → fits before (segs image at k) ≡ Fits before
-fits-end image at k before h = ap (fits before) (segs-none image at k h) ∙ split (before .closed) (λ q. rw q) (λ q. rw q)
+  -- no more headers
+  pub fits-end : (image : List ℕ) (at k : ℕ) (before : Laid) → k ≤ 0 → fits setup before (segs image at k) ≡ Fits before
+  fits-end image at k before h = ap (fits setup before) (segs-none image at k h) ∙ split (before .closed) (λ q. rw q) (λ q. rw q)
 
 -- ---- the whole layout
 
@@ -80,11 +82,11 @@ all-bss [] = refl
 all-bss (g ∷ gs) = last-bss nothing g gs
 
 -- it is refused, or gives the bss
-pub layout-no : (gs : List Segment) → fits nothing gs ≡ Refused → layoutOk gs ≡ false
-layout-no gs e = split (layoutOk gs) (λ q. let z : Fits (lastOf nothing gs) ≡ Refused = rw q at e in absurd (let w : _≡_ {A = ℕ} 0 1 = cc in omega arith)) (λ q. q)
+pub layout-no : (setup : Setup) (gs : List Segment) → fits setup nothing gs ≡ Refused → layoutOk setup gs ≡ false
+layout-no setup gs e = split (layoutOk setup gs) (λ q. let z : Fits (lastOf nothing gs) ≡ Refused = rw q at e in absurd (let w : _≡_ {A = ℕ} 0 1 = cc in omega arith)) (λ q. q)
 
-pub layout-yes : (gs : List Segment) (t : Laid) → fits nothing gs ≡ Fits t → (layoutOk gs ≡ true) × (t .bss ≡ bssOf gs)
-layout-yes gs t e =
-    split (layoutOk gs)
+pub layout-yes : (setup : Setup) (gs : List Segment) (t : Laid) → fits setup nothing gs ≡ Fits t → (layoutOk setup gs ≡ true) × (t .bss ≡ bssOf gs)
+layout-yes setup gs t e =
+    split (layoutOk setup gs)
     (λ q. let z : Fits (lastOf nothing gs) ≡ Fits t = rw q at e in let w : lastOf nothing gs ≡ t = cc in (q, ap (λ (x : Laid). x .bss) (sym w) ∙ all-bss gs))
     (λ q. let z : Refused ≡ Fits t = rw q at e in absurd (let w : _≡_ {A = ℕ} 0 1 = cc in omega arith))

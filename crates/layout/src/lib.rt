@@ -11,6 +11,7 @@ use elf::Elf;
 use elf::Load;
 use elf::Parsed;
 use elf::Segment;
+use spec::Setup;
 use spec::VirtRange;
 
 // What the segments so far come to: whether the last is data, after which nothing may follow, and the bss behind it.
@@ -27,12 +28,14 @@ pub enum Fit {
 
 // One more segment of a layout: its range must fit the user address space, between UTZERO and the guard page below the stack, and it
 // must not follow data. What it leaves is the bss behind it.
-fn lay(before: Laid, g: Segment) -> Fit
+fn lay(setup: Setup, before: Laid, g: Segment) -> Fit
     requires { ⌜ (g .vaddr + g .memsz ≤ 2 ^ 64 - 4096) × (g .filesz ≤ g .memsz) ⌝ }
-    ensures { λ r. ⌜ r ≡ fitOf before (Load.Segment g) ⌝ }
+    ensures { λ r. ⌜ r ≡ fitOf setup before (Load.Segment g) ⌝ }
 {
+    let utzero = setup.utzero;
+    let limit = setup::limit(setup);
     let end = g.vaddr + g.memsz;
-    if before.closed | (g.vaddr < spec::UTZERO) | (end > spec::LIMIT) {
+    if before.closed | (g.vaddr < utzero) | (end > limit) {
         return Fit::Refused;
     }
     let top = mem::page_up(end);
@@ -53,34 +56,31 @@ fn lay(before: Laid, g: Segment) -> Fit
 }
 
 // The layout with the segment of one more program header, if it has one.
-fn lay_header(image: &[u8], h: Elf, i: usize, before: Laid) -> Fit
+fn lay_header(setup: Setup, image: &[u8], h: Elf, i: usize, before: Laid) -> Fit
     requires { ⌜ (h .phoff + 56 * h .phnum ≤ length (now image)) × (i < h .phnum) ⌝ }
     requires { ⌜ CheckedLoad (length (now image)) (loadOf (phdrAt (now image) (h .phoff + 56 * i))) ⌝ }
-    ensures { λ r. ⌜ r ≡ fitOf before (loadOf (phdrAt (now (image .entry)) (h .phoff + 56 * i))) ⌝ }
+    ensures { λ r. ⌜ r ≡ fitOf setup before (loadOf (phdrAt (now (image .entry)) (h .phoff + 56 * i))) ⌝ }
 {
     let l = checked::segment_of(image, h, i);
     match l {
         Load::Skip => Fit::Fits(before),
-        Load::Segment(g) => lay(before, g),
+        Load::Segment(g) => lay(setup, before, g),
     }
 }
 
 // Checks that an image fits the user address space, as text and rodata, then at most one data segment, which the bss follows.
-pub fn layout(image: &[u8], h: Elf) -> Fit
+pub fn layout(setup: Setup, image: &[u8], h: Elf) -> Fit
     requires { ⌜ said (Parsed.Elf h) ≡ parsed (now image) ⌝ }
-    ensures { λ r. ⌜ r ≡ fits nothing (segmentsOf (now (image .entry))) ⌝ }
+    ensures { λ r. ⌜ r ≡ fits setup nothing (segmentsOf (now (image .entry))) ⌝ }
 {
     let mut seen = Laid {
         closed: false,
-        bss: VirtRange {
-            start: spec::UTZERO,
-            end: spec::UTZERO,
-        },
+        bss: VirtRange { start: 0, end: 0 },
     };
     let n = h.phnum;
     let mut k = 0;
     while k < n {
-        let f = lay_header(image, h, k, seen);
+        let f = lay_header(setup, image, h, k, seen);
         k += 1;
         match f {
             Fit::Refused => {

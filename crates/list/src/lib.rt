@@ -28,8 +28,8 @@ fn put_plan(out: &mut [u8], p: Plan) -> usize
     put_field(out, d, b"pages=", p.pages)
 }
 
-// Puts the whole listing of an image, as the listing program prints it: a refusal's number, or its entry point, segments, bss and pages.
-// Images of over 32,768 bytes aren't listed.
+// Puts the whole listing of an image, as the listing program prints it: a refusal's number, or its entry point, segments, bss and pages,
+// by the deposit machine's numbers. Images of over 32,768 bytes aren't listed.
 fn put_listing(image: &[u8], out: &mut [u8]) -> usize
     requires { ⌜ 1024 ≤ length (now out) ⌝ }
     ensures { λ r. ⌜ Puts (now (out .entry)) 0 (listing (now (image .entry))) (now (out .exit)) r ⌝ }
@@ -37,7 +37,7 @@ fn put_listing(image: &[u8], out: &mut [u8]) -> usize
     if image.len() > 32768 {
         return put_field(out, 0, b"refused=", spec::SIZES);
     }
-    let p = exec::plan_of(image);
+    let p = exec::plan_of(setup::deposit(), image);
     if p.elf != 0 {
         return put_field(out, 0, b"refused=", p.elf);
     }

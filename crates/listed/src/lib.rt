@@ -11,6 +11,7 @@ ghost use Rattle.front.specs.Numbers.{stateOf, call};
 ghost use Rattle.listed.specs.Triples.{listOf, segmentAt};
 use front::left::Left;
 use spec::Procs;
+use spec::Setup;
 use spec::UserSegment;
 use spec::VirtRange;
 
@@ -59,6 +60,7 @@ fn segments(triples: &[u64], n: usize) -> [UserSegment; 17]
 
 // Fork with the first n segments of an array lent.
 fn lend(
+    setup: Setup,
     frames: &mut [u8],
     book: &mut [u64],
     procs: Procs,
@@ -68,13 +70,14 @@ fn lend(
     n: usize,
 ) -> Left
     requires { ⌜ n ≤ 17 ⌝ }
-    ensures { λ r. ⌜ Does (stateOf (now (frames .entry)) (now (book .entry)) procs) (call number (fork child (take n list))) (stateOf (now (frames .exit)) (now (book .exit)) (r .procs)) (plainly (r .answer)) ⌝ }
+    ensures { λ r. ⌜ Does (stateOf setup (now (frames .entry)) (now (book .entry)) procs) (call number (fork child (take n list))) (stateOf setup (now (frames .exit)) (now (book .exit)) (r .procs)) (plainly (r .answer)) ⌝ }
 {
-    forks::fork_list(frames, book, procs, number, child, &list[..n])
+    forks::fork_list(setup, frames, book, procs, number, child, &list[..n])
 }
 
 // Fork with the list of segments that numbers give, three each: start, end and permission. A rest of one or two numbers is cut off.
 pub fn fork_triples(
+    setup: Setup,
     frames: &mut [u8],
     book: &mut [u64],
     procs: Procs,
@@ -82,9 +85,9 @@ pub fn fork_triples(
     child: u64,
     triples: &[u64],
 ) -> Left
-    ensures { λ r. ⌜ Does (stateOf (now (frames .entry)) (now (book .entry)) procs) (call number (fork child (listOf (now (triples .entry))))) (stateOf (now (frames .exit)) (now (book .exit)) (r .procs)) (plainly (r .answer)) ⌝ }
+    ensures { λ r. ⌜ Does (stateOf setup (now (frames .entry)) (now (book .entry)) procs) (call number (fork child (listOf (now (triples .entry))))) (stateOf setup (now (frames .exit)) (now (book .exit)) (r .procs)) (plainly (r .answer)) ⌝ }
 {
     let n = count(triples);
     let list = segments(triples, n);
-    lend(frames, book, procs, number, child, list, n)
+    lend(setup, frames, book, procs, number, child, list, n)
 }

@@ -6,13 +6,14 @@ use mathlib.Core.Bool.{true, false}
 use mathlib.Core.List.{List, [], _∷_, _++_}
 use lib.ListN.{length, take, drop}
 use Rattle.spec.specs.Tests.{_is_}
-use Rattle.spec.specs.Numbers.{limit, pageBytes}
+use Rattle.spec.specs.Numbers.{maxTop, pageBytes, SetupOk}
 use Rattle.spec.specs.Frames.{Store, Page, pagesOf, place}
 use Rattle.spec.specs.Elf.{Segment, phdrAt}
 use Rattle.spec.specs.Exec.{layoutOk}
 use Rattle.spec.specs.declared.VirtRange.{VirtRange}
 use Rattle.spec.specs.declared.UserSegment.{UserSegment}
 use Rattle.spec.proofs.Bools.{split, both, not-below}
+use Rattle.spec.specs.declared.Setup.{Setup}
 use Rattle.elf.specs.declared.Load.{Load}
 use Rattle.elf.specs.declared.Load.the-variants.{Skip, Segment as Taken}
 use Rattle.elf.specs.declared.Segment.{Segment as Held}
@@ -26,7 +27,7 @@ use Rattle.load.specs.Pages.{segmentPages, loadPages, LaidLoad}
 pub checked-of : (n : ℕ) (l : Load) (g : Held) → l ≡ Taken g → CheckedLoad n l → Checked n g
 checked-of n l g e h = subst (CheckedLoad n) e h
 
-pub laid-of : (l : Load) (g : Held) → l ≡ Taken g → LaidLoad l → g .vaddr + g .memsz ≤ limit
+pub laid-of : (l : Load) (g : Held) → l ≡ Taken g → LaidLoad l → g .vaddr + g .memsz ≤ maxTop
 laid-of l g e h = subst LaidLoad e h
 
 -- a segment's recorded pages are whole, and lie below 2^63
@@ -35,7 +36,7 @@ pub record Whole (bss : VirtRange) (g : Held) : Type 0 where
   pub end : pagesIn bss g .range .end % 4096 ≡ 0
   pub low : pagesIn bss g .range .end < 2 ^ 63
 
-pub whole : (bss : VirtRange) (g : Held) → bss .start ≤ limit → g .vaddr + g .memsz ≤ limit → Whole bss g
+pub whole : (bss : VirtRange) (g : Held) → bss .start ≤ maxTop → g .vaddr + g .memsz ≤ maxTop → Whole bss g
 whole bss g b l =
     split (g .perm is 3)
     (λ q. record { start = omega arith; end = rw q (omega arith); low = rw q (omega arith) })
@@ -48,9 +49,9 @@ front-pages image bss Skip gs = refl
 front-pages image bss (Taken g) gs = refl
 
 -- it keeps to the layout, and so do the others
-pub front-laid : (image : List ℕ) (l : Load) (gs : List Segment) → layoutOk (front image l gs) ≡ true → LaidLoad l × (layoutOk gs ≡ true)
-front-laid image Skip gs e = (tt, e)
-front-laid image (Taken g) gs e = let p = layout-first (segmentIn image g) gs e in (p .0 .end, p .2)
+pub front-laid : (setup : Setup) (ok : SetupOk setup) (image : List ℕ) (l : Load) (gs : List Segment) → layoutOk setup (front image l gs) ≡ true → LaidLoad l × (layoutOk setup gs ≡ true)
+front-laid setup ok image Skip gs e = (tt, e)
+front-laid setup ok image (Taken g) gs e = let p = layout-first setup (segmentIn image g) gs e in (omega (arith, p .0 .end), p .2)
 
 -- a header that is skipped places nothing
 pub place-skip : (m : Store) (n : ℕ) (image : List ℕ) (bss : VirtRange) (l : Load) → l ≡ Skip → m ≡ place m n (loadPages image bss l)

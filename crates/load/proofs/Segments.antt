@@ -7,7 +7,7 @@ use mathlib.Core.List.{List, [], _∷_, _++_}
 use lib.ListN.{replicate}
 use borrow.Author.Tests.{ltb-false}
 use Rattle.spec.specs.Tests.{_is_, _⇒_else_}
-use Rattle.spec.specs.Numbers.{pageUp, pageDown, bytesFrom, pageBytes, zeroPage}
+use Rattle.spec.specs.Numbers.{pageUp, pageDown, bytesFrom, pageBytes, zeroPage, SetupOk}
 use Rattle.spec.specs.Book.{stack, bssSegment}
 use Rattle.spec.specs.Frames.{Page, pagesFrom, pagesOf}
 use Rattle.spec.specs.Elf.{Segment, segmentsOf}
@@ -15,6 +15,7 @@ use Rattle.spec.specs.Exec.{layoutOk, userSegment, imageSegments, imageBss, ima
 use Rattle.spec.specs.declared.VirtRange.{VirtRange}
 use Rattle.spec.specs.declared.UserSegment.{UserSegment}
 use Rattle.spec.proofs.Bools.{split}
+use Rattle.spec.specs.declared.Setup.{Setup}
 use Rattle.laws.proofs.Lists.{Each}
 use Rattle.laws.proofs.Pages.{pages-append}
 use Rattle.laws.proofs.Accepted.{accepted-means, nonEmpty, image-recorded, layout-first, no-data}
@@ -84,19 +85,19 @@ kept-above bss e (g ∷ gs) l =
     weaken [] b = tt
     weaken (u ∷ us) b = let o = l .0 .ordered in let x = b .0 in (omega arith, weaken us (b .1))
 
-image-pages : (bss : VirtRange) (e : ℕ) (gs : List Segment) → AllLoad e gs → layoutOk gs ≡ true → pagesOf (pageBytes (fileByte gs)) (kept bss gs) ≡ segmentPages bss gs
+image-pages : (setup : Setup) (bss : VirtRange) (e : ℕ) (gs : List Segment) → AllLoad e gs → layoutOk setup gs ≡ true → pagesOf (pageBytes (fileByte gs)) (kept bss gs) ≡ segmentPages bss gs
 unfolding segmentPages
-image-pages bss e [] l y = refl
-image-pages bss e (g ∷ []) l y =
+image-pages setup bss e [] l y = refl
+image-pages setup bss e (g ∷ []) l y =
     pages-kept (pageBytes (fileByte (g ∷ []))) (userSegment bss g) []
-image-pages bss e (g ∷ k ∷ gs) l y =
+image-pages setup bss e (g ∷ k ∷ gs) l y =
     let f : ℕ → List ℕ = pageBytes (fileByte (g ∷ k ∷ gs)) in
     let top : ℕ = pageUp (g .vaddr + g .memsz) in
     pages-kept f (userSegment bss g) (kept bss (k ∷ gs))
-    ∙ ap₂ _++_ (own (no-data g k gs y))
+    ∙ ap₂ _++_ (own (no-data setup g k gs y))
     (pages-above f (pageBytes (fileByte (k ∷ gs))) top (kept bss (k ∷ gs)) (kept-above bss top (k ∷ gs) (l .1))
     (λ a h. page-same (fileByte (g ∷ k ∷ gs)) (fileByte (k ∷ gs)) a (λ x u v. file-tail e g (k ∷ gs) (l .0) x (omega arith)))
-    ∙ image-pages bss top (k ∷ gs) (l .1) (layout-first g (k ∷ gs) y .2))
+    ∙ image-pages setup bss top (k ∷ gs) (l .1) (layout-first setup g (k ∷ gs) y .2))
   where
     own : (g .perm is 3) ≡ false → pagesOf (pageBytes (fileByte (g ∷ k ∷ gs))) (userSegment bss g ∷ []) ≡ onePages bss g
     own q =
@@ -108,17 +109,17 @@ image-pages bss e (g ∷ k ∷ gs) l y =
 
 -- ---- the whole of a start
 
-pub start-pages : (image : List ℕ) → imageError image ≡ 0
-    → pagesOf (pageBytes (fileByte (segmentsOf image))) (startPieces image)
-    ≡ segmentPages (imageBss image) (segmentsOf image) ++ (pagesOf zeroPage (bssSegment (imageBss image) ∷ []) ++ pagesOf zeroPage (stack ∷ []))
-start-pages image z =
-    let a = accepted-means image z in
+pub start-pages : (setup : Setup) (ok : SetupOk setup) (image : List ℕ) → imageError setup image ≡ 0
+    → pagesOf (pageBytes (fileByte (segmentsOf image))) (startPieces setup image)
+    ≡ segmentPages (imageBss image) (segmentsOf image) ++ (pagesOf zeroPage (bssSegment (imageBss image) ∷ []) ++ pagesOf zeroPage (stack setup ∷ []))
+start-pages setup ok image z =
+    let a = accepted-means setup image z in
     let l = elf-loads image (a .elf) in
     let f : ℕ → List ℕ = pageBytes (fileByte (segmentsOf image)) in
     let bound : ℕ = pageUp (imageBss image .start) in
-    let b = image-recorded image z .bss-ok in
-    pages-append f (imageSegments image) (bssSegment (imageBss image) ∷ stack ∷ [])
-    ∙ ap₂ _++_ (image-pages (imageBss image) 0 (segmentsOf image) l (a .layout))
-    (pages-above f zeroPage bound (bssSegment (imageBss image) ∷ stack ∷ []) (omega arith, (omega (arith, b .order, b .aligned, b .low), tt))
+    let b = image-recorded setup ok image z .bss-ok in
+    pages-append f (imageSegments image) (bssSegment (imageBss image) ∷ stack setup ∷ [])
+    ∙ ap₂ _++_ (image-pages setup (imageBss image) 0 (segmentsOf image) l (a .layout))
+    (pages-above f zeroPage bound (bssSegment (imageBss image) ∷ stack setup ∷ []) (omega arith, (omega (arith, b .order, b .aligned, b .low), tt))
     (λ p h. page-same (fileByte (segmentsOf image)) (λ x. 0) p (λ x u v. file-high 0 (segmentsOf image) l x (omega arith)) ∙ page-zero p)
-    ∙ pages-append zeroPage (bssSegment (imageBss image) ∷ []) (stack ∷ []))
+    ∙ pages-append zeroPage (bssSegment (imageBss image) ∷ []) (stack setup ∷ []))

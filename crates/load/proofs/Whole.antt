@@ -3,13 +3,14 @@ use Prim.Native.Nat.{ℕ, _+_, _-_, _%_, _≤_}
 use native.Mathlib.Omega.{arith}
 use mathlib.Core.Path.{_≡_, refl, sym, ap, _∙_}
 use mathlib.Core.List.{List, [], _∷_, _++_}
-use Rattle.spec.specs.Numbers.{limit, pageUp, pageBytes, zeroPage}
+use Rattle.spec.specs.Numbers.{maxTop, pageUp, pageBytes, zeroPage, SetupOk}
 use Rattle.spec.specs.Book.{segment, stack, bssSegment}
 use Rattle.spec.specs.Frames.{Store, Page, pagesOf, place}
 use Rattle.spec.specs.Elf.{segmentsOf, elfError}
 use Rattle.spec.specs.Exec.{imageError, imageBss, startPieces, fileByte}
 use Rattle.spec.specs.declared.VirtRange.{VirtRange}
 use Rattle.spec.specs.declared.ElfError.{ElfError}
+use Rattle.spec.specs.declared.Setup.{Setup}
 use Rattle.elf.specs.Reader.{said, parsed}
 use Rattle.elf.specs.declared.Parsed.the-variants.{Refused}
 use Rattle.elf.proofs.Image.{says-number}
@@ -20,34 +21,34 @@ use Rattle.load.specs.Pages.{segmentPages}
 use Rattle.load.proofs.Segments.{start-pages}
 
 -- an accepted image is parsed
-pub not-refused : (image : List ℕ) (e : ElfError) → imageError image ≡ 0 → said (Refused e) ≡ parsed image → ⊥
-not-refused image e z h = not-zero e (says-number image (Refused e) h ∙ accepted-means image z .elf)
+pub not-refused : (setup : Setup) (image : List ℕ) (e : ElfError) → imageError setup image ≡ 0 → said (Refused e) ≡ parsed image → ⊥
+not-refused setup image e z h = not-zero e (says-number image (Refused e) h ∙ accepted-means setup image z .elf)
 
 pub record Fits (bss : VirtRange) : Type 0 where
-  pub start : bss .start ≤ limit
+  pub start : bss .start ≤ maxTop
   pub order : pageUp (bss .start) ≤ bss .end
   pub aligned : bss .end % 4096 ≡ 0
-  pub end : bss .end ≤ limit
+  pub end : bss .end ≤ maxTop
 
-pub bss-fits : (image : List ℕ) (bss : VirtRange) → imageError image ≡ 0 → bss ≡ imageBss image → Fits bss
-bss-fits image bss z e =
-    let b = image-recorded image z .bss-ok in
+pub bss-fits : (setup : Setup) (ok : SetupOk setup) (image : List ℕ) (bss : VirtRange) → imageError setup image ≡ 0 → bss ≡ imageBss image → Fits bss
+bss-fits setup ok image bss z e =
+    let b = image-recorded setup ok image z .bss-ok in
     rw e (record {
       start = omega (arith, b .order, b .low);
       order = omega (arith, b .order, b .aligned);
       aligned = b .aligned;
-      end = b .low;
+      end = omega (arith, b .low);
     })
 
-pub all-placed : (m m₁ m₂ m₃ : Store) (n : ℕ) (image : List ℕ) (bss : VirtRange) → imageError image ≡ 0 → bss ≡ imageBss image
-    → m₁ ≡ place m n (segmentPages bss (segmentsOf image)) → m₂ ≡ place m₁ n (pagesOf zeroPage (bssSegment bss ∷ [])) → m₃ ≡ place m₂ n (pagesOf zeroPage (stack ∷ []))
-    → m₃ ≡ place m n (pagesOf (pageBytes (fileByte (segmentsOf image))) (startPieces image))
-all-placed m m₁ m₂ m₃ n image bss z b e₁ e₂ e₃ =
+pub all-placed : (setup : Setup) (ok : SetupOk setup) (m m₁ m₂ m₃ : Store) (n : ℕ) (image : List ℕ) (bss : VirtRange) → imageError setup image ≡ 0 → bss ≡ imageBss image
+    → m₁ ≡ place m n (segmentPages bss (segmentsOf image)) → m₂ ≡ place m₁ n (pagesOf zeroPage (bssSegment bss ∷ [])) → m₃ ≡ place m₂ n (pagesOf zeroPage (stack setup ∷ []))
+    → m₃ ≡ place m n (pagesOf (pageBytes (fileByte (segmentsOf image))) (startPieces setup image))
+all-placed setup ok m m₁ m₂ m₃ n image bss z b e₁ e₂ e₃ =
     let xs : List Page = segmentPages (imageBss image) (segmentsOf image) in
     let ys : List Page = pagesOf zeroPage (bssSegment (imageBss image) ∷ []) in
-    let zs : List Page = pagesOf zeroPage (stack ∷ []) in
+    let zs : List Page = pagesOf zeroPage (stack setup ∷ []) in
     e₃
     ∙ ap (λ (x : Store). place x n zs) (e₂ ∙ ap (λ (x : Store). place x n (pagesOf zeroPage (bssSegment bss ∷ []))) e₁ ∙ ap (λ (r : VirtRange). place (place m n (segmentPages r (segmentsOf image))) n (pagesOf zeroPage (bssSegment r ∷ []))) b)
     ∙ sym (place-append (place m n xs) n ys zs)
     ∙ sym (place-append m n xs (ys ++ zs))
-    ∙ ap (place m n) (sym (start-pages image z))
+    ∙ ap (place m n) (sym (start-pages setup ok image z))

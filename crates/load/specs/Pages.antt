@@ -4,7 +4,7 @@
 use Prim.Native.Nat.{ℕ, _+_, _≤_}
 use mathlib.Core.List.{List, [], _∷_, _++_}
 use lib.ListN.{take, drop}
-use Rattle.spec.specs.Numbers.{limit, pageBytes}
+use Rattle.spec.specs.Numbers.{maxTop, pageBytes}
 use Rattle.spec.specs.Frames.{Page, pagesOf}
 use Rattle.spec.specs.Elf.{Segment}
 use Rattle.spec.specs.Exec.{userSegment}
@@ -29,4 +29,4 @@ loadPages image bss (Taken g) = pagesOf (pageBytes (fileAt (g .vaddr) (take (g .
 
 abbrev pub LaidLoad : Load → Type 0
 LaidLoad Skip = Unit {0}
-LaidLoad (Taken g) = g .vaddr + g .memsz ≤ limit
+LaidLoad (Taken g) = g .vaddr + g .memsz ≤ maxTop

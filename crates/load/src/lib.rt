@@ -6,7 +6,8 @@ ghost use mathlib.Core.Path.{_≡_};
 ghost use mathlib.Core.Bool.{true};
 ghost use Prim.Native.Nat.{ℕ, _+_, _*_, _-_, _^_, _≤_, _<_};
 ghost use lib.ListN.{length};
-ghost use Rattle.spec.specs.Numbers.{limit, pageBytes};
+ghost use Rattle.spec.specs.Numbers.{maxTop, SetupOk, pageBytes};
+ghost use Rattle.spec.specs.declared.Setup.{Setup};
 ghost use Rattle.spec.specs.Frames.{pagesOf, place};
 ghost use Rattle.spec.specs.Elf.{phdrAt, segmentsOf};
 ghost use Rattle.spec.specs.Exec.{layoutOk, imageBss, imageError, startPieces, fileByte};
@@ -17,6 +18,7 @@ ghost use Rattle.load.specs.Pages.{segmentPages, loadPages, LaidLoad};
 use elf::Elf;
 use elf::Load;
 use elf::Parsed;
+use spec::Setup;
 use spec::VirtRange;
 
 // Places the pages of one program header's segment, if it has one. Frames from `top` on are none free; the answer is the next such.
@@ -30,7 +32,7 @@ fn load_header(
     i: usize,
     bss: VirtRange,
 ) -> usize
-    requires { ⌜ (length (now frames) ≡ 4096 * length (now book)) × (1 ≤ owner) × (owner < 256) × (h .phoff + 56 * h .phnum ≤ length (now image)) × (i < h .phnum) × (bss .start ≤ limit) ⌝ }
+    requires { ⌜ (length (now frames) ≡ 4096 * length (now book)) × (1 ≤ owner) × (owner < 256) × (h .phoff + 56 * h .phnum ≤ length (now image)) × (i < h .phnum) × (bss .start ≤ maxTop) ⌝ }
     requires { ⌜ CheckedLoad (length (now image)) (loadOf (phdrAt (now image) (h .phoff + 56 * i))) × LaidLoad (loadOf (phdrAt (now image) (h .phoff + 56 * i))) ⌝ }
     requires { ⌜ Passed top (now book) ⌝ }
     ensures { λ _. ⌜ store (now (frames .exit)) (now (book .exit)) ≡ place (store (now (frames .entry)) (now (book .entry))) owner (loadPages (now (image .entry)) bss (loadOf (phdrAt (now (image .entry)) (h .phoff + 56 * i)))) ⌝ }
@@ -57,8 +59,9 @@ fn load_segments(
     h: Elf,
     bss: VirtRange,
 ) -> usize
-    requires { ⌜ (length (now frames) ≡ 4096 * length (now book)) × (1 ≤ owner) × (owner < 256) × (bss .start ≤ limit) ⌝ }
-    requires { ⌜ (said (Parsed.Elf h) ≡ parsed (now image)) × (layoutOk (segmentsOf (now image)) ≡ true) ⌝ }
+    requires { ⌜ (length (now frames) ≡ 4096 * length (now book)) × (1 ≤ owner) × (owner < 256) × (bss .start ≤ maxTop) ⌝ }
+    requires { ⌜ said (Parsed.Elf h) ≡ parsed (now image) ⌝ }
+    requires { ⌜ ((setup : Setup) × SetupOk setup × (layoutOk setup (segmentsOf (now image)) ≡ true)) ⌝ }
     ensures { λ _. ⌜ store (now (frames .exit)) (now (book .exit)) ≡ place (store (now (frames .entry)) (now (book .entry))) owner (segmentPages bss (segmentsOf (now (image .entry)))) ⌝ }
     ensures { λ r. ⌜ Passed r (now (book .exit)) ⌝ }
 {
@@ -73,10 +76,22 @@ fn load_segments(
 }
 
 // Places all pages of an image that is accepted, whose bss is `bss`, with those of its stack.
-pub fn load(frames: &mut [u8], book: &mut [u64], owner: u64, image: &[u8], bss: VirtRange)
-    requires { ⌜ (length (now frames) ≡ 4096 * length (now book)) × (1 ≤ owner) × (owner < 256) × (imageError (now image) ≡ 0) × (bss ≡ imageBss (now image)) ⌝ }
-    ensures { λ _. ⌜ store (now (frames .exit)) (now (book .exit)) ≡ place (store (now (frames .entry)) (now (book .entry))) owner (pagesOf (pageBytes (fileByte (segmentsOf (now (image .entry))))) (startPieces (now (image .entry)))) ⌝ }
+pub fn load(
+    setup: Setup,
+    frames: &mut [u8],
+    book: &mut [u64],
+    owner: u64,
+    image: &[u8],
+    bss: VirtRange,
+)
+    requires { ⌜ (length (now frames) ≡ 4096 * length (now book)) × (1 ≤ owner) × (owner < 256) × (imageError setup (now image) ≡ 0) × (bss ≡ imageBss (now image)) × SetupOk setup ⌝ }
+    ensures { λ _. ⌜ store (now (frames .exit)) (now (book .exit)) ≡ place (store (now (frames .entry)) (now (book .entry))) owner (pagesOf (pageBytes (fileByte (segmentsOf (now (image .entry))))) (startPieces setup (now (image .entry)))) ⌝ }
 {
+    let ustktop = setup.ustktop;
+    let stack = VirtRange {
+        start: ustktop - setup.ustksize,
+        end: ustktop,
+    };
     let Parsed::Elf(h) = elf::parse(image) else {
         return;
     };
@@ -84,14 +99,5 @@ pub fn load(frames: &mut [u8], book: &mut [u64], owner: u64, image: &[u8], bss: 
     let start = mem::page_up(bss.start);
     let end = bss.end;
     let next = pagealloc::place::map_zeroed(frames, book, top, owner, VirtRange { start, end });
-    pagealloc::place::map_zeroed(
-        frames,
-        book,
-        next,
-        owner,
-        VirtRange {
-            start: spec::USTKTOP - spec::USTKSIZE,
-            end: spec::USTKTOP,
-        },
-    );
+    pagealloc::place::map_zeroed(frames, book, next, owner, stack);
 }

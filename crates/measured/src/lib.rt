@@ -6,6 +6,7 @@ ghost use mathlib.Core.Bool.{false};
 ghost use Prim.Native.Nat.{_≤_, _<_};
 ghost use lib.ListN.{length, replicate};
 ghost use Rattle.spec.specs.Tests.{_is_, _⇒_else_};
+ghost use Rattle.spec.specs.Numbers.{deposit};
 ghost use Rattle.spec.specs.Book.{free};
 ghost use Rattle.spec.specs.Sound.{soundBook};
 ghost use Rattle.spec.specs.Elf.{elfError};
@@ -37,15 +38,16 @@ pub extern "C" fn measured_free(book: &[u64]) -> usize
 {
     book::free_count(book)
 }
-// Whether the book is sound; one of more than 1,024 words is not.
+
+// Whether the book is sound, by the deposit machine's numbers; one of more than 1,024 words is not.
 #[no_mangle]
 pub extern "C" fn measured_sound(book: &[u64], procs: Procs) -> bool
-    ensures { λ r. ⌜ (length (now (book .entry)) ≤ 1024 → r ≡ soundBook (now (book .entry)) procs) × (1024 < length (now (book .entry)) → r ≡ false) ⌝ }
+    ensures { λ r. ⌜ (length (now (book .entry)) ≤ 1024 → r ≡ soundBook deposit (now (book .entry)) procs) × (1024 < length (now (book .entry)) → r ≡ false) ⌝ }
 {
     if 1024 < book.len() {
         return false;
     }
-    sound::sound(book, procs)
+    sound::sound(setup::deposit(), book, procs)
 }
 
 // The number that an image is refused with by the ELF reader, or 0.

@@ -11,12 +11,13 @@ use lib.ListN.{length, getD, replicate, length-append, List·getD-append}
 use lib.Seq.{getD-at}
 use borrow.Author.Tests.{ne-eqb}
 use Rattle.spec.specs.Tests.{_is_}
-use Rattle.spec.specs.Numbers.{utzero, uaddrtop, ustktop}
+use Rattle.spec.specs.Numbers.{maxTop, SetupOk}
 use Rattle.spec.specs.Book.{segment, zeroSegment, zeroProc, lives, stack, bssSegment, inSegment, permAt, piecesOf}
 use Rattle.spec.specs.Sound.{ImageSegment, Shape}
 use Rattle.spec.specs.declared.UserSegment.{UserSegment}
 use Rattle.spec.specs.declared.Proc.{Proc}
 use Rattle.spec.proofs.Bools.{split, clash, within-means}
+use Rattle.spec.specs.declared.Setup.{Setup}
 use Rattle.laws.proofs.Lists.{by-order, Each, each-map, each-append, each-at, each-same}
 use Rattle.laws.proofs.Record.{WholeProc, dead-zero}
 use Rattle.laws.proofs.Shape.{Image, imageEnd, Bss, each-image, shape-image, shape-bss}
@@ -71,27 +72,28 @@ apart-zeros (suc k) gs d = (record { start = refl; end = refl; apart = λ a i. c
 
 -- ---- the parts of a record
 
--- a part: page-aligned, below the top, and where it has pages from UTZERO on
-pub record Part (g : UserSegment) : Type 0 where
+-- a part: page-aligned, below the top, and where it has pages from UTZERO up to UADDRTOP
+pub record Part (setup : Setup) (g : UserSegment) : Type 0 where
   pub ordered : g .range .start ≤ g .range .end
-  pub high : g .range .end ≤ uaddrtop
+  pub high : g .range .end ≤ maxTop
   pub start-page : g .range .start % 4096 ≡ 0
   pub end-page : g .range .end % 4096 ≡ 0
-  pub low : g .range .start < g .range .end → utzero ≤ g .range .start
+  pub low : g .range .start < g .range .end → setup .utzero ≤ g .range .start
+  pub inside : g .range .start < g .range .end → g .range .end ≤ setup .uaddrtop
 
 -- a segment that has pages has a permission, and none has a larger number
 pub record Perm (g : UserSegment) : Type 0 where
   pub high : g .perm ≤ 3
   pub low : g .range .start < g .range .end → 1 ≤ g .perm
 
-zero-part : Part zeroSegment
-zero-part = record { ordered = omega arith; high = omega arith; start-page = refl; end-page = refl; low = λ h. absurd (omega arith) }
+zero-part : (setup : Setup) → Part setup zeroSegment
+zero-part setup = record { ordered = omega arith; high = omega arith; start-page = refl; end-page = refl; low = λ h. absurd (omega arith); inside = λ h. absurd (omega arith) }
 
-image-part : (g : UserSegment) → ImageSegment g → Part g
-image-part g h = record { ordered = omega (arith, h .some-page); high = omega (arith, h .between .1); start-page = h .aligned .0; end-page = h .aligned .1; low = λ q. h .between .0 }
+image-part : (setup : Setup) (ok : SetupOk setup) (g : UserSegment) → ImageSegment setup g → Part setup g
+image-part setup ok g h = record { ordered = omega (arith, h .some-page); high = omega (arith, h .between .1); start-page = h .aligned .0; end-page = h .aligned .1; low = λ q. h .between .0; inside = λ q. omega (arith, h .between .1) }
 
-image-parts : (end : ℕ) (image : List UserSegment) → Image end image → Each Part image
-image-parts end image h = each-map ImageSegment Part image-part image (each-image end image h)
+image-parts : (setup : Setup) (ok : SetupOk setup) (end : ℕ) (image : List UserSegment) → Image setup end image → Each (Part setup) image
+image-parts setup ok end image h = each-map (ImageSegment setup) (Part setup) (image-part setup ok) image (each-image setup end image h)
 
 -- its places, and the bss
 abbrev pub parts : Proc → List UserSegment
@@ -109,7 +111,7 @@ part-is p w j h =
 
 -- an empty part at the top
 abbrev pub top : UserSegment
-top = segment ustktop ustktop 0
+top = segment maxTop maxTop 0
 
 seat-each : (P : UserSegment → Type 0) → P top → (g : UserSegment) → P g → P (seat g)
 seat-each P t g e = split (g .perm is 0) (λ q. rw q t) (λ q. rw q e)
@@ -117,64 +119,65 @@ seat-each P t g e = split (g .perm is 0) (λ q. rw q t) (λ q. rw q e)
 pub each-part : (P : UserSegment → Type 0) → P top → (p : Proc) → length (p .segments) ≡ 16 → Each P (parts p) → (j : ℕ) → j < 17 → P (part p j)
 each-part P t p w e j h = rw (part-is p w j h) (seat-each P t (getD (parts p) j zeroSegment) (each-at P zeroSegment (parts p) e j (rw (parts-long p w) h)))
 
-pub record Parts (p : Proc) : Type 0 where
-  pub each : Each Part (parts p)
+pub record Parts (setup : Setup) (p : Proc) : Type 0 where
+  pub each : Each (Part setup) (parts p)
   pub apart : Pieces (parts p)
   pub same : (a : ℕ) → permAt (parts p) a ≡ permAt (piecesOf p) a
 
 -- of a dead process's record
-dead-parts : Parts zeroProc
-dead-parts = record {
-  each = each-append Part (replicate 16 zeroSegment) (bssSegment (zeroProc .bss) ∷ []) (each-same Part zeroSegment zero-part 16)
-      (record { ordered = omega arith; high = omega arith; start-page = refl; end-page = refl; low = λ h. absurd (omega arith) }, tt);
+dead-parts : (setup : Setup) → Parts setup zeroProc
+dead-parts setup = record {
+  each = each-append (Part setup) (replicate 16 zeroSegment) (bssSegment (zeroProc .bss) ∷ []) (each-same (Part setup) zeroSegment (zero-part setup) 16)
+      (record { ordered = omega arith; high = omega arith; start-page = refl; end-page = refl; low = λ h. absurd (omega arith); inside = λ h. absurd (omega arith) }, tt);
   apart = apart-zeros 16 (bssSegment (zeroProc .bss) ∷ []) zero-apart;
   same = λ a. perm-zeros 16 (bssSegment (zeroProc .bss) ∷ []) a;
 }
 
--- of a living one's
-module _ (p : Proc) (image : List UserSegment) (h : Shape p image) where
-  abbrev zeros : ℕ
-  zeros = 15 - length image
+module _ (setup : Setup) (ok : SetupOk setup) where
+  -- of a living one's
+  module _ (p : Proc) (image : List UserSegment) (h : Shape setup p image) where
+    abbrev zeros : ℕ
+    zeros = 15 - length image
 
-  abbrev last : List UserSegment
-  last = bssSegment (p .bss) ∷ []
+    abbrev last : List UserSegment
+    last = bssSegment (p .bss) ∷ []
 
-  are : parts p ≡ image ++ stack ∷ (replicate zeros zeroSegment ++ last)
-  are = ap (λ (l : List UserSegment). l ++ last) (h .segments) ∙ append-assoc image (stack ∷ replicate zeros zeroSegment) last
+    are : parts p ≡ image ++ stack setup ∷ (replicate zeros zeroSegment ++ last)
+    are = ap (λ (l : List UserSegment). l ++ last) (h .segments) ∙ append-assoc image (stack setup ∷ replicate zeros zeroSegment) last
 
-  bss : Bss (imageEnd utzero image) (p .bss)
-  bss = shape-bss p image h
+    bss : Bss setup (imageEnd (setup .utzero) image) (p .bss)
+    bss = shape-bss setup p image h
 
-  after : (a : ℕ) → permAt (stack ∷ (replicate zeros zeroSegment ++ last)) a ≡ permAt (stack ∷ last) a
-  after a = tail-same (stack ∷ []) (replicate zeros zeroSegment ++ last) last a (perm-zeros zeros last a)
+    after : (a : ℕ) → permAt (stack setup ∷ (replicate zeros zeroSegment ++ last)) a ≡ permAt (stack setup ∷ last) a
+    after a = tail-same (stack setup ∷ []) (replicate zeros zeroSegment ++ last) last a (perm-zeros zeros last a)
 
-  stack-part : Part stack
-  stack-part = record { ordered = omega arith; high = omega arith; start-page = refl; end-page = refl; low = λ q. omega arith }
+    stack-part : Part setup (stack setup)
+    stack-part = record { ordered = omega arith; high = omega arith; start-page = omega arith; end-page = omega arith; low = λ q. omega arith; inside = λ q. omega arith }
 
-  bss-part : Part (bssSegment (p .bss))
-  bss-part = let b = bss in record { ordered = omega arith; high = omega arith; start-page = omega arith; end-page = b .aligned; low = λ q. omega arith }
+    bss-part : Part setup (bssSegment (p .bss))
+    bss-part = let b = bss in record { ordered = omega arith; high = omega arith; start-page = omega arith; end-page = b .aligned; low = λ q. omega arith; inside = λ q. omega arith }
 
-  living-parts : Parts p
-  living-parts = record {
-    each = rw are (each-append Part image (stack ∷ (replicate zeros zeroSegment ++ last)) (image-parts utzero image (shape-image p image h))
-        (stack-part, each-append Part (replicate zeros zeroSegment) last (each-same Part zeroSegment zero-part zeros) (bss-part, tt)));
-    apart = rw are (image-apart utzero image (stack ∷ (replicate zeros zeroSegment ++ last)) (shape-image p image h)
-        (record { start = refl; end = refl; apart = λ a i. perm-zeros zeros last a ∙ stack-bss-apart (imageEnd utzero image) (p .bss) bss .0 .apart a i }, apart-zeros zeros last (stack-bss-apart (imageEnd utzero image) (p .bss) bss .1))
-        (λ a l. after a ∙ stack-bss-low (imageEnd utzero image) (p .bss) bss a l));
-    same = λ a. ap (λ (l : List UserSegment). permAt l a) are ∙ tail-same image (stack ∷ (replicate zeros zeroSegment ++ last)) (stack ∷ last) a (after a)
-        ∙ ap (λ (l : List UserSegment). permAt l a) (sym (shape-pieces p image h));
-  }
+    living-parts : Parts setup p
+    living-parts = record {
+      each = rw are (each-append (Part setup) image (stack setup ∷ (replicate zeros zeroSegment ++ last)) (image-parts setup ok (setup .utzero) image (shape-image setup p image h))
+          (stack-part, each-append (Part setup) (replicate zeros zeroSegment) last (each-same (Part setup) zeroSegment (zero-part setup) zeros) (bss-part, tt)));
+      apart = rw are (image-apart setup (setup .utzero) image (stack setup ∷ (replicate zeros zeroSegment ++ last)) (shape-image setup p image h)
+          (record { start = omega arith; end = omega arith; apart = λ a i. perm-zeros zeros last a ∙ stack-bss-apart setup ok (imageEnd (setup .utzero) image) (p .bss) bss .0 .apart a i }, apart-zeros zeros last (stack-bss-apart setup ok (imageEnd (setup .utzero) image) (p .bss) bss .1))
+          (λ a l. after a ∙ stack-bss-low setup ok (imageEnd (setup .utzero) image) (p .bss) bss a l));
+      same = λ a. ap (λ (l : List UserSegment). permAt l a) are ∙ tail-same image (stack setup ∷ (replicate zeros zeroSegment ++ last)) (stack setup ∷ last) a (after a)
+          ∙ ap (λ (l : List UserSegment). permAt l a) (sym (shape-pieces setup p image h));
+    }
 
-pub parts-of : (p : Proc) → WholeProc p → (lives p ≡ true → Shaped p) → Parts p
-parts-of p w shape =
-    split (lives p)
-    (λ l. let s = shape l in living-parts p (s .0) (s .1))
-    (λ l. rw (dead-zero p w l) dead-parts)
+  pub parts-of : (p : Proc) → WholeProc p → (lives p ≡ true → Shaped setup p) → Parts setup p
+  parts-of p w shape =
+      split (lives p)
+      (λ l. let s = shape l in living-parts p (s .0) (s .1))
+      (λ l. rw (dead-zero p w l) (dead-parts setup))
 
 -- ---- an address in a place, and in a part
 
-pub place-gives : (p : Proc) → WholeProc p → Parts p → (j a : ℕ) → j < 16 → inSegment a (getD (p .segments) j zeroSegment) ≡ true → permAt (piecesOf p) a ≡ some (getD (p .segments) j zeroSegment .perm)
-place-gives p w f j a h i =
+pub place-gives : (setup : Setup) (p : Proc) → WholeProc p → Parts setup p → (j a : ℕ) → j < 16 → inSegment a (getD (p .segments) j zeroSegment) ≡ true → permAt (piecesOf p) a ≡ some (getD (p .segments) j zeroSegment .perm)
+place-gives setup p w f j a h i =
     let e : getD (parts p) j zeroSegment ≡ getD (p .segments) j zeroSegment = List·getD-append (p .segments) (bssSegment (p .bss) ∷ []) zeroSegment j (omega (arith, w .segments)) in
     sym (f .same a) ∙ at-perm (parts p) (f .apart) j a (omega (arith, parts-long p (w .segments))) (rw e i) ∙ ap (λ (g : UserSegment). some (g .perm)) e
 
@@ -186,7 +189,7 @@ holds-seat g a i =
     (λ q. rw q refl)
   where
     top-holds : (a : ℕ) → inSegment a top ≡ false
-    top-holds a = by-order a ustktop (outside-low top a) (outside-high top a)
+    top-holds a = by-order a maxTop (outside-low top a) (outside-high top a)
 
 seat-holds : (g : UserSegment) (a : ℕ) → Perm g → inSegment a g ≡ true → seat g ≡ g
 seat-holds g a p i =
@@ -194,26 +197,27 @@ seat-holds g a p i =
     let l = p .low (omega (arith, h .0, h .1)) in
     rw (ne-eqb (g .perm) 0 (λ z. omega arith)) refl
 
-module _ (p : Proc) (w : WholeProc p) (f : Parts p) (perms : Each Perm (parts p)) where
-  long : (j : ℕ) → j < 17 → j < length (parts p)
-  long j h = rw (parts-long p (w .segments)) h
+module _ (setup : Setup) where
+  module _ (p : Proc) (w : WholeProc p) (f : Parts setup p) (perms : Each Perm (parts p)) where
+    long : (j : ℕ) → j < 17 → j < length (parts p)
+    long j h = rw (parts-long p (w .segments)) h
 
-  -- the place, where its part holds an address
-  holds : (j a : ℕ) → j < 17 → inSegment a (part p j) ≡ true → part p j ≡ getD (parts p) j zeroSegment
-  holds j a h i = let e = part-is p (w .segments) j h in e ∙ holds-seat (getD (parts p) j zeroSegment) a (rw e at i)
+    -- the place, where its part holds an address
+    holds : (j a : ℕ) → j < 17 → inSegment a (part p j) ≡ true → part p j ≡ getD (parts p) j zeroSegment
+    holds j a h i = let e = part-is p (w .segments) j h in e ∙ holds-seat (getD (parts p) j zeroSegment) a (rw e at i)
 
-  pub part-gives : (j a : ℕ) → j < 17 → inSegment a (part p j) ≡ true → permAt (piecesOf p) a ≡ some (part p j .perm)
-  part-gives j a h i =
-      let e = holds j a h i in
-      sym (f .same a) ∙ at-perm (parts p) (f .apart) j a (long j h) (rw e at i) ∙ ap (λ (g : UserSegment). some (g .perm)) (sym e)
+    pub part-gives : (j a : ℕ) → j < 17 → inSegment a (part p j) ≡ true → permAt (piecesOf p) a ≡ some (part p j .perm)
+    part-gives j a h i =
+        let e = holds j a h i in
+        sym (f .same a) ∙ at-perm (parts p) (f .apart) j a (long j h) (rw e at i) ∙ ap (λ (g : UserSegment). some (g .perm)) (sym e)
 
-  pub gives-part : (a q : ℕ) → permAt (piecesOf p) a ≡ some q → (j : ℕ) × (j < 17) × (inSegment a (part p j) ≡ true) × (part p j .perm ≡ q)
-  gives-part a q e =
-      let r = perm-at (parts p) a q (f .same a ∙ e) in
-      let h : r .0 < 17 = rw (parts-long p (w .segments)) at (r .1) in
-      let s = part-is p (w .segments) (r .0) h ∙ seat-holds (getD (parts p) (r .0) zeroSegment) a (each-at Perm zeroSegment (parts p) perms (r .0) (r .1)) (r .2) in
-      (r .0, h, rw s (r .2), rw s (r .3))
+    pub gives-part : (a q : ℕ) → permAt (piecesOf p) a ≡ some q → (j : ℕ) × (j < 17) × (inSegment a (part p j) ≡ true) × (part p j .perm ≡ q)
+    gives-part a q e =
+        let r = perm-at (parts p) a q (f .same a ∙ e) in
+        let h : r .0 < 17 = rw (parts-long p (w .segments)) at (r .1) in
+        let s = part-is p (w .segments) (r .0) h ∙ seat-holds (getD (parts p) (r .0) zeroSegment) a (each-at Perm zeroSegment (parts p) perms (r .0) (r .1)) (r .2) in
+        (r .0, h, rw s (r .2), rw s (r .3))
 
-  pub part-one : (j k a : ℕ) → j < 17 → k < 17 → inSegment a (part p j) ≡ true → inSegment a (part p k) ≡ true → j ≡ k
-  part-one j k a h l x y =
-      at-one (parts p) (f .apart) j k a (long j h) (long k l) (rw (holds j a h x) at x) (rw (holds k a l y) at y)
+    pub part-one : (j k a : ℕ) → j < 17 → k < 17 → inSegment a (part p j) ≡ true → inSegment a (part p k) ≡ true → j ≡ k
+    part-one j k a h l x y =
+        at-one (parts p) (f .apart) j k a (long j h) (long k l) (rw (holds j a h x) at x) (rw (holds k a l y) at y)

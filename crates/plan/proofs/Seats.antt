@@ -9,13 +9,14 @@ use lib.Dec.{leb}
 use lib.ListN.{length, getD}
 use borrow.Author.Tests.{leb-true, leb-false, ne-eqb}
 use Rattle.spec.specs.Tests.{_is_, all}
-use Rattle.spec.specs.Numbers.{utzero, ustktop}
+use Rattle.spec.specs.Numbers.{maxTop, SetupOk}
 use Rattle.spec.specs.Book.{sameSegment, zeroSegment, unused, lives, stack}
 use Rattle.spec.specs.Sound.{bssOk}
 use Rattle.spec.specs.declared.VirtRange.{VirtRange}
 use Rattle.spec.specs.declared.UserSegment.{UserSegment}
 use Rattle.spec.specs.declared.Proc.{Proc}
 use Rattle.spec.proofs.Bools.{split, clash, both, not-true, or-fact, living-ok}
+use Rattle.spec.specs.declared.Setup.{Setup}
 use Rattle.laws.proofs.Lists.{by-order}
 use Rattle.laws.proofs.Record.{WholeProc, same-is, dead-zero}
 use Rattle.laws.proofs.Shape.{bss-means, image-first}
@@ -49,33 +50,33 @@ seats-at low (g ∷ gs) s zero (suc j) h l = (seats-low (seat g .range .end) gs 
 seats-at low (g ∷ gs) s (suc i) (suc j) h l = seats-at (seat g .range .end) gs (s .1) i j (le-of-suc-le-suc h) (le-of-suc-le-suc l)
 
 -- unused places
-unused-seats : (low : ℕ) (gs : List UserSegment) → low ≤ ustktop → all unused gs ≡ true → Seats low gs
+unused-seats : (low : ℕ) (gs : List UserSegment) → low ≤ maxTop → all unused gs ≡ true → Seats low gs
 unused-seats low [] h e = tt
 unused-seats low (g ∷ gs) h e =
     let p = both (unused g) (all unused gs) e in
-    rw (same-is g zeroSegment (p .0)) (record { above = h; ordered = omega arith; some-page = λ q. absurd (omega arith) }, unused-seats ustktop gs (omega arith) (p .1))
+    rw (same-is g zeroSegment (p .0)) (record { above = h; ordered = omega arith; some-page = λ q. absurd (omega arith) }, unused-seats maxTop gs (omega arith) (p .1))
 
 -- image segments, the stack and unused places
-shaped-seats : (low : ℕ) (bss : VirtRange) (gs : List UserSegment) → utzero ≤ low → shaped low bss gs ≡ true → Seats low gs
-shaped-seats low bss [] u e = clash false e refl
-shaped-seats low bss (g ∷ gs) u e =
-    split (sameSegment g stack)
+shaped-seats : (setup : Setup) (ok : SetupOk setup) (low : ℕ) (bss : VirtRange) (gs : List UserSegment) → setup .utzero ≤ low → shaped setup low bss gs ≡ true → Seats low gs
+shaped-seats setup ok low bss [] u e = clash false e refl
+shaped-seats setup ok low bss (g ∷ gs) u e =
+    split (sameSegment g (stack setup))
     (λ q.
-    let t = both (all unused gs) (bssOk low bss) (rw q at e) in
-    let b = bss-means low bss (t .1) in
-    rw (same-is g stack q) (record { above = omega arith; ordered = omega arith; some-page = λ x. omega arith }, unused-seats ustktop gs (omega arith) (t .0)))
+    let t = both (all unused gs) (bssOk setup low bss) (rw q at e) in
+    let b = bss-means setup low bss (t .1) in
+    rw (same-is g (stack setup) q) (record { above = omega arith; ordered = omega arith; some-page = λ x. omega arith }, unused-seats (setup .ustktop) gs (omega arith) (t .0)))
     (λ q.
-    let t = both (imageTest low g) (shaped (g .range .end) bss gs) (rw q at e) in
-    let f = image-first low bss g gs u q (shaped-means low bss (g ∷ gs) e .0) in
-    let p = perm-means low g (t .0) .1 .low (f .0 .some-page) in
-    let r = shaped-seats (g .range .end) bss gs (omega (arith, f .0 .some-page, f .1)) (t .1) in
+    let t = both (imageTest setup low g) (shaped setup (g .range .end) bss gs) (rw q at e) in
+    let f = image-first setup low bss g gs u q (shaped-means setup low bss (g ∷ gs) e .0) in
+    let p = perm-means setup low g (t .0) .1 .low (f .0 .some-page) in
+    let r = shaped-seats setup ok (g .range .end) bss gs (omega (arith, f .0 .some-page, f .1)) (t .1) in
     rw (ne-eqb (g .perm) 0 (λ z. omega arith)) (record { above = f .1; ordered = omega (arith, f .0 .some-page); some-page = λ x. f .0 .some-page }, r))
 
-pub pass-seats : (p : Proc) → WholeProc p → passes p ≡ true → Seats utzero (p .segments)
-pass-seats p w e =
-    split (shaped utzero (p .bss) (p .segments))
-    (λ q. shaped-seats utzero (p .bss) (p .segments) (omega arith) q)
-    (λ q. unused-seats utzero (p .segments) (omega arith) (rw (dead-zero p w (not-true (lives p) (or-fact (shaped utzero (p .bss) (p .segments)) (not (lives p)) e q))) refl))
+pub pass-seats : (setup : Setup) (ok : SetupOk setup) (p : Proc) → WholeProc p → passes setup p ≡ true → Seats (setup .utzero) (p .segments)
+pass-seats setup ok p w e =
+    split (shaped setup (setup .utzero) (p .bss) (p .segments))
+    (λ q. shaped-seats setup ok (setup .utzero) (p .bss) (p .segments) (omega arith) q)
+    (λ q. unused-seats (setup .utzero) (p .segments) (omega arith) (rw (dead-zero p w (not-true (lives p) (or-fact (shaped setup (setup .utzero) (p .bss) (p .segments)) (not (lives p)) e q))) refl))
 
 -- ---- the search by halves
 

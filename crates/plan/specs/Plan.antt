@@ -9,7 +9,7 @@ use mathlib.Core.List.{List}
 use lib.ListN.{length, getD}
 use lib.Dec.{leb}
 use Rattle.spec.specs.Tests.{_is_, _below_, _⇒_else_}
-use Rattle.spec.specs.Numbers.{uaddrtop, ustktop}
+use Rattle.spec.specs.Numbers.{maxTop}
 use Rattle.spec.specs.Book.{wordOf, ownerOf, segment, zeroSegment, bssSegment, procAt}
 use Rattle.spec.specs.declared.UserSegment.{UserSegment}
 use Rattle.spec.specs.declared.Proc.{Proc}
@@ -19,7 +19,7 @@ use Rattle.spec.specs.declared.Procs.{Procs}
 
 -- a place of a record as a part: an unused one is an empty part at the top, so that an owner's segments ascend
 abbrev pub seat : UserSegment → UserSegment
-seat g = g .perm is 0 ⇒ segment ustktop ustktop 0 else g
+seat g = g .perm is 0 ⇒ segment maxTop maxTop 0 else g
 
 -- the parts of a record: sixteen segments and the bss
 unfoldable pub part : Proc → ℕ → UserSegment
@@ -54,12 +54,12 @@ baseAt ps k = sumTo (λ i. size (partAt ps i)) k
 
 -- more pages than these no part has
 abbrev pub maxPages : ℕ
-maxPages = uaddrtop / 4096
+maxPages = maxTop / 4096
 
 -- a part whose tag and base don't wrap
 pub record Small (g : UserSegment) : Type 0 where
   pub ordered : g .range .start ≤ g .range .end
-  pub high : g .range .end ≤ uaddrtop
+  pub high : g .range .end ≤ maxTop
   pub perm-high : g .perm ≤ 3
 
 -- the parts of a record, all of them small

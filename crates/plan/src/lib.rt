@@ -3,16 +3,14 @@
 // part's page it is of.
 
 ghost use mathlib.Core.Path.{_≡_};
-ghost use mathlib.Core.Bool.{true};
-ghost use Prim.Native.Nat.{_+_, _*_, _<_, _≤_};
+ghost use Prim.Native.Nat.{ℕ, _+_, _*_, _<_, _≤_};
 ghost use lib.ListN.{length};
-ghost use Rattle.spec.specs.Tests.{all};
-ghost use Rattle.records.specs.Records.{passes};
+ghost use Rattle.spec.specs.Book.{procAt};
 ghost use Rattle.plan.specs.Plan.{seat as seatOf, maxPages, SmallParts, Laid, LaidAll, Rising, hits as hitsOf, later as laterOf, Ascending, Span, PartOf, Plan};
 use spec::DATA;
+use spec::MAX_TOP;
 use spec::Proc;
 use spec::Procs;
-use spec::USTKTOP;
 use spec::UserSegment;
 use spec::VirtRange;
 
@@ -22,8 +20,8 @@ fn seat(s: UserSegment) -> UserSegment
 {
     if s.perm == 0 {
         let range = VirtRange {
-            start: USTKTOP,
-            end: USTKTOP,
+            start: MAX_TOP,
+            end: MAX_TOP,
         };
         return UserSegment { range, perm: 0 };
     }
@@ -62,7 +60,7 @@ fn lay(tags: &mut [u64; 272], bases: &mut [u64; 273], p: Proc, n: usize, total: 
 
 // Lays the parts of all processes, and gives the count of all pages, which is also the last base.
 pub fn lay_all(tags: &mut [u64; 272], bases: &mut [u64; 273], procs: Procs) -> u64
-    requires { ⌜ (all passes (procs .all) ≡ true) × (length (now tags) ≡ 272) × (length (now bases) ≡ 273) ⌝ }
+    requires { ⌜ ((i : ℕ) → i < 16 → SmallParts (procAt procs (i + 1))) × (length (now tags) ≡ 272) × (length (now bases) ≡ 273) ⌝ }
     ensures { λ r. ⌜ LaidAll procs (now (tags .exit)) (now (bases .exit)) r ⌝ }
 {
     let mut t = 0;

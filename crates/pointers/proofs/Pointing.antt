@@ -5,34 +5,36 @@ use mathlib.Core.Path.{_≡_, refl, sym, ap, _∙_}
 use mathlib.Core.Bool.{Bool, true, false, not}
 use borrow.Author.Tests.{ltb-false}
 use Rattle.spec.specs.Tests.{_is_, _below_, _⇒_else_}
-use Rattle.spec.specs.Numbers.{le}
+use Rattle.spec.specs.Numbers.{le, SetupOk}
 use Rattle.spec.specs.Frames.{Mem}
 use Rattle.spec.specs.Access.{userRangeOk, bytesAt}
 use Rattle.spec.proofs.Bools.{split}
+use Rattle.spec.specs.declared.Setup.{Setup}
 use Rattle.ranges.proofs.Ranges.{range-past}
 use Rattle.args.specs.Sizes.{saturated}
 use Rattle.pointers.specs.declared.Pointer.{Pointer}
 use Rattle.pointers.specs.declared.Pointer.the-variants.{Bad, Null, At}
 use Rattle.pointers.specs.Places.{pointerAt}
 
-pub pointer-bad : (mem : Mem) (at : ℕ) → userRangeOk mem false at 8 ≡ false → Bad ≡ pointerAt mem at
-pointer-bad mem at e = rw e
+module _ (setup : Setup) where
+  pub pointer-bad : (mem : Mem) (at : ℕ) → userRangeOk setup mem false at 8 ≡ false → Bad ≡ pointerAt setup mem at
+  pointer-bad mem at e = rw e
 
-pub pointer-null : (mem : Mem) (at : ℕ) → userRangeOk mem false at 8 ≡ true → (le 8 (bytesAt mem at 8) 0 is 0) ≡ true → Null ≡ pointerAt mem at
-pointer-null mem at e z = rw (e, z)
+  pub pointer-null : (mem : Mem) (at : ℕ) → userRangeOk setup mem false at 8 ≡ true → (le 8 (bytesAt mem at 8) 0 is 0) ≡ true → Null ≡ pointerAt setup mem at
+  pointer-null mem at e z = rw (e, z)
 
-pub pointer-string : (mem : Mem) (at : ℕ) → userRangeOk mem false at 8 ≡ true → (le 8 (bytesAt mem at 8) 0 is 0) ≡ false → At (le 8 (bytesAt mem at 8) 0) ≡ pointerAt mem at
-pointer-string mem at e z = rw (e, z)
+  pub pointer-string : (mem : Mem) (at : ℕ) → userRangeOk setup mem false at 8 ≡ true → (le 8 (bytesAt mem at 8) 0 is 0) ≡ false → At (le 8 (bytesAt mem at 8) 0) ≡ pointerAt setup mem at
+  pointer-string mem at e z = rw (e, z)
 
 -- a place past 64 bits can't be read, and neither can the highest of 64 bits
-pub pointer-saturated : (mem : Mem) (a : ℕ) → pointerAt mem (saturated a) ≡ pointerAt mem a
-pointer-saturated mem a =
+pub pointer-saturated : (setup : Setup) (ok : SetupOk setup) (mem : Mem) (a : ℕ) → pointerAt setup mem (saturated a) ≡ pointerAt setup mem a
+pointer-saturated setup ok mem a =
     split (a below 2 ^ 64)
     (λ q. rw q)
     (λ q.
     let h : 2 ^ 64 ≤ a = ltb-false a (2 ^ 64) q in
-    let top : Bad ≡ pointerAt mem (2 ^ 64 - 1) = pointer-bad mem (2 ^ 64 - 1) (range-past mem false (2 ^ 64 - 1) 8 (omega arith)) in
-    ap (λ (b : Bool). pointerAt mem (b ⇒ a else 2 ^ 64 - 1)) q ∙ sym top ∙ pointer-bad mem a (range-past mem false a 8 (omega arith)))
+    let top : Bad ≡ pointerAt setup mem (2 ^ 64 - 1) = pointer-bad setup mem (2 ^ 64 - 1) (range-past setup mem false (2 ^ 64 - 1) 8 (omega arith)) in
+    ap (λ (b : Bool). pointerAt setup mem (b ⇒ a else 2 ^ 64 - 1)) q ∙ sym top ∙ pointer-bad setup mem a (range-past setup mem false a 8 (omega arith)))
 
 -- what it says
 abbrev pub found : Bool → Bool → ℕ → Pointer

@@ -7,13 +7,14 @@ use Rattle.spec.specs.Tests.{_is_, _⇒_else_}
 use Rattle.spec.specs.Numbers.{le}
 use Rattle.spec.specs.Frames.{Mem}
 use Rattle.spec.specs.Access.{userRangeOk, bytesAt}
+use Rattle.spec.specs.declared.Setup.{Setup}
 use Rattle.pointers.specs.declared.Pointer.{Pointer}
 use Rattle.pointers.specs.declared.Pointer.the-variants.{Bad, Null, At}
 
 -- one that can't be read, the null behind the last pointer, or the address of a string
-abbrev pub pointerAt : Mem → ℕ → Pointer
-pointerAt mem at =
+abbrev pub pointerAt : Setup → Mem → ℕ → Pointer
+pointerAt setup mem at =
     let s : ℕ = le 8 (bytesAt mem at 8) 0 in
-    not (userRangeOk mem false at 8) ⇒ Bad else
+    not (userRangeOk setup mem false at 8) ⇒ Bad else
     s is 0 ⇒ Null else
     At s

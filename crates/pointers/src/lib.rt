@@ -4,12 +4,13 @@
 ghost use mathlib.Core.Path.{_≡_};
 ghost use Prim.Native.Nat.{_+_, _*_, _≤_, _<_};
 ghost use lib.ListN.{length};
-ghost use Rattle.spec.specs.Numbers.{le};
+ghost use Rattle.spec.specs.Numbers.{SetupOk, le};
 ghost use Rattle.spec.specs.Frames.{memOf};
 ghost use Rattle.sound.specs.Table.{Ready};
 ghost use Rattle.book.specs.Lent.{store};
 ghost use Rattle.args.specs.Sizes.{saturated};
 ghost use Rattle.pointers.specs.Places.{pointerAt};
+use spec::Setup;
 
 // The highest number of 64 bits.
 const MAX: u64 = 0xffff_ffff_ffff_ffff;
@@ -40,7 +41,7 @@ fn from_le_bytes(b: &[u8]) -> u64
 
 // The address of pointer `i` of the array at `argv`, as `argv.saturating_add(8 * i)`.
 pub fn pointer_addr(argv: u64, i: usize) -> u64
-    requires { ⌜ i ≤ 512 ⌝ }
+    requires { ⌜ i ≤ 2048 ⌝ }
     ensures { λ r. ⌜ r ≡ saturated (argv + 8 * i) ⌝ }
 {
     let far = 8 * (i as u64);
@@ -52,6 +53,7 @@ pub fn pointer_addr(argv: u64, i: usize) -> u64
 
 // The pointer at user address `at`.
 pub fn read_pointer(
+    setup: Setup,
     frames: &[u8],
     book: &[u64],
     tags: &[u64; 272],
@@ -61,9 +63,10 @@ pub fn read_pointer(
     at: u64,
 ) -> Pointer
     requires { ⌜ (length (now frames) ≡ 4096 * length (now book)) × Ready (now book) (now tags) (now bases) (now table) ⌝ }
-    ensures { λ r. ⌜ r ≡ pointerAt (memOf (store (now (frames .entry)) (now (book .entry))) number) at ⌝ }
+    requires { ⌜ SetupOk setup ⌝ }
+    ensures { λ r. ⌜ r ≡ pointerAt setup (memOf (store (now (frames .entry)) (now (book .entry))) number) at ⌝ }
 {
-    if !uaccess::user_range_ok(book, tags, bases, table, number, at, 8, false) {
+    if !uaccess::user_range_ok(setup, book, tags, bases, table, number, at, 8, false) {
         return Pointer::Bad;
     }
     let mut p = [0u8; 8];

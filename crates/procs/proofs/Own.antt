@@ -10,6 +10,7 @@ use Rattle.spec.specs.Sound.{Shape}
 use Rattle.spec.specs.Frames.{Page, pagesOf}
 use Rattle.spec.specs.declared.UserSegment.{UserSegment}
 use Rattle.spec.specs.declared.Proc.{Proc}
+use Rattle.spec.specs.declared.Setup.{Setup}
 use Rattle.spec.proofs.Free.{length-pages, count-append}
 use Rattle.laws.proofs.Pages.{pages-append}
 use Rattle.laws.proofs.Shape.{shape-used}
@@ -26,15 +27,15 @@ none-unused : (f : ℕ → List ℕ) (k : ℕ) → pagesOf f (replicate k zeroSe
 none-unused f zero = refl
 none-unused f (suc k) = none-unused f k
 
-module _ (p : Proc) (image : List UserSegment) (shape : Shape p image) where
+module _ {setup : Setup} (p : Proc) (image : List UserSegment) (shape : Shape setup p image) where
   pub pages-used : (f : ℕ → List ℕ) → pagesOf f (p .segments) ≡ pagesOf f (used (p .segments))
   pages-used f =
       let zeros = replicate (15 - length image) zeroSegment in
-      ap (pagesOf f) (shape .segments ∙ sym (append-assoc image (stack ∷ []) zeros))
-      ∙ pages-append f (image ++ stack ∷ []) zeros
-      ∙ ap (λ (ps : List Page). pagesOf f (image ++ stack ∷ []) ++ ps) (none-unused f (15 - length image))
-      ∙ append-nil (pagesOf f (image ++ stack ∷ []))
-      ∙ ap (pagesOf f) (sym (shape-used p image shape))
+      ap (pagesOf f) (shape .segments ∙ sym (append-assoc image (stack setup ∷ []) zeros))
+      ∙ pages-append f (image ++ stack setup ∷ []) zeros
+      ∙ ap (λ (ps : List Page). pagesOf f (image ++ stack setup ∷ []) ++ ps) (none-unused f (15 - length image))
+      ∙ append-nil (pagesOf f (image ++ stack setup ∷ []))
+      ∙ ap (pagesOf f) (sym (shape-used setup p image shape))
 
   pub pages-own : (f : ℕ → List ℕ) → pagesOf f (p .segments ++ bssSegment (p .bss) ∷ []) ≡ pagesOf f (piecesOf p)
   pages-own f =

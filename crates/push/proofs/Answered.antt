@@ -15,12 +15,12 @@ module _ (m : Machine) (pc top : ℕ) (args : List (List ℕ)) where
 
   module _ (aligned : top % 16 ≡ 0) where
     -- with the number k that was found
-    pub push-refused : (k : ℕ) → k ≡ argsError args → (k ≡ 0 → ⊥) → weighPush m pc top args ≡ Refused k
+    pub push-refused : (k : ℕ) → k ≡ argsError (m .setup) args → (k ≡ 0 → ⊥) → weighPush m pc top args ≡ Refused k
     push-refused k e ne = rw (eq-eqb (top % 16) 0 aligned, ← e, ne-eqb k 0 ne)
 
-    pub push-ends : argsError args ≡ 0 → pushOk (m .mem) top args ≡ false → weighPush m pc top args ≡ Ended 35
-    push-ends fine bad = rw (eq-eqb (top % 16) 0 aligned, eq-eqb (argsError args) 0 fine, bad)
+    pub push-ends : argsError (m .setup) args ≡ 0 → pushOk (m .setup) (m .mem) top args ≡ false → weighPush m pc top args ≡ Ended 35
+    push-ends fine bad = rw (eq-eqb (top % 16) 0 aligned, eq-eqb (argsError (m .setup) args) 0 fine, bad)
 
     -- with the registers that were made
-    pub push-goes : (regs : UserRegs) → regs ≡ registers pc top args → argsError args ≡ 0 → pushOk (m .mem) top args ≡ true → weighPush m pc top args ≡ Regs regs
-    push-goes regs e fine ok = rw (eq-eqb (top % 16) 0 aligned, eq-eqb (argsError args) 0 fine, ok, e)
+    pub push-goes : (regs : UserRegs) → regs ≡ registers pc top args → argsError (m .setup) args ≡ 0 → pushOk (m .setup) (m .mem) top args ≡ true → weighPush m pc top args ≡ Regs regs
+    push-goes regs e fine ok = rw (eq-eqb (top % 16) 0 aligned, eq-eqb (argsError (m .setup) args) 0 fine, ok, e)

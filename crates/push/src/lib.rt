@@ -8,11 +8,13 @@ ghost use Rattle.front.specs.Numbers.{stateOf, call};
 use front::left::Left;
 use spec::Answer;
 use spec::Procs;
+use spec::Setup;
 
-// Pushes arguments below `top` in the memory of process `number`, and answers the registers to start at `pc` with. Refused with 1 to
-// 4, with 36 for a top that isn't 16-byte aligned, and with 32 or 33 for the arguments, it changes nothing. A push below address 0,
+// Pushes arguments below `top` in the memory of process `number`, and answers the registers to start at `pc` with. Refused with 1, 38,
+// 2 to 4, with 36 for a top that isn't 16-byte aligned, and with 32 or 33 for the arguments, it changes nothing. A push below address 0,
 // or to memory that the process may not write, ends the process with 35, and no byte is written.
 pub fn push(
+    setup: Setup,
     frames: &mut [u8],
     book: &mut [u64],
     procs: Procs,
@@ -22,13 +24,14 @@ pub fn push(
     bytes: &[u8],
     lengths: &[u64],
 ) -> Left
-    ensures { λ r. ⌜ Does (stateOf (now (frames .entry)) (now (book .entry)) procs) (call number (push pc top (now (bytes .entry)) (now (lengths .entry)))) (stateOf (now (frames .exit)) (now (book .exit)) (r .procs)) (plainly (r .answer)) ⌝ }
+    ensures { λ r. ⌜ Does (stateOf setup (now (frames .entry)) (now (book .entry)) procs) (call number (push pc top (now (bytes .entry)) (now (lengths .entry)))) (stateOf setup (now (frames .exit)) (now (book .exit)) (r .procs)) (plainly (r .answer)) ⌝ }
 {
     let mut tags = [0u64; 272];
     let mut bases = [0u64; 273];
     let mut table = [0u16; 1024];
     let fits = args::lengths_fit(bytes, lengths);
     let e = front::numbers::plain_ready(
+        setup,
         frames,
         book,
         procs,
@@ -50,7 +53,7 @@ pub fn push(
             answer: Answer::Refused(spec::TOP),
         };
     }
-    let s = args::args_size(bytes, lengths);
+    let s = args::args_size(setup, bytes, lengths);
     let error = s.error;
     let size = s.strings;
     if error != 0 {
@@ -59,8 +62,18 @@ pub fn push(
             answer: Answer::Refused(error),
         };
     }
-    let nargs = lengths.len() as u64;
-    if !push_args::push_ok(book, &tags, &bases, &table, number, top, size, nargs) {
+    let nargs = lengths.len();
+    if !push_args::push_ok(
+        setup,
+        book,
+        &tags,
+        &bases,
+        &table,
+        number,
+        top,
+        size,
+        nargs as u64,
+    ) {
         let after = front::ending::forget(book, procs, number);
         return Left {
             procs: after,
@@ -78,7 +91,6 @@ pub fn push(
         top,
         bytes,
         lengths,
-        size,
     );
     Left {
         procs: procs,

@@ -5,10 +5,11 @@ use mathlib.Core.Path.{_≡_, sym, ap, _∙_}
 use mathlib.Core.Bool.{Bool, true, false}
 use mathlib.Core.List.{List}
 use borrow.Author.Tests.{lt-ltb, le-ltb, eq-eqb, ne-eqb}
-use Rattle.spec.specs.Numbers.{uaddrtop, pageDown, pageUp}
+use Rattle.spec.specs.Numbers.{pageDown, pageUp, SetupOk}
 use Rattle.spec.specs.Frames.{Mem, memOf}
 use Rattle.spec.specs.Access.{cellOk, pagesOk, userRangeOk}
 use Rattle.spec.proofs.Ranges.{range-means, range-one}
+use Rattle.spec.specs.declared.Setup.{Setup}
 use Rattle.laws.proofs.Allowed.{cell-allowed, cell-page}
 use Rattle.book.specs.Lent.{store}
 
@@ -34,29 +35,30 @@ range-done mem write va end z l =
     let k : (pageUp end - va) / 4096 ≡ 0 = omega arith in
     ap (pagesOk mem write va) k
 
--- what comes before the pages
-pub range-past : (mem : Mem) (write : Bool) (addr len : ℕ) → uaddrtop < addr + len → userRangeOk mem write addr len ≡ false
-range-past mem write addr len h = rw (lt-ltb uaddrtop (addr + len) h)
+module _ (setup : Setup) where
+  -- what comes before the pages
+  pub range-past : (mem : Mem) (write : Bool) (addr len : ℕ) → setup .uaddrtop < addr + len → userRangeOk setup mem write addr len ≡ false
+  range-past mem write addr len h = rw (lt-ltb (setup .uaddrtop) (addr + len) h)
 
-pub range-empty : (mem : Mem) (write : Bool) (addr len : ℕ) → addr + len ≤ uaddrtop → len ≡ 0 → userRangeOk mem write addr len ≡ true
-range-empty mem write addr len h z = rw (le-ltb uaddrtop (addr + len) h, eq-eqb len 0 z)
+  pub range-empty : (mem : Mem) (write : Bool) (addr len : ℕ) → addr + len ≤ setup .uaddrtop → len ≡ 0 → userRangeOk setup mem write addr len ≡ true
+  range-empty mem write addr len h z = rw (le-ltb (setup .uaddrtop) (addr + len) h, eq-eqb len 0 z)
 
-pub range-pages : (mem : Mem) (write : Bool) (addr len : ℕ) → addr + len ≤ uaddrtop → (len ≡ 0 → ⊥) → userRangeOk mem write addr len ≡ pagesTo mem write (pageDown addr) (addr + len)
-range-pages mem write addr len h z = rw (le-ltb uaddrtop (addr + len) h, ne-eqb len 0 z)
+  pub range-pages : (mem : Mem) (write : Bool) (addr len : ℕ) → addr + len ≤ setup .uaddrtop → (len ≡ 0 → ⊥) → userRangeOk setup mem write addr len ≡ pagesTo mem write (pageDown addr) (addr + len)
+  range-pages mem write addr len h z = rw (le-ltb (setup .uaddrtop) (addr + len) h, ne-eqb len 0 z)
 
--- ---- what a range that passed says
+  -- ---- what a range that passed says
 
--- each of its addresses may be read, or written, whatever the frames hold by now
-pub range-cell : (f g book : List ℕ) (n : ℕ) (write : Bool) (addr len a : ℕ) → userRangeOk (memOf (store f book) n) write addr len ≡ true → addr ≤ a → a < addr + len
-    → cellOk write (memOf (store g book) n a) ≡ true
-range-cell f g book n write addr len a e l h =
-    cell-allowed (store g book) n a write ∙ sym (cell-allowed (store f book) n a write) ∙ cell-page (store f book) n a write ∙ range-means (memOf (store f book) n) write addr len e .each a l h
+  -- each of its addresses may be read, or written, whatever the frames hold by now
+  pub range-cell : (f g book : List ℕ) (n : ℕ) (write : Bool) (addr len a : ℕ) → userRangeOk setup (memOf (store f book) n) write addr len ≡ true → addr ≤ a → a < addr + len
+      → cellOk write (memOf (store g book) n a) ≡ true
+  range-cell f g book n write addr len a e l h =
+      cell-allowed (store g book) n a write ∙ sym (cell-allowed (store f book) n a write) ∙ cell-page (store f book) n a write ∙ range-means setup (memOf (store f book) n) write addr len e .each a l h
 
 -- ---- one byte
 
 -- where one byte of a page can be read, each further one can
-pub range-along : (mem : Mem) (a i : ℕ) → userRangeOk mem false a 1 ≡ true → a % 4096 + i < 4096 → userRangeOk mem false (a + i) 1 ≡ true
-range-along mem a i e h =
-    let top = range-means mem false a 1 e .top in
+pub range-along : (setup : Setup) (ok : SetupOk setup) (mem : Mem) (a i : ℕ) → userRangeOk setup mem false a 1 ≡ true → a % 4096 + i < 4096 → userRangeOk setup mem false (a + i) 1 ≡ true
+range-along setup ok mem a i e h =
+    let top = range-means setup mem false a 1 e .top in
     let q : pageDown (a + i) ≡ pageDown a = omega arith in
-    range-one mem (a + i) (omega arith) ∙ ap (λ (p : ℕ). cellOk false (mem p)) q ∙ sym (range-one mem a (omega arith)) ∙ e
+    range-one setup mem (a + i) (omega arith) ∙ ap (λ (p : ℕ). cellOk false (mem p)) q ∙ sym (range-one setup mem a (omega arith)) ∙ e

@@ -4,12 +4,13 @@
 ghost use mathlib.Core.Path.{_≡_};
 ghost use mathlib.Core.List.{List};
 ghost use Prim.Native.Nat.{ℕ};
-ghost use Rattle.spec.specs.Numbers.{pageDown};
+ghost use Rattle.spec.specs.Numbers.{SetupOk, pageDown};
 ghost use Rattle.spec.specs.Book.{frameOf};
 ghost use Rattle.spec.specs.Frames.{memOf};
 ghost use Rattle.spec.specs.Access.{cellOk, userRangeOk};
 ghost use Rattle.sound.specs.Table.{Ready};
 ghost use Rattle.book.specs.Lent.{foundOf, store};
+use spec::Setup;
 
 // The frame of the page that holds an address. The table answers; the book is there for the contract alone.
 pub fn frame_at(
@@ -48,6 +49,7 @@ fn user_page_ok(
 // Whether user mode could make the access to every byte from `addr` up to `addr + len`. A range of no bytes is fine if it's within
 // the user address space. The first page that isn't mapped for the access ends it.
 pub fn user_range_ok(
+    setup: Setup,
     book: &[u64],
     tags: &[u64; 272],
     bases: &[u64; 273],
@@ -58,12 +60,14 @@ pub fn user_range_ok(
     write: bool,
 ) -> bool
     requires { ⌜ Ready (now book) (now tags) (now bases) (now table) ⌝ }
-    ensures { λ r. ⌜ ((frames : List ℕ) → r ≡ userRangeOk (memOf (store frames (now (book .entry))) number) write addr len) ⌝ }
+    requires { ⌜ SetupOk setup ⌝ }
+    ensures { λ r. ⌜ ((frames : List ℕ) → r ≡ userRangeOk setup (memOf (store frames (now (book .entry))) number) write addr len) ⌝ }
 {
-    if addr > spec::UADDRTOP {
+    let top = setup.uaddrtop;
+    if addr > top {
         return false;
     }
-    if len > spec::UADDRTOP - addr {
+    if len > top - addr {
         return false;
     }
     if len == 0 {

@@ -14,6 +14,7 @@ use Rattle.spec.specs.Sound.{bssOk}
 use Rattle.spec.specs.declared.VirtRange.{VirtRange}
 use Rattle.spec.specs.declared.UserSegment.{UserSegment}
 use Rattle.spec.proofs.Bools.{split}
+use Rattle.spec.specs.declared.Setup.{Setup}
 use Rattle.records.specs.Records.{imageTest, shaped}
 
 -- the code's `a <= b` is the specification's `not (b below a)`
@@ -33,19 +34,20 @@ module _ {A : Type 0} (t : A → Bool) (l : List A) (i : ℕ) where
   pub all-end : length l ≤ i → all t (drop i l) ≡ true
   all-end h = rw (drop-of-length-le l h)
 
-module _ (low : ℕ) (bss : VirtRange) (l : List UserSegment) (i : ℕ) (h : i < length l) where
-  pub shaped-stack : sameSegment (getD l i zeroSegment) stack ≡ true → shaped low bss (drop i l) ≡ (all unused (drop (i + 1) l) && bssOk low bss)
-  shaped-stack e = rw (add-one, drop-cons l i zeroSegment h, e)
+module _ (setup : Setup) where
+  module _ (low : ℕ) (bss : VirtRange) (l : List UserSegment) (i : ℕ) (h : i < length l) where
+    pub shaped-stack : sameSegment (getD l i zeroSegment) (stack setup) ≡ true → shaped setup low bss (drop i l) ≡ (all unused (drop (i + 1) l) && bssOk setup low bss)
+    shaped-stack e = rw (add-one, drop-cons l i zeroSegment h, e)
 
-  pub shaped-stop : sameSegment (getD l i zeroSegment) stack ≡ false → imageTest low (getD l i zeroSegment) ≡ false → shaped low bss (drop i l) ≡ false
-  shaped-stop e f = rw (drop-cons l i zeroSegment h, e, f)
+    pub shaped-stop : sameSegment (getD l i zeroSegment) (stack setup) ≡ false → imageTest setup low (getD l i zeroSegment) ≡ false → shaped setup low bss (drop i l) ≡ false
+    shaped-stop e f = rw (drop-cons l i zeroSegment h, e, f)
 
-  pub shaped-go : sameSegment (getD l i zeroSegment) stack ≡ false → imageTest low (getD l i zeroSegment) ≡ true
-      → shaped low bss (drop i l) ≡ shaped (getD l i zeroSegment .range .end) bss (drop (i + 1) l)
-  shaped-go e f = rw (add-one, drop-cons l i zeroSegment h, e, f)
+    pub shaped-go : sameSegment (getD l i zeroSegment) (stack setup) ≡ false → imageTest setup low (getD l i zeroSegment) ≡ true
+        → shaped setup low bss (drop i l) ≡ shaped setup (getD l i zeroSegment .range .end) bss (drop (i + 1) l)
+    shaped-go e f = rw (add-one, drop-cons l i zeroSegment h, e, f)
 
-pub shaped-end : (low : ℕ) (bss : VirtRange) (l : List UserSegment) (i : ℕ) → length l ≤ i → shaped low bss (drop i l) ≡ false
-shaped-end low bss l i h = rw (drop-of-length-le l h)
+  pub shaped-end : (low : ℕ) (bss : VirtRange) (l : List UserSegment) (i : ℕ) → length l ≤ i → shaped setup low bss (drop i l) ≡ false
+  shaped-end low bss l i h = rw (drop-of-length-le l h)
 
 -- the length of an array of structs, from what owning it tells
 pub length-mapped : (X Y : Type 0) (f : X → Y) (l : List X) (n : ℕ) → length (map f l) ≡ n → length l ≡ n

@@ -8,31 +8,32 @@ use mathlib.Core.Bool.{Bool, true, false, not, _&&_, _||_}
 use mathlib.Core.List.{List, [], _∷_}
 use lib.ListN.{length, getD}
 use Rattle.spec.specs.Tests.{_is_, _below_, _above_, _⇒_else_, all}
-use Rattle.spec.specs.Numbers.{utzero, limit}
+use Rattle.spec.specs.Numbers.{limit}
 use Rattle.spec.specs.Book.{sameSegment, unused, lives, stack}
 use Rattle.spec.specs.Sound.{bssOk}
 use Rattle.spec.specs.declared.VirtRange.{VirtRange}
 use Rattle.spec.specs.declared.UserSegment.{UserSegment}
 use Rattle.spec.specs.declared.Proc.{Proc}
 use Rattle.spec.specs.declared.Procs.{Procs}
+use Rattle.spec.specs.declared.Setup.{Setup}
 
 -- a segment of the image, from `low` on
-abbrev pub imageOk : ℕ → UserSegment → Bool
-imageOk low g =
+abbrev pub imageOk : Setup → ℕ → UserSegment → Bool
+imageOk setup low g =
     g .range .start % 4096 is 0 && g .range .end % 4096 is 0 && g .range .start below g .range .end
-    && not (g .range .start below low) && not (g .range .end above limit)
+    && not (g .range .start below low) && not (g .range .end above limit setup)
 
 -- and with a permission
-abbrev pub imageTest : ℕ → UserSegment → Bool
-imageTest low g = imageOk low g && not (g .perm below 1) && not (g .perm above 3)
+abbrev pub imageTest : Setup → ℕ → UserSegment → Bool
+imageTest setup low g = imageOk setup low g && not (g .perm below 1) && not (g .perm above 3)
 
 -- such segments from `low` on; then the stack; then unused places
-abbrev pub shaped : ℕ → VirtRange → List UserSegment → Bool
-shaped low bss [] = false
-shaped low bss (g ∷ gs) =
-    sameSegment g stack ⇒ all unused gs && bssOk low bss else
-    (imageTest low g && shaped (g .range .end) bss gs)
+abbrev pub shaped : Setup → ℕ → VirtRange → List UserSegment → Bool
+shaped setup low bss [] = false
+shaped setup low bss (g ∷ gs) =
+    sameSegment g (stack setup) ⇒ all unused gs && bssOk setup low bss else
+    (imageTest setup low g && shaped setup (g .range .end) bss gs)
 
 -- a living process's record, or a dead one's
-abbrev pub passes : Proc → Bool
-passes p = shaped utzero (p .bss) (p .segments) || not (lives p)
+abbrev pub passes : Setup → Proc → Bool
+passes setup p = shaped setup (setup .utzero) (p .bss) (p .segments) || not (lives p)

@@ -5,18 +5,14 @@ ghost use mathlib.Core.Path.{_≡_};
 ghost use Prim.Native.Nat.{_≤_};
 ghost use lib.ListN.{drop};
 ghost use Rattle.spec.specs.Tests.{_is_, all};
-ghost use Rattle.spec.specs.Numbers.{utzero};
 ghost use Rattle.spec.specs.Book.{sameSegment, unused, lives as livesOf, stack};
 ghost use Rattle.spec.specs.Sound.{bssOk};
 ghost use Rattle.records.specs.Records.{imageTest, shaped, passes};
 use spec::DATA;
-use spec::LIMIT;
 use spec::Proc;
 use spec::Procs;
+use spec::Setup;
 use spec::TEXT;
-use spec::USTKSIZE;
-use spec::USTKTOP;
-use spec::UTZERO;
 use spec::UserSegment;
 use spec::VirtRange;
 
@@ -28,10 +24,14 @@ fn is_unused(s: UserSegment) -> bool
 }
 
 // The whole stack as data.
-fn is_stack(s: UserSegment) -> bool
-    ensures { λ r. ⌜ r ≡ sameSegment s stack ⌝ }
+fn is_stack(setup: Setup, s: UserSegment) -> bool
+    ensures { λ r. ⌜ r ≡ sameSegment s (stack setup) ⌝ }
 {
-    (s.range.start == USTKTOP - USTKSIZE) & (s.range.end == USTKTOP) & (s.perm == DATA)
+    let start = s.range.start;
+    let end = s.range.end;
+    let perm = s.perm;
+    let top = setup.ustktop;
+    (start == setup::stack_start(setup)) & (end == top) & (perm == DATA)
 }
 
 // Whether all places of a record from `from` on are unused.
@@ -74,50 +74,54 @@ pub fn lives(p: Proc) -> bool
 }
 
 // A segment of the image: page-aligned, non-empty, from `low` on and at most at limit, and with a permission.
-fn image_ok(low: u64, s: UserSegment) -> bool
-    ensures { λ r. ⌜ r ≡ imageTest low s ⌝ }
+fn image_ok(setup: Setup, low: u64, s: UserSegment) -> bool
+    ensures { λ r. ⌜ r ≡ imageTest setup low s ⌝ }
 {
     let start = s.range.start;
     let end = s.range.end;
+    let perm = s.perm;
+    let limit = setup::limit(setup);
     (start % 4096 == 0)
         & (end % 4096 == 0)
         & (start < end)
         & (low <= start)
-        & (end <= LIMIT)
-        & (TEXT <= s.perm)
-        & (s.perm <= DATA)
+        & (end <= limit)
+        & (TEXT <= perm)
+        & (perm <= DATA)
 }
 
 // The bss, where the image ends at `low`. Its start is rounded up only once it is known to be at most limit.
-fn bss_ok(low: u64, bss: VirtRange) -> bool
-    ensures { λ r. ⌜ r ≡ bssOk low bss ⌝ }
+fn bss_ok(setup: Setup, low: u64, bss: VirtRange) -> bool
+    ensures { λ r. ⌜ r ≡ bssOk setup low bss ⌝ }
 {
     let start = bss.start;
     let end = bss.end;
-    if LIMIT < end {
+    let utzero = setup.utzero;
+    let limit = setup::limit(setup);
+    if limit < end {
         return false;
     }
     if end < start {
         return false;
     }
     let first = (start + 4095) / 4096 * 4096;
-    (UTZERO <= start) & (end % 4096 == 0) & (low <= first)
+    (utzero <= start) & (end % 4096 == 0) & (low <= first)
 }
 
 // Whether a record is a living process's: image segments, ascending and disjoint, then the stack, then unused places; and the bss.
-fn is_shaped(p: Proc) -> bool
-    ensures { λ r. ⌜ r ≡ shaped utzero (p .bss) (p .segments) ⌝ }
+fn is_shaped(setup: Setup, p: Proc) -> bool
+    ensures { λ r. ⌜ r ≡ shaped setup (setup .utzero) (p .bss) (p .segments) ⌝ }
 {
     let segments = p.segments;
     let bss = p.bss;
-    let mut low = UTZERO;
+    let mut low = setup.utzero;
     let mut i = 0;
     while i < 16 {
         let s = segments[i];
-        if is_stack(s) {
-            return rest_unused(segments, i + 1) & bss_ok(low, bss);
+        if is_stack(setup, s) {
+            return rest_unused(segments, i + 1) & bss_ok(setup, low, bss);
         }
-        if !image_ok(low, s) {
+        if !image_ok(setup, low, s) {
             return false;
         }
         low = s.range.end;
@@ -127,23 +131,23 @@ fn is_shaped(p: Proc) -> bool
 }
 
 // A record is a living process's, or a dead one's.
-fn record_ok(p: Proc) -> bool
-    ensures { λ r. ⌜ r ≡ passes p ⌝ }
+fn record_ok(setup: Setup, p: Proc) -> bool
+    ensures { λ r. ⌜ r ≡ passes setup p ⌝ }
 {
-    if is_shaped(p) {
+    if is_shaped(setup, p) {
         return true;
     }
     !lives(p)
 }
 
 // Whether all records are.
-pub fn records_ok(procs: Procs) -> bool
-    ensures { λ r. ⌜ r ≡ all passes (procs .all) ⌝ }
+pub fn records_ok(setup: Setup, procs: Procs) -> bool
+    ensures { λ r. ⌜ r ≡ all (passes setup) (procs .all) ⌝ }
 {
     let mut i = 0;
     while i < 16 {
         let p = procs.all[i];
-        if !record_ok(p) {
+        if !record_ok(setup, p) {
             return false;
         }
         i += 1;

@@ -3,10 +3,9 @@ ghost use Prim.Native.Nat.{_≤_};
 ghost use lib.ListN.{length};
 use crate::texts::put_bytes;
 use crate::texts::put_named;
-use script::put;
+use script::room::put;
 use spec::Answer;
 use spec::UserRegs;
-use spec::VirtRange;
 
 // Puts the registers that a program is entered with.
 fn put_regs(out: &mut [u8], r: UserRegs) -> usize
@@ -72,10 +71,10 @@ pub fn put_string(out: &mut [u8], a: Answer, bytes: &[u8]) -> usize
 }
 
 // Puts the answer of the break's rule: its value, and the bss's start and end.
-pub fn put_break(out: &mut [u8], value: u64, bss: VirtRange) -> usize
+pub fn put_break(out: &mut [u8], value: u64, start: u64, end: u64) -> usize
     ensures { λ n. ⌜ n ≤ length (now (out .exit)) ⌝ }
 {
     let a = put_named(out, 0, b"ok ", value);
-    let b = put_named(out, a, b" ", bss.start);
-    put_named(out, b, b" ", bss.end)
+    let b = put_named(out, a, b" ", start);
+    put_named(out, b, b" ", end)
 }

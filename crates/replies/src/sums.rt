@@ -2,7 +2,7 @@
 // whose sums agree after each call hold the same memory.
 ghost use Prim.Native.Nat.{_≤_};
 ghost use lib.ListN.{length};
-use script::put;
+use script::room::put;
 use spec::Proc;
 use spec::Procs;
 use spec::UserSegment;

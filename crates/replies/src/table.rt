@@ -3,7 +3,7 @@
 ghost use Prim.Native.Nat.{_≤_};
 ghost use lib.ListN.{length};
 use crate::texts::put_named;
-use script::put;
+use script::room::put;
 use spec::Found;
 use spec::Proc;
 use spec::UserSegment;
@@ -74,7 +74,7 @@ fn put_pages(out: &mut [u8], s: Shown, book: &[u64], number: u64, r: VirtRange) 
     let mem::Rounded::To(start) = mem::checked_page_up(r.start) else {
         return s;
     };
-    let end = least(r.end, spec::UADDRTOP);
+    let end = least(r.end, spec::MAX_TOP);
     let mut at = s.at;
     let mut pages = s.pages;
     let mut page = start;

@@ -1,7 +1,7 @@
 // Numbers and bytes as text.
 ghost use Prim.Native.Nat.{_≤_};
 ghost use lib.ListN.{length};
-use script::put;
+use script::room::put;
 
 // Puts a name and a number in decimal.
 pub fn put_named(out: &mut [u8], at: usize, name: &[u8], n: u64) -> usize

@@ -1,8 +1,7 @@
 // Bytes as a script writes them: pairs of hex digits, `-` for none, `'` and the bytes themselves, or `@` and a file's name.
 ghost use Prim.Native.Nat.{_+_, _≤_};
 ghost use lib.ListN.{length};
-use crate::room::part;
-use crate::room::put;
+use crate::room;
 
 // The longest file. Who takes a file's bytes lends one byte more, by which a longer file is seen to be one.
 pub const FILE_MAX: usize = 2097152;
@@ -95,14 +94,16 @@ fn file(dst: &mut [u8], path: &[u8]) -> Taken {
 }
 
 // Puts the bytes that a word gives at the start of `dst`.
-pub fn take(dst: &mut [u8], word: &[u8]) -> Taken {
+pub fn take(dst: &mut [u8], word: &[u8]) -> Taken
+    ensures { λ _. ⌜ length (now (dst .exit)) ≤ length (now (dst .entry)) ⌝ }
+{
     if word.len() == 0 {
         return Taken::Bad;
     }
     let first = word[0];
-    let behind = part(word, 1, word.len());
+    let behind = room::part(word, 1, word.len());
     if first == b'\'' {
-        return Taken::Size(put(dst, 0, behind));
+        return Taken::Size(room::put(dst, 0, behind));
     }
     if first == b'@' {
         return file(dst, behind);

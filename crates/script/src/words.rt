@@ -13,8 +13,8 @@ pub enum Number {
 }
 
 // The numbers behind a line's first word. Those that were not asked for are 0.
-pub enum Three {
-    Are(u64, u64, u64),
+pub enum Four {
+    Are(u64, u64, u64, u64),
     Bad,
 }
 
@@ -33,7 +33,9 @@ fn space(line: &[u8]) -> usize
 }
 
 // The word that starts at place `at`: the bytes up to the next space.
-pub fn word_at(line: &[u8], at: usize) -> &[u8] {
+pub fn word_at(line: &[u8], at: usize) -> &[u8]
+    ensures { λ r. ⌜ length (now r) ≤ length (now (line .entry)) ⌝ }
+{
     let rest = part(line, at, line.len());
     part(rest, 0, space(rest))
 }
@@ -67,7 +69,9 @@ pub fn place(line: &[u8], k: usize) -> usize
 }
 
 // Word `k`, counted from 0, or no bytes where there is none.
-pub fn word(line: &[u8], k: usize) -> &[u8] {
+pub fn word(line: &[u8], k: usize) -> &[u8]
+    ensures { λ r. ⌜ length (now r) ≤ length (now (line .entry)) ⌝ }
+{
     word_at(line, place(line, k))
 }
 
@@ -138,27 +142,27 @@ pub fn number_at(line: &[u8], at: usize) -> Number {
     decimal(word_at(line, at))
 }
 
-// Word `k` as a number.
-pub fn word_number(line: &[u8], k: usize) -> Number {
+// Word `k` as a number, or 0 for one behind the last that is asked for.
+fn number_to(line: &[u8], k: usize, last: usize) -> Number {
+    if last < k {
+        return Number::Is(0);
+    }
     decimal(word(line, k))
 }
 
-// Words 1 to `count`, at most 3, as numbers.
-pub fn numbers(line: &[u8], count: usize) -> Three {
-    let Number::Is(a) = word_number(line, 1) else {
-        return Three::Bad;
+// Words 1 to `last`, at most 4, as numbers.
+pub fn numbers(line: &[u8], last: usize) -> Four {
+    let Number::Is(a) = number_to(line, 1, last) else {
+        return Four::Bad;
     };
-    if count < 2 {
-        return Three::Are(a, 0, 0);
-    }
-    let Number::Is(b) = word_number(line, 2) else {
-        return Three::Bad;
+    let Number::Is(b) = number_to(line, 2, last) else {
+        return Four::Bad;
     };
-    if count < 3 {
-        return Three::Are(a, b, 0);
-    }
-    let Number::Is(c) = word_number(line, 3) else {
-        return Three::Bad;
+    let Number::Is(c) = number_to(line, 3, last) else {
+        return Four::Bad;
     };
-    Three::Are(a, b, c)
+    let Number::Is(d) = number_to(line, 4, last) else {
+        return Four::Bad;
+    };
+    Four::Are(a, b, c, d)
 }

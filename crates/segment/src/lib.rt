@@ -5,6 +5,7 @@ ghost use mathlib.Core.Path.{_≡_};
 ghost use mathlib.Core.Option.{some};
 ghost use Rattle.spec.specs.Segment.{ibrk};
 ghost use Rattle.segment.specs.Rule.{optOf, breakOf};
+use spec::Setup;
 use spec::VirtRange;
 
 // A process's bss, or none until it's set: `Option<VirtRange>`.
@@ -43,11 +44,12 @@ fn refused(error: u64, bss: VirtRange) -> Break
 }
 
 // `ibrk`'s rule for a bss that is set.
-fn moved(range: VirtRange, addr: u64, free: u64) -> Break
-    ensures { λ r. ⌜ breakOf r ≡ ibrk (some range) addr free ⌝ }
+fn moved(setup: Setup, range: VirtRange, addr: u64, free: u64) -> Break
+    ensures { λ r. ⌜ breakOf r ≡ ibrk setup (some range) addr free ⌝ }
 {
     let start = range.start;
     let end = range.end;
+    let limit = setup::limit(setup);
     if addr == 0 {
         return Break {
             error: 0,
@@ -62,7 +64,7 @@ fn moved(range: VirtRange, addr: u64, free: u64) -> Break
         return refused(spec::ENOVMEM, range);
     };
     // One guard page is kept below the stack, so that it can't run into the bss.
-    if newtop > spec::LIMIT {
+    if newtop > limit {
         return refused(spec::ESOVERLAP, range);
     }
     let bss = VirtRange { start, end: newtop };
@@ -78,8 +80,8 @@ fn moved(range: VirtRange, addr: u64, free: u64) -> Break
 
 // Move the end of `bss` to `addr`, rounded up to a page, as Plan 9's ibrk, if `free` frames hold the new pages. An `addr` of 0
 // answers the bss's start. On failure nothing changes.
-pub fn ibrk(bss: Bss, addr: u64, free: u64) -> Break
-    ensures { λ r. ⌜ breakOf r ≡ ibrk (optOf bss) addr free ⌝ }
+pub fn ibrk(setup: Setup, bss: Bss, addr: u64, free: u64) -> Break
+    ensures { λ r. ⌜ breakOf r ≡ ibrk setup (optOf bss) addr free ⌝ }
 {
     match bss {
         Bss::Unset => Break {
@@ -87,6 +89,6 @@ pub fn ibrk(bss: Bss, addr: u64, free: u64) -> Break
             value: 0,
             bss: Bss::Unset,
         },
-        Bss::Set(range) => moved(range, addr, free),
+        Bss::Set(range) => moved(setup, range, addr, free),
     }
 }

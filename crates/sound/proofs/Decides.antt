@@ -10,7 +10,9 @@ use lib.ListN.{length, getD, replicate}
 use borrow.Author.Tests.{ltb-true, ltb-false, eqb-false, ne-eqb, not-true}
 use Rattle.spec.specs.Tests.{_is_, _isnt_, all, allBelow}
 use Rattle.spec.specs.Book.{wordOf, pageOf, ownerOf, permOf, valid, frameOf, permIn, bookPerm, free, zeroSegment, zeroProc, lives, permAt, procAt, piecesOf}
+use Rattle.spec.specs.Numbers.{SetupOk}
 use Rattle.spec.specs.Sound.{soundBook, Word, Sound}
+use Rattle.spec.specs.declared.Setup.{Setup}
 use Rattle.spec.specs.declared.UserSegment.{UserSegment}
 use Rattle.spec.specs.declared.Proc.{Proc}
 use Rattle.spec.specs.declared.Procs.{Procs}
@@ -68,11 +70,11 @@ free-matched b word T m = omega (arith, free-used b, counted (λ k. getD b k 0 i
 
 -- ---- records that a sound book goes with pass
 
-pub records-of : (b : List ℕ) (ps : Procs) → Whole ps → Sound b ps → all passes (ps .all) ≡ true
-records-of b ps w s = all-test passes zeroProc (ps .all) (λ k h. let e : k + 1 - 1 ≡ k = omega arith in rw e at (each (k + 1) (valid-test (k + 1) (omega arith) (omega (arith, w .records)))))
+pub records-of : {setup : Setup} (b : List ℕ) (ps : Procs) → Whole ps → Sound setup b ps → all (passes setup) (ps .all) ≡ true
+records-of {setup} b ps w s = all-test (passes setup) zeroProc (ps .all) (λ k h. let e : k + 1 - 1 ≡ k = omega arith in rw e at (each (k + 1) (valid-test (k + 1) (omega arith) (omega (arith, w .records)))))
   where
-    each : (n : ℕ) → valid n ≡ true → passes (procAt ps n) ≡ true
-    each n v = shape-pass p (s .shape n v) (λ l. each-made Mapped (p .segments) mapped)
+    each : (n : ℕ) → valid n ≡ true → passes setup (procAt ps n) ≡ true
+    each n v = shape-pass setup p (s .shape n v) (λ l. each-made Mapped (p .segments) mapped)
       where
         p : Proc
         p = procAt ps n
@@ -81,12 +83,12 @@ records-of b ps w s = all-test passes zeroProc (ps .all) (λ k h. let e : k + 1 
         mapped j h some-page =
             let g = getD (p .segments) j zeroSegment in
             let hj : j < 16 = omega (arith, w .each (n - 1) .segments) in
-            sound-between b ps w s n (g .range .start) (g .perm) v
-            (place-gives p (w .each (n - 1)) (parts-of p (w .each (n - 1)) (s .shape n v)) j (g .range .start) hj (within-test (g .range .start) (g .range .end) (g .range .start) (omega arith) some-page))
+            sound-between setup b ps w s n (g .range .start) (g .perm) v
+            (place-gives setup p (w .each (n - 1)) (parts-of setup (s .accepted) p (w .each (n - 1)) (s .shape n v)) j (g .range .start) hj (within-test (g .range .start) (g .range .end) (g .range .start) (omega arith) some-page))
 
 -- ---- against a plan that is laid
 
-module _ {ps : Procs} {tags bases : List ℕ} {total : ℕ} (m : Made ps tags bases total) (b : List ℕ) where
+module _ {setup : Setup} {ps : Procs} {tags bases : List ℕ} {total : ℕ} (m : Made setup ps tags bases total) (b : List ℕ) where
   abbrev Full : Type 0
   Full = (t : ℕ) → t < getD bases 272 0 → frameWith b (length b) (nth tags bases t) ≡ none → ⊥
 
@@ -101,8 +103,8 @@ module _ {ps : Procs} {tags bases : List ℕ} {total : ℕ} (m : Made ps tags ba
         let p = plan m most in
         (rank tags bases (getD b i 0) (f .0), rank-below tags bases p (getD b i 0) (f .0) (f .1) (f .2), rank-word tags bases p (getD b i 0) (f .0) (f .1) (f .2))
 
-    good : (i : ℕ) → (getD b i 0 ≡ 0 → ⊥) → Word (getD b i 0)
-    good i nz = let r = ranked i nz in subst Word (r .2) (rank-good m (r .0) (r .1))
+    good : (i : ℕ) → (getD b i 0 ≡ 0 → ⊥) → Word setup (getD b i 0)
+    good i nz = let r = ranked i nz in subst (Word setup) (r .2) (rank-good m (r .0) (r .1))
 
     gives : (i : ℕ) → (getD b i 0 ≡ 0 → ⊥) → permAt (piecesOf (procAt ps (ownerOf (getD b i 0)))) (pageOf (getD b i 0)) ≡ some (permOf (getD b i 0))
     gives i nz = let r = ranked i nz in subst (λ (w : ℕ). permAt (piecesOf (procAt ps (ownerOf w))) (pageOf w) ≡ some (permOf w)) (r .2) (rank-gives m (r .0) (r .1))
@@ -136,11 +138,11 @@ module _ {ps : Procs} {tags bases : List ℕ} {total : ℕ} (m : Made ps tags ba
             absurd (frame-none b n page e (o .0) (record { used = λ z. omega (arith, w, valid-means n v .0); owner = ap ownerOf w ∙ u .1; page = ap pageOf w ∙ u .0 }))
         go (some k) e o h = ap (permIn b) e ∙ sym (owned n page k (frame-found b n page k e .1))
 
-    pub tells : Sound b ps
-    tells = record { words = good; once = once-words b (λ k nz. good k nz .owner .0) once; shape = λ n v. pass-shape (procAt ps n) (m .whole .each (n - 1)) (m .ok n v); exact = exact }
+    pub tells : Sound setup b ps
+    tells = record { accepted = m .accepted; words = good; once = once-words b (λ k nz. good k nz .owner .0) once; shape = λ n v. pass-shape setup (procAt ps n) (m .whole .each (n - 1)) (m .ok n v); exact = exact }
 
   -- and a sound book passes
-  module _ (s : Sound b ps) where
+  module _ (s : Sound setup b ps) where
     word-rank : (i : ℕ) → (getD b i 0 ≡ 0 → ⊥) → Ranked (getD b i 0)
     word-rank i nz =
         let w : ℕ = getD b i 0 in
@@ -193,17 +195,18 @@ module _ (b tags bases table : List ℕ) (tab : Tabled b tags bases table (lengt
   full-test : ((t : ℕ) → t < getD bases 272 0 → frameWith b (length b) (nth tags bases t) ≡ none → ⊥) → allBelow (getD bases 272 0) (marked table) ≡ true
   full-test f = below-test (getD bases 272 0) (marked table) (λ t h. ap not (ne-eqb (getD table t 0) 0 (λ z. f t h (entry-none (frameWith b (length b) (nth tags bases t)) (sym (tab t h) ∙ z)))))
 
-pub made : (ps : Procs) → Whole ps → all passes (ps .all) ≡ true → (tags bases : List ℕ) (total : ℕ) → LaidAll ps tags bases total → Made ps tags bases total
-made ps w e tags bases total laid = record {
+pub made : (setup : Setup) → SetupOk setup → (ps : Procs) → Whole ps → all (passes setup) (ps .all) ≡ true → (tags bases : List ℕ) (total : ℕ) → LaidAll ps tags bases total → Made setup ps tags bases total
+made setup ok ps w e tags bases total laid = record {
+  accepted = ok;
   whole = w;
-  ok = λ n v. all-at passes zeroProc (ps .all) e (n - 1) (omega (arith, w .records, valid-means n v .0, valid-means n v .1));
+  ok = λ n v. all-at (passes setup) zeroProc (ps .all) e (n - 1) (omega (arith, w .records, valid-means n v .0, valid-means n v .1));
   laid = laid;
 }
 
 -- what it answers decides
-pub decided : (ps : Procs) (tags bases : List ℕ) (total : ℕ) → Made ps tags bases total → total ≤ 1024
+pub decided : {setup : Setup} (ps : Procs) (tags bases : List ℕ) (total : ℕ) → Made setup ps tags bases total → total ≤ 1024
     → (b table : List ℕ) → Planned b tags bases (length b) → Tabled b tags bases table (length b) → (r : Bool) → r ≡ allBelow total (marked table)
-    → (r ≡ true → Sound b ps) × (Sound b ps → r ≡ true)
+    → (r ≡ true → Sound setup b ps) × (Sound setup b ps → r ≡ true)
 decided ps tags bases total m most b table planned tab r q =
     let d : total ≡ getD bases 272 0 = sym (base-total m) in (
       λ x. tells m b most planned (full-fact b tags bases table tab (ap (λ (n : ℕ). allBelow n (marked table)) (sym d) ∙ sym q ∙ x)),
@@ -216,5 +219,5 @@ same-answer false true f g = g refl
 same-answer false false f g = refl
 
 -- an answer that is yes exactly of a sound book is the specification's
-pub sound-exact : (b : List ℕ) (ps : Procs) → Whole ps → (r : Bool) → (r ≡ true → Sound b ps) × (Sound b ps → r ≡ true) → r ≡ soundBook b ps
-sound-exact b ps w r h = same-answer r (soundBook b ps) (λ e. facts-sound b ps w (h .0 e)) (λ e. h .1 (sound-facts b ps w e))
+pub sound-exact : (setup : Setup) → SetupOk setup → (b : List ℕ) (ps : Procs) → Whole ps → (r : Bool) → (r ≡ true → Sound setup b ps) × (Sound setup b ps → r ≡ true) → r ≡ soundBook setup b ps
+sound-exact setup ok b ps w r h = same-answer r (soundBook setup b ps) (λ e. facts-sound setup b ps w (h .0 e)) (λ e. h .1 (sound-facts setup ok b ps w e))

@@ -5,6 +5,7 @@ use mathlib.Core.List.{List}
 use lib.ListN.{length, getD, replicate}
 use Rattle.spec.specs.Book.{ownerOf, pageOf, free}
 use Rattle.spec.specs.Sound.{Sound}
+use Rattle.spec.specs.declared.Setup.{Setup}
 use Rattle.spec.specs.declared.Procs.{Procs}
 use Rattle.plan.specs.Plan.{nth, rank}
 use Rattle.plan.proofs.Within.{rank-below, rank-word}
@@ -20,8 +21,8 @@ pub blank-zeros : (n t : ℕ) → getD {A = ℕ} (replicate n 0) t 0 ≡ 0
 blank-zeros n t = getD-same n t 0
 
 -- what the pass leaves of a sound book
-pub ready : (ps : Procs) (tags bases : List ℕ) (total : ℕ) → Made ps tags bases total → total ≤ 1024
-    → (b table : List ℕ) → Planned b tags bases (length b) → Tabled b tags bases table (length b) → Sound b ps → Ready b tags bases table
+pub ready : {setup : Setup} (ps : Procs) (tags bases : List ℕ) (total : ℕ) → Made setup ps tags bases total → total ≤ 1024
+    → (b table : List ℕ) → Planned b tags bases (length b) → Tabled b tags bases table (length b) → Sound setup b ps → Ready b tags bases table
 ready ps tags bases total m most b table planned tab s = record { plan = plan m most; planned = planned; once = s .once; tabled = tab; full = full-of m b s }
 
 module _ (b tags bases table : List ℕ) (r : Ready b tags bases table) where

@@ -8,9 +8,10 @@ use mathlib.Core.List.{List}
 use lib.ListN.{length, getD}
 use borrow.Author.Tests.{eqb-true, eqb-false}
 use Rattle.spec.specs.Tests.{_is_}
-use Rattle.spec.specs.Numbers.{utzero}
 use Rattle.spec.specs.Book.{zeroSegment, wordOf, pageOf, ownerOf, permOf, valid, inSegment, permAt, procAt, piecesOf}
+use Rattle.spec.specs.Numbers.{SetupOk}
 use Rattle.spec.specs.Sound.{Word}
+use Rattle.spec.specs.declared.Setup.{Setup}
 use Rattle.spec.specs.declared.UserSegment.{UserSegment}
 use Rattle.spec.specs.declared.Procs.{Procs}
 use Rattle.spec.proofs.Bools.{split, within-means, within-test}
@@ -33,7 +34,7 @@ pub record Apart (g : UserSegment) (n w r : ℕ) : Type 0 where
   pub perm-is : permOf w ≡ g .perm
   pub to : g .range .start + 4096 * r < g .range .end
 
-take-apart : (g : UserSegment) (n w r : ℕ) → Part g → Perm g → n ≤ 16 → r < size g → w ≡ tag n g + 4096 * r → Apart g n w r
+take-apart : {setup : Setup} (g : UserSegment) (n w r : ℕ) → Part setup g → Perm g → n ≤ 16 → r < size g → w ≡ tag n g + 4096 * r → Apart g n w r
 take-apart g n w r p q hn hr e = record {
   owner-is = omega (arith, p .start-page, q .high);
   page-is = omega (arith, p .start-page, q .high);
@@ -42,12 +43,13 @@ take-apart g n w r p q hn hr e = record {
 }
 
 -- records that pass, and their plan
-pub record Made (ps : Procs) (tags bases : List ℕ) (total : ℕ) : Type 0 where
+pub record Made (setup : Setup) (ps : Procs) (tags bases : List ℕ) (total : ℕ) : Type 0 where
+  pub accepted : SetupOk setup
   pub whole : Whole ps
-  pub ok : (n : ℕ) → valid n ≡ true → passes (procAt ps n) ≡ true
+  pub ok : (n : ℕ) → valid n ≡ true → passes setup (procAt ps n) ≡ true
   pub laid : LaidAll ps tags bases total
 
-module _ {ps : Procs} {tags bases : List ℕ} {total : ℕ} (m : Made ps tags bases total) where
+module _ {setup : Setup} {ps : Procs} {tags bases : List ℕ} {total : ℕ} (m : Made setup ps tags bases total) where
   abbrev base : ℕ → ℕ
   base k = getD bases k 0
 
@@ -56,14 +58,14 @@ module _ {ps : Procs} {tags bases : List ℕ} {total : ℕ} (m : Made ps tags ba
   valid-owner : (k : ℕ) → k < 272 → valid (owner k) ≡ true
   valid-owner k h = valid-test (owner k) (omega arith) (omega arith)
 
-  facts : (n : ℕ) → valid n ≡ true → Parts (procAt ps n)
-  facts n v = pass-parts (procAt ps n) (m .whole .each (n - 1)) (m .ok n v)
+  facts : (n : ℕ) → valid n ≡ true → Parts setup (procAt ps n)
+  facts n v = pass-parts setup (m .accepted) (procAt ps n) (m .whole .each (n - 1)) (m .ok n v)
 
   perms : (n : ℕ) → valid n ≡ true → Each Perm (parts (procAt ps n))
-  perms n v = pass-perms (procAt ps n) (m .whole .each (n - 1)) (m .ok n v)
+  perms n v = pass-perms setup (procAt ps n) (m .whole .each (n - 1)) (m .ok n v)
 
-  fact : (k : ℕ) → k < 272 → Part (partAt ps k)
-  fact k h = each-part Part top-part (procAt ps (owner k)) (m .whole .each (owner k - 1) .segments) (facts (owner k) (valid-owner k h) .each) (k % 17) (omega arith)
+  fact : (k : ℕ) → k < 272 → Part setup (partAt ps k)
+  fact k h = each-part (Part setup) (top-part setup) (procAt ps (owner k)) (m .whole .each (owner k - 1) .segments) (facts (owner k) (valid-owner k h) .each) (k % 17) (omega arith)
 
   perm : (k : ℕ) → k < 272 → Perm (partAt ps k)
   perm k h =
@@ -122,7 +124,7 @@ module _ {ps : Procs} {tags bases : List ℕ} {total : ℕ} (m : Made ps tags ba
       )
 
   -- it is a sound book's word
-  pub rank-good : (t : ℕ) → t < base 272 → Word (nth tags bases t)
+  pub rank-good : (t : ℕ) → t < base 272 → Word setup (nth tags bases t)
   rank-good t h =
       let x = rank-of t h in
       let p = fact (x .k) (x .there) in
@@ -131,7 +133,7 @@ module _ {ps : Procs} {tags bases : List ℕ} {total : ℕ} (m : Made ps tags ba
       record {
         owner = (omega (arith, x .apart .owner-is), omega (arith, x .apart .owner-is, x .there));
         perm = (omega (arith, x .apart .perm-is, q .low some-page), omega (arith, x .apart .perm-is, q .high));
-        page = (omega (arith, x .apart .page-is, p .low some-page), omega (arith, x .apart .page-is, x .apart .to, p .high));
+        page = (omega (arith, x .apart .page-is, p .low some-page), omega (arith, x .apart .page-is, x .apart .to, p .inside some-page));
       }
 
   -- its page is its owner's, with its permission
@@ -140,7 +142,7 @@ module _ {ps : Procs} {tags bases : List ℕ} {total : ℕ} (m : Made ps tags ba
       let x = rank-of t h in
       let n : ℕ = owner (x .k) in
       ap (λ (x : ℕ). permAt (piecesOf (procAt ps x)) (pageOf (nth tags bases t))) (x .apart .owner-is)
-      ∙ part-gives (procAt ps n) (m .whole .each (n - 1)) (facts n (valid-owner (x .k) (x .there))) (perms n (valid-owner (x .k) (x .there))) (x .k % 17) (pageOf (nth tags bases t)) (omega arith) (x .inside)
+      ∙ part-gives setup (procAt ps n) (m .whole .each (n - 1)) (facts n (valid-owner (x .k) (x .there))) (perms n (valid-owner (x .k) (x .there))) (x .k % 17) (pageOf (nth tags bases t)) (omega arith) (x .inside)
       ∙ ap some (sym (x .apart .perm-is))
 
   -- and each page that a record calls for has a rank
@@ -148,7 +150,7 @@ module _ {ps : Procs} {tags bases : List ℕ} {total : ℕ} (m : Made ps tags ba
   gives-rank n page q v al e = (base k + r, below, word, rw (g .3) at (has-perm .high))
     where
       g : (j : ℕ) × (j < 17) × (inSegment page (part (procAt ps n) j) ≡ true) × (part (procAt ps n) j .perm ≡ q)
-      g = gives-part (procAt ps n) (m .whole .each (n - 1)) (facts n v) (perms n v) page q e
+      g = gives-part setup (procAt ps n) (m .whole .each (n - 1)) (facts n v) (perms n v) page q e
 
       k : ℕ
       k = 17 * (n - 1) + g .0
@@ -170,8 +172,8 @@ module _ {ps : Procs} {tags bases : List ℕ} {total : ℕ} (m : Made ps tags ba
       in-part : (part (procAt ps n) (g .0) .range .start ≤ page) × (page < part (procAt ps n) (g .0) .range .end)
       in-part = within-means (part (procAt ps n) (g .0) .range .start) (part (procAt ps n) (g .0) .range .end) page (g .2)
 
-      fits : Part (part (procAt ps n) (g .0))
-      fits = each-part Part top-part (procAt ps n) (m .whole .each (n - 1) .segments) (facts n v .each) (g .0) (g .1)
+      fits : Part setup (part (procAt ps n) (g .0))
+      fits = each-part (Part setup) (top-part setup) (procAt ps n) (m .whole .each (n - 1) .segments) (facts n v .each) (g .0) (g .1)
 
       has-perm : Perm (part (procAt ps n) (g .0))
       has-perm = each-part Perm top-perm (procAt ps n) (m .whole .each (n - 1) .segments) (perms n v) (g .0) (g .1)
@@ -193,7 +195,7 @@ module _ {ps : Procs} {tags bases : List ℕ} {total : ℕ} (m : Made ps tags ba
       let y = rank-of u l in
       let o : owner (x .k) ≡ owner (y .k) = sym (x .apart .owner-is) ∙ ap ownerOf e ∙ y .apart .owner-is in
       let n : ℕ = owner (x .k) in
-      let d : x .k % 17 ≡ y .k % 17 = part-one (procAt ps n) (m .whole .each (n - 1)) (facts n (valid-owner (x .k) (x .there))) (perms n (valid-owner (x .k) (x .there))) (x .k % 17) (y .k % 17) (pageOf (nth tags bases t)) (omega arith) (omega arith)
+      let d : x .k % 17 ≡ y .k % 17 = part-one setup (procAt ps n) (m .whole .each (n - 1)) (facts n (valid-owner (x .k) (x .there))) (perms n (valid-owner (x .k) (x .there))) (x .k % 17) (y .k % 17) (pageOf (nth tags bases t)) (omega arith) (omega arith)
       (x .inside) (rw (o, e) (y .inside)) in
       let kk : x .k ≡ y .k = omega (arith, o, d) in
       let ss : partAt ps (x .k) .range .start ≡ partAt ps (y .k) .range .start = ap (λ (k : ℕ). partAt ps k .range .start) kk in
@@ -209,7 +211,7 @@ module _ {ps : Procs} {tags bases : List ℕ} {total : ℕ} (m : Made ps tags ba
       let hk : k < 272 = omega arith in
       let ek = part-segment p (k % 17) (omega arith) in
       let el : seat (getD (p .segments) (l % 17) zeroSegment) ≡ partAt ps l = part-segment p (l % 17) seg ∙ ap (λ (x : ℕ). part (procAt ps x) (l % 17)) o in
-      let s = seats-at utzero (p .segments) (pass-seats p (m .whole .each (n - 1)) (m .ok n (valid-owner k hk))) (k % 17) (l % 17) (omega arith) (omega (arith, m .whole .each (n - 1) .segments)) in
+      let s = seats-at (setup .utzero) (p .segments) (pass-seats setup (m .accepted) p (m .whole .each (n - 1)) (m .ok n (valid-owner k hk))) (k % 17) (l % 17) (omega arith) (omega (arith, m .whole .each (n - 1) .segments)) in
       let e : partAt ps k .range .end ≤ partAt ps l .range .start = rw (ek, el) at (s .0) in
       let some-page : 1 ≤ partAt ps k .perm → partAt ps k .range .start < partAt ps k .range .end = rw ek at (s .1) in
       let x = fact k hk in

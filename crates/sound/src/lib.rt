@@ -7,16 +7,19 @@ ghost use mathlib.Core.Bool.{true};
 ghost use mathlib.Core.List.{List};
 ghost use Prim.Native.Nat.{ℕ, _≤_};
 ghost use lib.ListN.{length, getD};
+ghost use Rattle.spec.specs.Numbers.{SetupOk};
 ghost use Rattle.spec.specs.Book.{free};
 ghost use Rattle.spec.specs.Sound.{soundBook};
 ghost use Rattle.table.specs.Table.{Blank};
 ghost use Rattle.lookup.specs.Ready.{Ready};
 pub use lookup::frame_at;
 use spec::Procs;
+use spec::Setup;
 
 // Is the book sound? If so, `tags` and `bases` hold the plan and `table` each page's frame, for the rest of the call; if not, what they
 // hold means nothing. The table comes in empty.
 pub fn prepare(
+    setup: Setup,
     book: &[u64],
     procs: Procs,
     tags: &mut [u64; 272],
@@ -24,10 +27,11 @@ pub fn prepare(
     table: &mut [u16; 1024],
 ) -> bool
     requires { ⌜ (length (now book) ≤ 1024) × (length (now tags) ≡ 272) × (length (now bases) ≡ 273) × (length (now table) ≡ 1024) × Blank (now table) ⌝ }
-    ensures { λ r. ⌜ r ≡ soundBook (now (book .entry)) procs ⌝ }
+    requires { ⌜ SetupOk setup ⌝ }
+    ensures { λ r. ⌜ r ≡ soundBook setup (now (book .entry)) procs ⌝ }
     ensures { λ r. ⌜ (r ≡ true → Ready (now (book .entry)) (now (tags .exit)) (now (bases .exit)) (now (table .exit))) ⌝ }
 {
-    if !records::records_ok(procs) {
+    if !records::records_ok(setup, procs) {
         return false;
     }
     let total = plan::lay_all(tags, bases, procs);
@@ -41,14 +45,15 @@ pub fn prepare(
 }
 
 // Is the book sound? For a call that looks up no page.
-pub fn sound(book: &[u64], procs: Procs) -> bool
+pub fn sound(setup: Setup, book: &[u64], procs: Procs) -> bool
     requires { ⌜ length (now book) ≤ 1024 ⌝ }
-    ensures { λ r. ⌜ r ≡ soundBook (now (book .entry)) procs ⌝ }
+    requires { ⌜ SetupOk setup ⌝ }
+    ensures { λ r. ⌜ r ≡ soundBook setup (now (book .entry)) procs ⌝ }
 {
     let mut tags = [0u64; 272];
     let mut bases = [0u64; 273];
     let mut table = [0u16; 1024];
-    prepare(book, procs, &mut tags, &mut bases, &mut table)
+    prepare(setup, book, procs, &mut tags, &mut bases, &mut table)
 }
 
 // How many frames are free of a book that the lists are ready for: those that are no page's.

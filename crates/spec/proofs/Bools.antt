@@ -5,10 +5,10 @@ use native.Mathlib.Nat.{not-suc-le-zero}
 use mathlib.Core.Path.{_≡_, refl, sym, _∙_}
 use mathlib.Core.Bool.{Bool, true, false, not, _&&_, _||_}
 use mathlib.Core.List.{List, [], _∷_}
-use lib.Dec.{eqb, ltb}
+use lib.Dec.{eqb, leb, ltb}
 use lib.ListN.{length, getD}
 pub use borrow.Author.Tests.{not-true, not-false as un-not}
-use borrow.Author.Tests.{eqb-true, eqb-false, ltb-true, ltb-false, lt-ltb, le-ltb}
+use borrow.Author.Tests.{eqb-true, eqb-false, leb-true, leb-false, ltb-true, ltb-false, lt-ltb, le-ltb}
 use Rattle.spec.specs.Tests.{_above_, _below_, within, _⇒_else_, all, allBelow}
 
 -- either way
@@ -63,6 +63,10 @@ not-above a b h = le-ltb b a h
 
 pub not-below : (a b : ℕ) → not (a below b) ≡ true → b ≤ a
 not-below a b e = ltb-false a b (not-true (ltb a b) e)
+
+-- the code's `a <= b` is the definitions' `not (b below a)`
+pub at-most : (a b : ℕ) → leb a b ≡ not (b below a)
+at-most a b = split (leb a b) (λ q. rw (q, le-ltb b a (leb-true a b q))) (λ q. rw (q, lt-ltb b a (leb-false a b q)))
 
 pub within-means : (low high a : ℕ) → within low high a ≡ true → (low ≤ a) × (a < high)
 within-means low high a e =

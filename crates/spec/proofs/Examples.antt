@@ -6,7 +6,7 @@ use mathlib.Core.List.{List, [], _∷_, _++_, map}
 use Prim.Native.Nat.{ℕ, zero, suc, _+_, _-_, _^_}
 use lib.ListN.{replicate, length, set}
 use Rattle.spec.specs.Tests.{_is_, _⇒_else_, all, same, ascii}
-use Rattle.spec.specs.Numbers.{utzero, limit, ustktop, leBytes}
+use Rattle.spec.specs.Numbers.{deposit, limit, leBytes}
 use Rattle.spec.specs.Name.{elem, kstrcpy}
 use Rattle.spec.specs.Book.{range, segment, sameSegment, pageCount}
 use Rattle.spec.specs.Elf.{ehdrError, phdrs, phdrError, segmentsOf, elfError, entry}
@@ -56,19 +56,19 @@ starred =
     ∷ (elfError (one 13 0 65536 120 120), 0)
     ∷ (elfError (one 7 0 65536 120 0), 27)
     ∷ (elfError (one 5 0 (2 ^ 64 - 8192) 0 4096), 27)
-    ∷ (argsError (replicate 453 []), 0)
-    ∷ (argsError (replicate 454 []), 33)
-    ∷ (registers 0 ustktop lex-mot .argv, ustktop - 32)
-    ∷ (registers 0 ustktop lex-mot .sp, ustktop - 32)
-    ∷ (registers 0 ustktop [] .argv, ustktop - 8)
-    ∷ (registers 0 ustktop [] .sp, ustktop - 16)
-    ∷ (ibrk (some (range 69816 77824)) (2 ^ 64 - 1) 9 .error, 33)
+    ∷ (argsError deposit (replicate 453 []), 0)
+    ∷ (argsError deposit (replicate 454 []), 33)
+    ∷ (registers 0 (deposit .ustktop) lex-mot .argv, deposit .ustktop - 32)
+    ∷ (registers 0 (deposit .ustktop) lex-mot .sp, deposit .ustktop - 32)
+    ∷ (registers 0 (deposit .ustktop) [] .argv, deposit .ustktop - 8)
+    ∷ (registers 0 (deposit .ustktop) [] .sp, deposit .ustktop - 16)
+    ∷ (ibrk deposit (some (range 69816 77824)) (2 ^ 64 - 1) 9 .error, 33)
     ∷ []
 
 -- pushed arguments read back as given
 abbrev readsBack : List (List ℕ) → Bool
 readsBack args =
-    let read : Argv = copyArgv (pushed ustktop args (loaded image184)) (argvAt ustktop args) in
+    let read : Argv = copyArgv deposit (pushed (deposit .ustktop) args (loaded deposit image184)) (argvAt (deposit .ustktop) args) in
     read .error is 0 && same (same _is_) (read .args) args
 
 -- the others, and the listing
@@ -76,12 +76,12 @@ abbrev unstarred : List (ℕ × ℕ)
 unstarred =
     (elfError (one 7 0 65536 120 120), 25)
     ∷ (elfError (one 5 0 (2 ^ 64 - 8192) 0 4097), 24)
-    ∷ (argsError (replicate 4071 7 ∷ []), 0)
-    ∷ (argsError (replicate 4072 7 ∷ []), 33)
-    ∷ (ibrk (some (range 69816 77824)) (limit + 1) 9 .error, 34)
-    ∷ (userRangeOk (λ a. none) false (2 ^ 47) 0 ⇒ 1 else 0, 1)
-    ∷ (userRangeOk (λ a. none) false (2 ^ 47 + 1) 0 ⇒ 1 else 0, 0)
-    ∷ (copyStr (λ a. none) [] 7 .size, 0)
+    ∷ (argsError deposit (replicate 4071 7 ∷ []), 0)
+    ∷ (argsError deposit (replicate 4072 7 ∷ []), 33)
+    ∷ (ibrk deposit (some (range 69816 77824)) (limit deposit + 1) 9 .error, 34)
+    ∷ (userRangeOk deposit (λ a. none) false (2 ^ 47) 0 ⇒ 1 else 0, 1)
+    ∷ (userRangeOk deposit (λ a. none) false (2 ^ 47 + 1) 0 ⇒ 1 else 0, 0)
+    ∷ (copyStr deposit (λ a. none) [] 7 .size, 0)
     ∷ (elfError (set image184 0 126), 12)
     ∷ (elfError (set image184 4 1), 13)
     ∷ (elfError (set image184 5 2), 14)
@@ -99,17 +99,17 @@ unstarred =
     ∷ (elfError (set image184 137 0), 26)
     ∷ (elfError (one 5 0 65536 117 120), 0)
     ∷ (elfError (one 5 0 65536 116 120), 27)
-    ∷ (imageError (set image184 137 0), 30)
-    ∷ (imageError (ehdr 116 64 1 ++ phdr 5 0 0 120 120), 30)
-    ∷ (imageError (one 5 0 65536 120 (limit - 65536)), 0)
-    ∷ (imageError (one 5 0 65536 120 (limit - 65535)), 30)
-    ∷ (imageError (ehdr 73844 64 2 ++ phdr 6 0 65536 120 120 ++ phdr 5 0 73728 120 120), 30)
-    ∷ (imageError (many 15), 0)
-    ∷ (imageError (many 16), 31)
+    ∷ (imageError deposit (set image184 137 0), 30)
+    ∷ (imageError deposit (ehdr 116 64 1 ++ phdr 5 0 0 120 120), 30)
+    ∷ (imageError deposit (one 5 0 65536 120 (limit deposit - 65536)), 0)
+    ∷ (imageError deposit (one 5 0 65536 120 (limit deposit - 65535)), 30)
+    ∷ (imageError deposit (ehdr 73844 64 2 ++ phdr 6 0 65536 120 120 ++ phdr 5 0 73728 120 120), 30)
+    ∷ (imageError deposit (many 15), 0)
+    ∷ (imageError deposit (many 16), 31)
     ∷ (length image184, 184)
-    ∷ (imageError image184, 0)
+    ∷ (imageError deposit image184, 0)
     ∷ (entry image184, 65712)
-    ∷ (pageCount (startPieces image184), 7)
+    ∷ (pageCount (startPieces deposit image184), 7)
     ∷ (imageBss image184 .start, 69816)
     ∷ (imageBss image184 .end, 77824)
     ∷ (same sameSegment (imageSegments image184) (segment 65536 69632 1 ∷ segment 69632 73728 3 ∷ []) ⇒ 1 else 0, 1)

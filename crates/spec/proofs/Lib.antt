@@ -3,6 +3,7 @@ pub mod Bools
 pub mod Lists
 pub mod Search
 pub mod Words
+pub mod Setups
 pub mod Chain
 pub mod Ranges
 pub mod Args
@@ -12,4 +13,5 @@ pub mod Taken
 pub mod ReadBack
 pub mod Runs
 pub mod Tail
+pub mod SetupTexts
 pub mod Examples

@@ -7,9 +7,10 @@ use mathlib.Core.Bool.{Bool, true, false, and-true}
 use borrow.Author.Tests.{ltb-false, ne-eqb}
 use Rattle.spec.proofs.Bools.{both, not-above}
 use Rattle.spec.specs.Tests.{_is_, _above_, _⇒_else_}
-use Rattle.spec.specs.Numbers.{uaddrtop, pageDown, pageUp}
+use Rattle.spec.specs.Numbers.{pageDown, pageUp}
 use Rattle.spec.specs.Frames.{Mem}
 use Rattle.spec.specs.Access.{cellOk, pagesOk, userRangeOk}
+use Rattle.spec.specs.declared.Setup.{Setup}
 
 chain : (x y z : Bool) → (x ⇒ false else y ⇒ true else z) ≡ true → (x ≡ false) × (y ≡ false → z ≡ true)
 chain true y z e = absurd (let w : _≡_ {A = ℕ} 0 1 = cc in omega arith)
@@ -31,35 +32,36 @@ pages-all mem w (suc k) page h =
     (λ i l. let q : page + 4096 + 4096 * i ≡ page + 4096 * suc i = omega arith in rw q (h (suc i) (omega arith))) in
     rw (e₀, more)
 
--- what a passed range says of each of its addresses
-pub record InRange (mem : Mem) (w : Bool) (addr len : ℕ) : Type 0 where
-  pub top : addr + len ≤ uaddrtop
-  pub each : (a : ℕ) → addr ≤ a → a < addr + len → cellOk w (mem (pageDown a)) ≡ true
+module _ (setup : Setup) where
+  -- what a passed range says of each of its addresses
+  pub record InRange (mem : Mem) (w : Bool) (addr len : ℕ) : Type 0 where
+    pub top : addr + len ≤ setup .uaddrtop
+    pub each : (a : ℕ) → addr ≤ a → a < addr + len → cellOk w (mem (pageDown a)) ≡ true
 
-pub range-means : (mem : Mem) (w : Bool) (addr len : ℕ) → userRangeOk mem w addr len ≡ true → InRange mem w addr len
-range-means mem w addr len e = record {
-  top = ltb-false _ _ (c .0);
-  each = λ a l h.
-      let p = c .1 (ne-eqb len 0 (λ z. omega arith)) in
-      let q : pageDown addr + 4096 * (a / 4096 - addr / 4096) ≡ pageDown a = omega arith in
-      rw q at (page-at mem w ((pageUp (addr + len) - pageDown addr) / 4096) (pageDown addr) p (a / 4096 - addr / 4096) (omega arith));
-}
-  where
-    c : ((addr + len above uaddrtop) ≡ false) × ((len is 0) ≡ false → pagesOk mem w (pageDown addr) ((pageUp (addr + len) - pageDown addr) / 4096) ≡ true)
-    c = chain (addr + len above uaddrtop) (len is 0) _ e
+  pub range-means : (mem : Mem) (w : Bool) (addr len : ℕ) → userRangeOk setup mem w addr len ≡ true → InRange mem w addr len
+  range-means mem w addr len e = record {
+    top = ltb-false _ _ (c .0);
+    each = λ a l h.
+        let p = c .1 (ne-eqb len 0 (λ z. omega arith)) in
+        let q : pageDown addr + 4096 * (a / 4096 - addr / 4096) ≡ pageDown a = omega arith in
+        rw q at (page-at mem w ((pageUp (addr + len) - pageDown addr) / 4096) (pageDown addr) p (a / 4096 - addr / 4096) (omega arith));
+  }
+    where
+      c : ((addr + len above setup .uaddrtop) ≡ false) × ((len is 0) ≡ false → pagesOk mem w (pageDown addr) ((pageUp (addr + len) - pageDown addr) / 4096) ≡ true)
+      c = chain (addr + len above setup .uaddrtop) (len is 0) _ e
 
-pub range-all : (mem : Mem) (w : Bool) (addr len : ℕ) → 1 ≤ len → InRange mem w addr len → userRangeOk mem w addr len ≡ true
-range-all mem w addr len h r =
-    rw (not-above (addr + len) uaddrtop (r .top), ne-eqb len 0 (λ z. omega arith))
-    (pages-all mem w _ (pageDown addr) (λ i l. page i l))
-  where
-    page : (i : ℕ) → i < (pageUp (addr + len) - pageDown addr) / 4096 → cellOk w (mem (pageDown addr + 4096 * i)) ≡ true
-    page zero l = rw (add-zero (pageDown addr)) (r .each addr (omega arith) (omega arith))
-    page (suc i) l =
-        let a : ℕ = pageDown addr + 4096 * suc i in
-        let q : pageDown a ≡ pageDown addr + 4096 * suc i = omega arith in
-        rw q at (r .each a (omega arith) (omega arith))
+  pub range-all : (mem : Mem) (w : Bool) (addr len : ℕ) → 1 ≤ len → InRange mem w addr len → userRangeOk setup mem w addr len ≡ true
+  range-all mem w addr len h r =
+      rw (not-above (addr + len) (setup .uaddrtop) (r .top), ne-eqb len 0 (λ z. omega arith))
+      (pages-all mem w _ (pageDown addr) (λ i l. page i l))
+    where
+      page : (i : ℕ) → i < (pageUp (addr + len) - pageDown addr) / 4096 → cellOk w (mem (pageDown addr + 4096 * i)) ≡ true
+      page zero l = rw (add-zero (pageDown addr)) (r .each addr (omega arith) (omega arith))
+      page (suc i) l =
+          let a : ℕ = pageDown addr + 4096 * suc i in
+          let q : pageDown a ≡ pageDown addr + 4096 * suc i = omega arith in
+          rw q at (r .each a (omega arith) (omega arith))
 
--- one byte
-pub range-one : (mem : Mem) (a : ℕ) → a + 1 ≤ uaddrtop → userRangeOk mem false a 1 ≡ cellOk false (mem (pageDown a))
-range-one mem a h = let one : (pageUp (a + 1) - pageDown a) / 4096 ≡ 1 = omega arith in rw (not-above (a + 1) uaddrtop h, one) (and-true (cellOk false (mem (pageDown a))))
+  -- one byte
+  pub range-one : (mem : Mem) (a : ℕ) → a + 1 ≤ setup .uaddrtop → userRangeOk setup mem false a 1 ≡ cellOk false (mem (pageDown a))
+  range-one mem a h = let one : (pageUp (a + 1) - pageDown a) / 4096 ≡ 1 = omega arith in rw (not-above (a + 1) (setup .uaddrtop) h, one) (and-true (cellOk false (mem (pageDown a))))

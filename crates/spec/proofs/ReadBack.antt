@@ -16,12 +16,13 @@ use Rattle.spec.proofs.Ranges.{InRange, range-means, range-all}
 use Rattle.spec.proofs.Args.{args-means, length-string, strings-append, strings-more, length-pointers}
 use Rattle.spec.proofs.Lists.{any-append}
 use Rattle.spec.specs.Tests.{_is_, _above_, within, _⇒_else_, any, has}
-use Rattle.spec.specs.Numbers.{ustktop, argLimit, pageDown, le, leBytes, bytesFrom}
+use Rattle.spec.specs.Numbers.{argLimit, pageDown, le, leBytes, bytesFrom, SetupOk}
 use Rattle.spec.specs.Frames.{Cell, Mem}
 use Rattle.spec.specs.Access.{cellOk, userRangeOk, byteOf, bytesAt, rewrite, write, Str, longer, copyStr}
 use Rattle.spec.specs.Exec.{loaded, argsOf, strings, stackSize, argsError, stringsAt, argvAt, registers, belowZero, pointers, pushOk, pushed, Argv, argBuffer, argvFrom, copyArgv}
 use Rattle.spec.specs.Machine.{start, replace, push, Machine, run}
 use Rattle.spec.specs.History.{ArgsAt, ArgsRead}
+use Rattle.spec.specs.declared.Setup.{Setup}
 
 -- ---- writes
 
@@ -76,34 +77,35 @@ first-turn t z u v w e f = rw (e, f)
 next-turn : (t z : Bool) (u v w : Str) → t ≡ true → z ≡ false → (not t ⇒ u else z ⇒ v else w) ≡ w
 next-turn t z u v w e f = rw (e, f)
 
-first-is : (mem : Mem) (d : ℕ) (dst : List ℕ) (p : ℕ) → userRangeOk mem false p 1 ≡ true → byteOf (mem p) ≡ 0
-    → copyStr mem (d ∷ dst) p ≡ record { whole = true; size = 0; buffer = d ∷ dst }
-first-is mem d dst p r z = first-turn (userRangeOk mem false p 1) (byteOf (mem p) is 0) _ _ _ r (eq-eqb _ _ z)
+module _ (setup : Setup) where
+  first-is : (mem : Mem) (d : ℕ) (dst : List ℕ) (p : ℕ) → userRangeOk setup mem false p 1 ≡ true → byteOf (mem p) ≡ 0
+      → copyStr setup mem (d ∷ dst) p ≡ record { whole = true; size = 0; buffer = d ∷ dst }
+  first-is mem d dst p r z = first-turn (userRangeOk setup mem false p 1) (byteOf (mem p) is 0) _ _ _ r (eq-eqb _ _ z)
 
-next-is : (mem : Mem) (x : ℕ) (xs : List ℕ) (d : ℕ) (dst : List ℕ) (p : ℕ) → userRangeOk mem false p 1 ≡ true → byteOf (mem p) ≡ x → (x is 0) ≡ false
-    → copyStr mem dst (p + 1) ≡ record { whole = true; size = length xs; buffer = xs ++ drop (length xs) dst }
-    → copyStr mem (d ∷ dst) p ≡ record { whole = true; size = suc (length xs); buffer = x ∷ xs ++ drop (length xs) dst }
-next-is mem x xs d dst p r b n e =
-    next-turn (userRangeOk mem false p 1) (byteOf (mem p) is 0) _ _ _ r (ap (λ (y : ℕ). y is 0) b ∙ n)
-    ∙ ap₂ {C = Str} longer b e ∙ ap (λ (k : ℕ). record { whole = true; size = k; buffer = x ∷ xs ++ drop (length xs) dst }) (add-one (length xs))
+  next-is : (mem : Mem) (x : ℕ) (xs : List ℕ) (d : ℕ) (dst : List ℕ) (p : ℕ) → userRangeOk setup mem false p 1 ≡ true → byteOf (mem p) ≡ x → (x is 0) ≡ false
+      → copyStr setup mem dst (p + 1) ≡ record { whole = true; size = length xs; buffer = xs ++ drop (length xs) dst }
+      → copyStr setup mem (d ∷ dst) p ≡ record { whole = true; size = suc (length xs); buffer = x ∷ xs ++ drop (length xs) dst }
+  next-is mem x xs d dst p r b n e =
+      next-turn (userRangeOk setup mem false p 1) (byteOf (mem p) is 0) _ _ _ r (ap (λ (y : ℕ). y is 0) b ∙ n)
+      ∙ ap₂ {C = Str} longer b e ∙ ap (λ (k : ℕ). record { whole = true; size = k; buffer = x ∷ xs ++ drop (length xs) dst }) (add-one (length xs))
 
-copy-is : (mem : Mem) (a dst : List ℕ) (p : ℕ) → has 0 a ≡ false → length a < length dst
-    → ((j : ℕ) → j ≤ length a → userRangeOk mem false (p + j) 1 ≡ true)
-    → ((j : ℕ) → j < length a → byteOf (mem (p + j)) ≡ getD a j 0) → byteOf (mem (p + length a)) ≡ 0
-    → copyStr mem dst p ≡ record { whole = true; size = length a; buffer = a ++ drop (length a) dst }
-copy-is mem a [] p n l r b z = absurd (not-suc-le-zero l)
-copy-is mem [] (d ∷ dst) p n l r b z =
-    let r₀ : userRangeOk mem false p 1 ≡ true = rw (add-zero p) at (r 0 (omega arith)) in
-    let z₀ : byteOf (mem p) ≡ 0 = rw (add-zero p) at z in
-    first-is mem d dst p r₀ z₀
-copy-is mem (x ∷ xs) (d ∷ dst) p n l r b z =
-    let r₀ : userRangeOk mem false p 1 ≡ true = rw (add-zero p) at (r 0 (omega arith)) in
-    let b₀ : byteOf (mem p) ≡ x = rw (add-zero p) at (b 0 (omega arith)) in
-    let nx = neither (x is 0) (has 0 xs) n in
-    next-is mem x xs d dst p r₀ b₀ (nx .0) (copy-is mem xs dst (p + 1) (nx .1) (le-of-suc-le-suc l)
-    (λ j h. let q : p + 1 + j ≡ p + suc j = omega arith in rw q (r (suc j) (omega arith)))
-    (λ j h. let q : p + 1 + j ≡ p + suc j = omega arith in rw q (b (suc j) (omega arith)))
-    (let q : p + 1 + length xs ≡ p + suc (length xs) = omega arith in rw q z))
+  copy-is : (mem : Mem) (a dst : List ℕ) (p : ℕ) → has 0 a ≡ false → length a < length dst
+      → ((j : ℕ) → j ≤ length a → userRangeOk setup mem false (p + j) 1 ≡ true)
+      → ((j : ℕ) → j < length a → byteOf (mem (p + j)) ≡ getD a j 0) → byteOf (mem (p + length a)) ≡ 0
+      → copyStr setup mem dst p ≡ record { whole = true; size = length a; buffer = a ++ drop (length a) dst }
+  copy-is mem a [] p n l r b z = absurd (not-suc-le-zero l)
+  copy-is mem [] (d ∷ dst) p n l r b z =
+      let r₀ : userRangeOk setup mem false p 1 ≡ true = rw (add-zero p) at (r 0 (omega arith)) in
+      let z₀ : byteOf (mem p) ≡ 0 = rw (add-zero p) at z in
+      first-is mem d dst p r₀ z₀
+  copy-is mem (x ∷ xs) (d ∷ dst) p n l r b z =
+      let r₀ : userRangeOk setup mem false p 1 ≡ true = rw (add-zero p) at (r 0 (omega arith)) in
+      let b₀ : byteOf (mem p) ≡ x = rw (add-zero p) at (b 0 (omega arith)) in
+      let nx = neither (x is 0) (has 0 xs) n in
+      next-is mem x xs d dst p r₀ b₀ (nx .0) (copy-is mem xs dst (p + 1) (nx .1) (le-of-suc-le-suc l)
+      (λ j h. let q : p + 1 + j ≡ p + suc j = omega arith in rw q (r (suc j) (omega arith)))
+      (λ j h. let q : p + 1 + j ≡ p + suc j = omega arith in rw q (b (suc j) (omega arith)))
+      (let q : p + 1 + length xs ≡ p + suc (length xs) = omega arith in rw q z))
 
 -- ---- the list of arguments
 
@@ -119,49 +121,50 @@ turn-next : (t z w f g : Bool) (u v x y q r : Argv) → t ≡ true → z ≡ fal
     → (not t ⇒ u else z ⇒ v else not w ⇒ x else f ⇒ y else g ⇒ q else r) ≡ r
 turn-next t z w f g u v x y q r e₁ e₂ e₃ e₄ e₅ = rw (e₁, e₂, e₃, e₄, e₅)
 
-module _ (mem : Mem) (A S : ℕ) (args : List (List ℕ))
-    (ptr-ok : (i : ℕ) → i ≤ length args → userRangeOk mem false (A + 8 * i) 8 ≡ true)
-    (ptr : (before rest : List (List ℕ)) → args ≡ before ++ rest → le 8 (bytesAt mem (A + 8 * length before) 8) 0 ≡ nextPtr (S + length (strings before)) rest)
-    (str : (before : List (List ℕ)) (a : List ℕ) (ys : List (List ℕ)) → args ≡ before ++ a ∷ ys
-    → copyStr mem argBuffer (S + length (strings before)) ≡ record { whole = true; size = length a; buffer = a ++ drop (length a) argBuffer })
-    (pos : 1 ≤ S) (fit : stackSize (length (strings args)) (length args) ≤ argLimit) where
-  go : (rest before : List (List ℕ)) (turns : ℕ) → args ≡ before ++ rest → length rest < turns → argvFrom mem A before turns ≡ record { error = 0; args = args }
-  go [] before zero e l = absurd (not-suc-le-zero l)
-  go (a ∷ ys) before zero e l = absurd (not-suc-le-zero l)
-  go [] before (suc turns) e l =
-      let n : args ≡ before = e ∙ append-nil before in
-      let k : length before ≡ length args = ap length (sym n) in
-      let s : ℕ = le 8 (bytesAt mem (A + 8 * length before) 8) 0 in
-      let c : Str = copyStr mem argBuffer s in
-      let args′ : List (List ℕ) = before ++ take (c .size) (c .buffer) ∷ [] in
-      turn-end (userRangeOk mem false (A + 8 * length before) 8) (s is 0) (c .whole) (c .size is argLimit) (stackSize (length (strings args′)) (length args′) above argLimit)
-      (record { error = 35; args = [] }) (record { error = 0; args = before }) (record { error = 35; args = [] }) (record { error = 33; args = [] }) (record { error = 33; args = [] }) (argvFrom mem A args′ turns)
-      (ptr-ok (length before) (omega arith)) (eq-eqb s 0 (ptr before [] e))
-      ∙ ap (λ (x : List (List ℕ)). record { error = 0; args = x }) (sym n)
-  go (a ∷ ys) before (suc turns) e l =
-      let n : args ≡ (before ++ a ∷ []) ++ ys = e ∙ sym (append-assoc before (a ∷ []) ys) in
-      let k₀ : length args ≡ length before + suc (length ys) = ap length e ∙ length-append before (a ∷ ys) in
-      let p : ℕ = S + length (strings before) in
-      let s : ℕ = le 8 (bytesAt mem (A + 8 * length before) 8) 0 in
-      let es : s ≡ p = ptr before (a ∷ ys) e in
-      let st : copyStr mem argBuffer s ≡ record { whole = true; size = length a; buffer = a ++ drop (length a) argBuffer } = ap (copyStr mem argBuffer) es ∙ str before a ys e in
-      let ta : take (copyStr mem argBuffer s .size) (copyStr mem argBuffer s .buffer) ≡ a =
-      ap (λ (q : Str). take (q .size) (q .buffer)) st ∙ take-at a (drop (length a) argBuffer) (length a) refl in
-      let l₁ : length (strings args) ≡ length (strings (before ++ a ∷ [])) + length (strings ys) = ap (λ (x : List (List ℕ)). length (strings x)) n ∙ ap length (strings-append (before ++ a ∷ []) ys) ∙ length-append (strings (before ++ a ∷ [])) (strings ys) in
-      let l₂ : length (before ++ a ∷ []) ≡ length before + 1 = length-append before (a ∷ []) in
-      let l₃ = strings-more before a in
-      let args′ : List (List ℕ) = before ++ take (copyStr mem argBuffer s .size) (copyStr mem argBuffer s .buffer) ∷ [] in
-      let ea : args′ ≡ before ++ a ∷ [] = ap (λ (x : List ℕ). before ++ x ∷ []) ta in
-      let big : (stackSize (length (strings (before ++ a ∷ []))) (length (before ++ a ∷ [])) above argLimit) ≡ false = not-above (stackSize (length (strings (before ++ a ∷ []))) (length (before ++ a ∷ []))) argLimit (omega arith) in
-      turn-next (userRangeOk mem false (A + 8 * length before) 8) (s is 0) (copyStr mem argBuffer s .whole) (copyStr mem argBuffer s .size is argLimit) (stackSize (length (strings args′)) (length args′) above argLimit)
-      (record { error = 35; args = [] }) (record { error = 0; args = before }) (record { error = 35; args = [] }) (record { error = 33; args = [] }) (record { error = 33; args = [] }) (argvFrom mem A args′ turns)
-      (ptr-ok (length before) (omega arith))
-      (ne-eqb s 0 (λ z. omega arith))
-      (ap (λ (q : Str). q .whole) st)
-      (ap (λ (q : Str). q .size is argLimit) st ∙ ne-eqb (length a) argLimit (λ z. omega arith))
-      (ap (λ (x : List (List ℕ)). stackSize (length (strings x)) (length x) above argLimit) ea ∙ big)
-      ∙ ap (λ (x : List (List ℕ)). argvFrom mem A x turns) ea
-      ∙ go ys (before ++ a ∷ []) turns n (le-of-suc-le-suc l)
+module _ (setup : Setup) where
+  module _ (mem : Mem) (A S : ℕ) (args : List (List ℕ))
+      (ptr-ok : (i : ℕ) → i ≤ length args → userRangeOk setup mem false (A + 8 * i) 8 ≡ true)
+      (ptr : (before rest : List (List ℕ)) → args ≡ before ++ rest → le 8 (bytesAt mem (A + 8 * length before) 8) 0 ≡ nextPtr (S + length (strings before)) rest)
+      (str : (before : List (List ℕ)) (a : List ℕ) (ys : List (List ℕ)) → args ≡ before ++ a ∷ ys
+      → copyStr setup mem (argBuffer setup) (S + length (strings before)) ≡ record { whole = true; size = length a; buffer = a ++ drop (length a) (argBuffer setup) })
+      (pos : 1 ≤ S) (fit : stackSize (length (strings args)) (length args) ≤ argLimit setup) where
+    go : (rest before : List (List ℕ)) (turns : ℕ) → args ≡ before ++ rest → length rest < turns → argvFrom setup mem A before turns ≡ record { error = 0; args = args }
+    go [] before zero e l = absurd (not-suc-le-zero l)
+    go (a ∷ ys) before zero e l = absurd (not-suc-le-zero l)
+    go [] before (suc turns) e l =
+        let n : args ≡ before = e ∙ append-nil before in
+        let k : length before ≡ length args = ap length (sym n) in
+        let s : ℕ = le 8 (bytesAt mem (A + 8 * length before) 8) 0 in
+        let c : Str = copyStr setup mem (argBuffer setup) s in
+        let args′ : List (List ℕ) = before ++ take (c .size) (c .buffer) ∷ [] in
+        turn-end (userRangeOk setup mem false (A + 8 * length before) 8) (s is 0) (c .whole) (c .size is argLimit setup) (stackSize (length (strings args′)) (length args′) above argLimit setup)
+        (record { error = 35; args = [] }) (record { error = 0; args = before }) (record { error = 35; args = [] }) (record { error = 33; args = [] }) (record { error = 33; args = [] }) (argvFrom setup mem A args′ turns)
+        (ptr-ok (length before) (omega arith)) (eq-eqb s 0 (ptr before [] e))
+        ∙ ap (λ (x : List (List ℕ)). record { error = 0; args = x }) (sym n)
+    go (a ∷ ys) before (suc turns) e l =
+        let n : args ≡ (before ++ a ∷ []) ++ ys = e ∙ sym (append-assoc before (a ∷ []) ys) in
+        let k₀ : length args ≡ length before + suc (length ys) = ap length e ∙ length-append before (a ∷ ys) in
+        let p : ℕ = S + length (strings before) in
+        let s : ℕ = le 8 (bytesAt mem (A + 8 * length before) 8) 0 in
+        let es : s ≡ p = ptr before (a ∷ ys) e in
+        let st : copyStr setup mem (argBuffer setup) s ≡ record { whole = true; size = length a; buffer = a ++ drop (length a) (argBuffer setup) } = ap (copyStr setup mem (argBuffer setup)) es ∙ str before a ys e in
+        let ta : take (copyStr setup mem (argBuffer setup) s .size) (copyStr setup mem (argBuffer setup) s .buffer) ≡ a =
+        ap (λ (q : Str). take (q .size) (q .buffer)) st ∙ take-at a (drop (length a) (argBuffer setup)) (length a) refl in
+        let l₁ : length (strings args) ≡ length (strings (before ++ a ∷ [])) + length (strings ys) = ap (λ (x : List (List ℕ)). length (strings x)) n ∙ ap length (strings-append (before ++ a ∷ []) ys) ∙ length-append (strings (before ++ a ∷ [])) (strings ys) in
+        let l₂ : length (before ++ a ∷ []) ≡ length before + 1 = length-append before (a ∷ []) in
+        let l₃ = strings-more before a in
+        let args′ : List (List ℕ) = before ++ take (copyStr setup mem (argBuffer setup) s .size) (copyStr setup mem (argBuffer setup) s .buffer) ∷ [] in
+        let ea : args′ ≡ before ++ a ∷ [] = ap (λ (x : List ℕ). before ++ x ∷ []) ta in
+        let big : (stackSize (length (strings (before ++ a ∷ []))) (length (before ++ a ∷ [])) above argLimit setup) ≡ false = not-above (stackSize (length (strings (before ++ a ∷ []))) (length (before ++ a ∷ []))) (argLimit setup) (omega arith) in
+        turn-next (userRangeOk setup mem false (A + 8 * length before) 8) (s is 0) (copyStr setup mem (argBuffer setup) s .whole) (copyStr setup mem (argBuffer setup) s .size is argLimit setup) (stackSize (length (strings args′)) (length args′) above argLimit setup)
+        (record { error = 35; args = [] }) (record { error = 0; args = before }) (record { error = 35; args = [] }) (record { error = 33; args = [] }) (record { error = 33; args = [] }) (argvFrom setup mem A args′ turns)
+        (ptr-ok (length before) (omega arith))
+        (ne-eqb s 0 (λ z. omega arith))
+        (ap (λ (q : Str). q .whole) st)
+        (ap (λ (q : Str). q .size is argLimit setup) st ∙ ne-eqb (length a) (argLimit setup) (λ z. omega arith))
+        (ap (λ (x : List (List ℕ)). stackSize (length (strings x)) (length x) above argLimit setup) ea ∙ big)
+        ∙ ap (λ (x : List (List ℕ)). (argvFrom setup) mem A x turns) ea
+        ∙ go ys (before ++ a ∷ []) turns n (le-of-suc-le-suc l)
 
 -- ---- what stands in the pushed bytes
 
@@ -189,117 +192,119 @@ no-nul before a ys e = neither (has 0 a) (any (has 0) ys) (neither (any (has 0) 
 
 -- ---- all together
 
-module _ (mem : Mem) (top : ℕ) (args : List (List ℕ)) (whole : (a : ℕ) → cellOk true (mem a) ≡ cellOk true (mem (pageDown a)))
-    (low : 8 * (length args + 1) ≤ stringsAt top args / 8 * 8)
-    (r₁ : InRange mem true (stringsAt top args) (length (strings args)))
-    (r₂ : InRange mem true (argvAt top args) (8 * (length args + 1))) where
-  S : ℕ
-  S = stringsAt top args
+module _ (setup : Setup) (ok : SetupOk setup) where
+  module _ (mem : Mem) (top : ℕ) (args : List (List ℕ)) (whole : (a : ℕ) → cellOk true (mem a) ≡ cellOk true (mem (pageDown a)))
+      (low : 8 * (length args + 1) ≤ stringsAt top args / 8 * 8)
+      (r₁ : InRange setup mem true (stringsAt top args) (length (strings args)))
+      (r₂ : InRange setup mem true (argvAt top args) (8 * (length args + 1))) where
+    S : ℕ
+    S = stringsAt top args
 
-  kept : (w : Bool) (a : ℕ) → cellOk w (pushed top args mem a) ≡ cellOk w (mem a)
-  kept w a = write-ok w (argvAt top args) (pointers (stringsAt top args) args) (write (stringsAt top args) (strings args) mem) a ∙ write-ok w (stringsAt top args) (strings args) mem a
+    kept : (w : Bool) (a : ℕ) → cellOk w (pushed top args mem a) ≡ cellOk w (mem a)
+    kept w a = write-ok w (argvAt top args) (pointers (stringsAt top args) args) (write (stringsAt top args) (strings args) mem) a ∙ write-ok w (stringsAt top args) (strings args) mem a
 
-  part : (addr len b k : ℕ) → InRange mem true addr len → 1 ≤ k → addr ≤ b → b + k ≤ addr + len → userRangeOk (pushed top args mem) false b k ≡ true
-  part addr len b k r h l u = range-all (pushed top args mem) false b k h (record {
-    top = omega (arith, r .top);
-    each = λ a x y. kept false (pageDown a) ∙ weak (mem (pageDown a)) (r .each a (omega arith) (omega arith));
-  })
+    part : (addr len b k : ℕ) → InRange setup mem true addr len → 1 ≤ k → addr ≤ b → b + k ≤ addr + len → userRangeOk setup (pushed top args mem) false b k ≡ true
+    part addr len b k r h l u = range-all setup (pushed top args mem) false b k h (record {
+      top = omega (arith, r .top);
+      each = λ a x y. kept false (pageDown a) ∙ weak (mem (pageDown a)) (r .each a (omega arith) (omega arith));
+    })
 
-  ptr-byte : (j : ℕ) → j < 8 * (length args + 1) → byteOf (pushed top args mem (argvAt top args + j)) ≡ getD (pointers (stringsAt top args) args) j 0
-  ptr-byte j h =
-      write-byte (argvAt top args) (pointers (stringsAt top args) args) (write (stringsAt top args) (strings args) mem) j (rw (length-pointers args (stringsAt top args)) h)
-      (write-ok true (stringsAt top args) (strings args) mem (argvAt top args + j) ∙ whole (argvAt top args + j) ∙ r₂ .each (argvAt top args + j) (omega arith) (omega arith))
+    ptr-byte : (j : ℕ) → j < 8 * (length args + 1) → byteOf (pushed top args mem (argvAt top args + j)) ≡ getD (pointers (stringsAt top args) args) j 0
+    ptr-byte j h =
+        write-byte (argvAt top args) (pointers (stringsAt top args) args) (write (stringsAt top args) (strings args) mem) j (rw (length-pointers args (stringsAt top args)) h)
+        (write-ok true (stringsAt top args) (strings args) mem (argvAt top args + j) ∙ whole (argvAt top args + j) ∙ r₂ .each (argvAt top args + j) (omega arith) (omega arith))
 
-  str-byte : (j : ℕ) → j < length (strings args) → byteOf (pushed top args mem (stringsAt top args + j)) ≡ getD (strings args) j 0
-  str-byte j h =
-      let l = length-pointers args (stringsAt top args) in
-      ap byteOf (write-past (argvAt top args) (pointers (stringsAt top args) args) (write (stringsAt top args) (strings args) mem) (stringsAt top args + j) (omega arith))
-      ∙ write-byte (stringsAt top args) (strings args) mem j h (whole (stringsAt top args + j) ∙ r₁ .each (stringsAt top args + j) (omega arith) (omega arith))
+    str-byte : (j : ℕ) → j < length (strings args) → byteOf (pushed top args mem (stringsAt top args + j)) ≡ getD (strings args) j 0
+    str-byte j h =
+        let l = length-pointers args (stringsAt top args) in
+        ap byteOf (write-past (argvAt top args) (pointers (stringsAt top args) args) (write (stringsAt top args) (strings args) mem) (stringsAt top args + j) (omega arith))
+        ∙ write-byte (stringsAt top args) (strings args) mem j h (whole (stringsAt top args + j) ∙ r₁ .each (stringsAt top args + j) (omega arith) (omega arith))
 
-  ptrs : (before rest : List (List ℕ)) → args ≡ before ++ rest → le 8 (bytesAt (pushed top args mem) (argvAt top args + 8 * length before) 8) 0 ≡ nextPtr (stringsAt top args + length (strings before)) rest
-  ptrs before rest e =
-      let n : length args ≡ length before + length rest = ap length e ∙ length-append before rest in
-      ap (λ (x : List ℕ). le 8 x 0) (bytes-are (λ a. byteOf (pushed top args mem a)) (leBytes 8 (nextPtr (stringsAt top args + length (strings before)) rest)) (argvAt top args + 8 * length before)
-      (λ j h.
-      let q : argvAt top args + 8 * length before + j ≡ argvAt top args + (8 * length before + j) = omega arith in
-      ap (λ (a : ℕ). byteOf (pushed top args mem a)) q
-      ∙ ptr-byte (8 * length before + j) (omega arith)
-      ∙ ap (λ (x : List (List ℕ)). getD (pointers (stringsAt top args) x) (8 * length before + j) 0) e
-      ∙ pointer-at before rest (stringsAt top args) j h))
-      ∙ le-bytes _ (small rest e)
-    where
-      small : (r : List (List ℕ)) → args ≡ before ++ r → nextPtr (stringsAt top args + length (strings before)) r < 2 ^ 64
-      small [] q = omega arith
-      small (a ∷ r) q =
-          let m : length (strings args) ≡ length (strings before) + length (strings (a ∷ r)) = ap (λ (x : List (List ℕ)). length (strings x)) q ∙ ap length (strings-append before (a ∷ r)) ∙ length-append (strings before) (strings (a ∷ r)) in
-          omega (arith, r₁ .top)
+    ptrs : (before rest : List (List ℕ)) → args ≡ before ++ rest → le 8 (bytesAt (pushed top args mem) (argvAt top args + 8 * length before) 8) 0 ≡ nextPtr (stringsAt top args + length (strings before)) rest
+    ptrs before rest e =
+        let n : length args ≡ length before + length rest = ap length e ∙ length-append before rest in
+        ap (λ (x : List ℕ). le 8 x 0) (bytes-are (λ a. byteOf (pushed top args mem a)) (leBytes 8 (nextPtr (stringsAt top args + length (strings before)) rest)) (argvAt top args + 8 * length before)
+        (λ j h.
+        let q : argvAt top args + 8 * length before + j ≡ argvAt top args + (8 * length before + j) = omega arith in
+        ap (λ (a : ℕ). byteOf (pushed top args mem a)) q
+        ∙ ptr-byte (8 * length before + j) (omega arith)
+        ∙ ap (λ (x : List (List ℕ)). getD (pointers (stringsAt top args) x) (8 * length before + j) 0) e
+        ∙ pointer-at before rest (stringsAt top args) j h))
+        ∙ le-bytes _ (small rest e)
+      where
+        small : (r : List (List ℕ)) → args ≡ before ++ r → nextPtr (stringsAt top args + length (strings before)) r < 2 ^ 64
+        small [] q = omega arith
+        small (a ∷ r) q =
+            let m : length (strings args) ≡ length (strings before) + length (strings (a ∷ r)) = ap (λ (x : List (List ℕ)). length (strings x)) q ∙ ap length (strings-append before (a ∷ r)) ∙ length-append (strings before) (strings (a ∷ r)) in
+            omega (arith, r₁ .top)
 
-  strs : any (has 0) args ≡ false → stackSize (length (strings args)) (length args) ≤ argLimit → (before : List (List ℕ)) (a : List ℕ) (ys : List (List ℕ)) → args ≡ before ++ a ∷ ys
-      → copyStr (pushed top args mem) argBuffer (stringsAt top args + length (strings before)) ≡ record { whole = true; size = length a; buffer = a ++ drop (length a) argBuffer }
-  unfolding argBuffer
-  strs nul fit before a ys e =
-      let m : length (strings args) ≡ length (strings before) + length (strings (a ∷ ys)) = ap (λ (x : List (List ℕ)). length (strings x)) e ∙ ap length (strings-append before (a ∷ ys)) ∙ length-append (strings before) (strings (a ∷ ys)) in
-      let l = length-string a ys in
-      let b : (j : ℕ) → j ≤ length a → byteOf (pushed top args mem (stringsAt top args + length (strings before) + j)) ≡ getD (a ++ 0 ∷ strings ys) j 0 =
-      λ j h.
-      let q : stringsAt top args + length (strings before) + j ≡ stringsAt top args + (length (strings before) + j) = omega arith in
-      ap (λ (x : ℕ). byteOf (pushed top args mem x)) q ∙ str-byte (length (strings before) + j) (omega arith)
-      ∙ ap (λ (x : List (List ℕ)). getD (strings x) (length (strings before) + j) 0) e ∙ string-at before a ys j in
-      copy-is (pushed top args mem) a argBuffer (stringsAt top args + length (strings before)) (no-nul before a ys (rw e at nul)) (rw (length-replicate {A = ℕ} argLimit 0) (omega arith))
-      (λ j h. part (stringsAt top args) (length (strings args)) (stringsAt top args + length (strings before) + j) 1 r₁ (omega arith) (omega arith) (omega arith))
-      (λ j h. b j (omega arith) ∙ List·getD-append a (0 ∷ strings ys) 0 j h)
-      (b (length a) (omega arith) ∙ ap (λ (k : ℕ). getD (a ++ 0 ∷ strings ys) k 0) (sym (add-zero (length a))) ∙ getD-append-add a (0 ∷ strings ys) 0 0)
+    strs : any (has 0) args ≡ false → stackSize (length (strings args)) (length args) ≤ argLimit setup → (before : List (List ℕ)) (a : List ℕ) (ys : List (List ℕ)) → args ≡ before ++ a ∷ ys
+        → copyStr setup (pushed top args mem) (argBuffer setup) (stringsAt top args + length (strings before)) ≡ record { whole = true; size = length a; buffer = a ++ drop (length a) (argBuffer setup) }
+    unfolding argBuffer
+    strs nul fit before a ys e =
+        let m : length (strings args) ≡ length (strings before) + length (strings (a ∷ ys)) = ap (λ (x : List (List ℕ)). length (strings x)) e ∙ ap length (strings-append before (a ∷ ys)) ∙ length-append (strings before) (strings (a ∷ ys)) in
+        let l = length-string a ys in
+        let b : (j : ℕ) → j ≤ length a → byteOf (pushed top args mem (stringsAt top args + length (strings before) + j)) ≡ getD (a ++ 0 ∷ strings ys) j 0 =
+        λ j h.
+        let q : stringsAt top args + length (strings before) + j ≡ stringsAt top args + (length (strings before) + j) = omega arith in
+        ap (λ (x : ℕ). byteOf (pushed top args mem x)) q ∙ str-byte (length (strings before) + j) (omega arith)
+        ∙ ap (λ (x : List (List ℕ)). getD (strings x) (length (strings before) + j) 0) e ∙ string-at before a ys j in
+        copy-is setup (pushed top args mem) a (argBuffer setup) (stringsAt top args + length (strings before)) (no-nul before a ys (rw e at nul)) (rw (length-replicate {A = ℕ} (argLimit setup) 0) (omega arith))
+        (λ j h. part (stringsAt top args) (length (strings args)) (stringsAt top args + length (strings before) + j) 1 r₁ (omega arith) (omega arith) (omega arith))
+        (λ j h. b j (omega arith) ∙ List·getD-append a (0 ∷ strings ys) 0 j h)
+        (b (length a) (omega arith) ∙ ap (λ (k : ℕ). getD (a ++ 0 ∷ strings ys) k 0) (sym (add-zero (length a))) ∙ getD-append-add a (0 ∷ strings ys) 0 0)
 
-read-back : (mem : Mem) (top : ℕ) (args : List (List ℕ)) → ((a : ℕ) → cellOk true (mem a) ≡ cellOk true (mem (pageDown a)))
-    → argsError args ≡ 0 → pushOk mem top args ≡ true
-    → copyArgv (pushed top args mem) (argvAt top args) ≡ record { error = 0; args = args }
-unfolding copyArgv
-read-back mem top args whole e p =
-    let ok = args-means args e in
-    let b₁ = both (not (belowZero top args) && userRangeOk mem true (stringsAt top args) (length (strings args))) (userRangeOk mem true (argvAt top args) (8 * (length args + 1))) p in
-    let b₂ = both (not (belowZero top args)) (userRangeOk mem true (stringsAt top args) (length (strings args))) (b₁ .0) in
-    let low : 8 * (length args + 1) ≤ stringsAt top args / 8 * 8 = ltb-false _ _ (not-true (belowZero top args) (b₂ .0)) in
-    let r₁ = range-means mem true (stringsAt top args) (length (strings args)) (b₂ .1) in
-    let r₂ = range-means mem true (argvAt top args) (8 * (length args + 1)) (b₁ .1) in
-    go (pushed top args mem) (argvAt top args) (stringsAt top args) args
-    (λ i h. part mem top args whole low r₁ r₂ (argvAt top args) (8 * (length args + 1)) (argvAt top args + 8 * i) 8 r₂ (omega arith) (omega arith) (omega arith))
-    (ptrs mem top args whole low r₁ r₂) (strs mem top args whole low r₁ r₂ (ok .0) (ok .1)) (omega arith) (ok .1)
-    args [] argLimit refl (omega arith)
+  read-back : (mem : Mem) (top : ℕ) (args : List (List ℕ)) → ((a : ℕ) → cellOk true (mem a) ≡ cellOk true (mem (pageDown a)))
+      → argsError setup args ≡ 0 → pushOk setup mem top args ≡ true
+      → copyArgv setup (pushed top args mem) (argvAt top args) ≡ record { error = 0; args = args }
+  unfolding copyArgv
+  read-back mem top args whole e p =
+      let ok = args-means setup args e in
+      let b₁ = both (not (belowZero top args) && userRangeOk setup mem true (stringsAt top args) (length (strings args))) (userRangeOk setup mem true (argvAt top args) (8 * (length args + 1))) p in
+      let b₂ = both (not (belowZero top args)) (userRangeOk setup mem true (stringsAt top args) (length (strings args))) (b₁ .0) in
+      let low : 8 * (length args + 1) ≤ stringsAt top args / 8 * 8 = ltb-false _ _ (not-true (belowZero top args) (b₂ .0)) in
+      let r₁ = range-means setup mem true (stringsAt top args) (length (strings args)) (b₂ .1) in
+      let r₂ = range-means setup mem true (argvAt top args) (8 * (length args + 1)) (b₁ .1) in
+      go setup (pushed top args mem) (argvAt top args) (stringsAt top args) args
+      (λ i h. part mem top args whole low r₁ r₂ (argvAt top args) (8 * (length args + 1)) (argvAt top args + 8 * i) 8 r₂ (omega arith) (omega arith) (omega arith))
+      (ptrs mem top args whole low r₁ r₂) (strs mem top args whole low r₁ r₂ (ok .0) (ok .1)) (omega arith) (ok .1)
+      args [] (argLimit setup) refl (omega arith)
 
-near : (pc top : ℕ) (args : List (List ℕ)) → top % 16 ≡ 0 → argsError args ≡ 0 → belowZero top args ≡ false
-    → (registers pc top args .sp ≤ top) × (top - registers pc top args .sp ≤ argLimit)
-near pc top args h e z =
-    let size = args-means args e .1 in
-    let low : 8 * (length args + 1) ≤ stringsAt top args / 8 * 8 = ltb-false _ _ z in
-    (omega arith, omega arith)
+  near : (pc top : ℕ) (args : List (List ℕ)) → top % 16 ≡ 0 → argsError setup args ≡ 0 → belowZero top args ≡ false
+      → (registers pc top args .sp ≤ top) × (top - registers pc top args .sp ≤ argLimit setup)
+  near pc top args h e z =
+      let size = args-means setup args e .1 in
+      let low : 8 * (length args + 1) ≤ stringsAt top args / 8 * 8 = ltb-false _ _ z in
+      (omega arith, omega arith)
 
--- what a push leaves
-pub args-at : (mem : Mem) (pc top : ℕ) (args : List (List ℕ)) → ((a : ℕ) → cellOk true (mem a) ≡ cellOk true (mem (pageDown a)))
-    → top % 16 ≡ 0 → argsError args ≡ 0 → pushOk mem top args ≡ true
-    → ArgsAt (pushed top args mem) top args (registers pc top args)
-args-at mem pc top args whole h e p =
-    let b₁ = both (not (belowZero top args) && userRangeOk mem true (stringsAt top args) (length (strings args))) (userRangeOk mem true (argvAt top args) (8 * (length args + 1))) p in
-    let b₂ = both (not (belowZero top args)) (userRangeOk mem true (stringsAt top args) (length (strings args))) (b₁ .0) in
-    record { count = refl; read-back = read-back mem top args whole e p; near = near pc top args h e (not-true (belowZero top args) (b₂ .0)) }
+  -- what a push leaves
+  pub args-at : (mem : Mem) (pc top : ℕ) (args : List (List ℕ)) → ((a : ℕ) → cellOk true (mem a) ≡ cellOk true (mem (pageDown a)))
+      → top % 16 ≡ 0 → argsError setup args ≡ 0 → pushOk setup mem top args ≡ true
+      → ArgsAt setup (pushed top args mem) top args (registers pc top args)
+  args-at mem pc top args whole h e p =
+      let b₁ = both (not (belowZero top args) && userRangeOk setup mem true (stringsAt top args) (length (strings args))) (userRangeOk setup mem true (argvAt top args) (8 * (length args + 1))) p in
+      let b₂ = both (not (belowZero top args)) (userRangeOk setup mem true (stringsAt top args) (length (strings args))) (b₁ .0) in
+      record { count = refl; read-back = read-back mem top args whole e p; near = near pc top args h e (not-true (belowZero top args) (b₂ .0)) }
 
 -- ---- of calls
 
 -- the stack of a program that has just been loaded may be written
-pub record Stacked (image : List ℕ) (args : List (List ℕ)) : Type 0 where
-  pub whole : (a : ℕ) → cellOk true (loaded image a) ≡ cellOk true (loaded image (pageDown a))
-  pub fit : argsError args ≡ 0
-  pub room : pushOk (loaded image) ustktop args ≡ true
+pub record Stacked (setup : Setup) (image : List ℕ) (args : List (List ℕ)) : Type 0 where
+  pub accepted : SetupOk setup
+  pub whole : (a : ℕ) → cellOk true (loaded setup image a) ≡ cellOk true (loaded setup image (pageDown a))
+  pub fit : argsError setup args ≡ 0
+  pub room : pushOk setup (loaded setup image) (setup .ustktop) args ≡ true
 
 module _ (m : Machine) (pc : ℕ) where
-  pub start-args : (image name bytes lengths : List ℕ) → Stacked image (argsOf bytes lengths)
-      → ArgsRead m (start image name bytes lengths) (run m (start image name bytes lengths) .mem) (registers pc ustktop (argsOf bytes lengths))
-  start-args image name bytes lengths s = args-at (loaded image) pc ustktop (argsOf bytes lengths) (s .whole) refl (s .fit) (s .room)
+  pub start-args : (image name bytes lengths : List ℕ) → Stacked (m .setup) image (argsOf bytes lengths)
+      → ArgsRead m (start image name bytes lengths) (run m (start image name bytes lengths) .mem) (registers pc (m .setup .ustktop) (argsOf bytes lengths))
+  start-args image name bytes lengths s = args-at (m .setup) (s .accepted) (loaded (m .setup) image) pc (m .setup .ustktop) (argsOf bytes lengths) (s .whole) (omega (arith, s .accepted)) (s .fit) (s .room)
 
-  pub replace-args : (image name : List ℕ) (argv : ℕ) → Stacked image (copyArgv (m .mem) argv .args)
-      → ArgsRead m (replace image name argv) (run m (replace image name argv) .mem) (registers pc ustktop (copyArgv (m .mem) argv .args))
-  replace-args image name argv s = args-at (loaded image) pc ustktop (copyArgv (m .mem) argv .args) (s .whole) refl (s .fit) (s .room)
+  pub replace-args : (image name : List ℕ) (argv : ℕ) → Stacked (m .setup) image (copyArgv (m .setup) (m .mem) argv .args)
+      → ArgsRead m (replace image name argv) (run m (replace image name argv) .mem) (registers pc (m .setup .ustktop) (copyArgv (m .setup) (m .mem) argv .args))
+  replace-args image name argv s = args-at (m .setup) (s .accepted) (loaded (m .setup) image) pc (m .setup .ustktop) (copyArgv (m .setup) (m .mem) argv .args) (s .whole) (omega (arith, s .accepted)) (s .fit) (s .room)
 
-  pub push-args : (top : ℕ) (bytes lengths : List ℕ) → ((a : ℕ) → cellOk true (m .mem a) ≡ cellOk true (m .mem (pageDown a)))
-      → top % 16 ≡ 0 → argsError (argsOf bytes lengths) ≡ 0 → pushOk (m .mem) top (argsOf bytes lengths) ≡ true
+  pub push-args : SetupOk (m .setup) → (top : ℕ) (bytes lengths : List ℕ) → ((a : ℕ) → cellOk true (m .mem a) ≡ cellOk true (m .mem (pageDown a)))
+      → top % 16 ≡ 0 → argsError (m .setup) (argsOf bytes lengths) ≡ 0 → pushOk (m .setup) (m .mem) top (argsOf bytes lengths) ≡ true
       → ArgsRead m (push pc top bytes lengths) (run m (push pc top bytes lengths) .mem) (registers pc top (argsOf bytes lengths))
-  push-args top bytes lengths = args-at (m .mem) pc top (argsOf bytes lengths)
+  push-args ok top bytes lengths = args-at (m .setup) ok (m .mem) pc top (argsOf bytes lengths)

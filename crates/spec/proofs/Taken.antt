@@ -1,4 +1,5 @@
--- A refusal changes nothing; a start takes as many frames as its pages count.
+-- A refusal changes nothing; a setup that breaks a condition is refused directly after 1; a start takes as many frames as its pages
+-- count.
 use Prim.Native.Nat.{ℕ, _+_, _≤_}
 use native.Mathlib.Omega.{arith}
 use mathlib.Core.Path.{_≡_, refl}
@@ -10,10 +11,10 @@ use Rattle.spec.proofs.Bools.{un-not, within-means}
 use Rattle.spec.proofs.Free.{free-place, length-pages, pokes-book}
 use Rattle.spec.specs.Tests.{_is_, _isnt_, _above_, _⇒_else_, sum}
 use Rattle.spec.specs.Book.{valid, free, pageCount}
-use Rattle.spec.specs.Numbers.{ustktop, pageBytes}
+use Rattle.spec.specs.Numbers.{setupOk, pageBytes}
 use Rattle.spec.specs.Elf.{segmentsOf, entry}
 use Rattle.spec.specs.Exec.{startPieces, fileByte, argsOf, argsError, imageError, registers}
-use Rattle.spec.specs.Machine.{Ask, start, Call, accepted, refused, Reply, outcome, outcomeOf, refuse, plainly, judge}
+use Rattle.spec.specs.Machine.{Ask, start, Call, accepted, refused, Reply, outcome, outcomeOf, refuse, plainly, lengthsFit, judge}
 use Rattle.spec.specs.World.{State, sound, taken, answer, after, load}
 use Rattle.spec.specs.Frames.{sized, pagesOf}
 use Rattle.spec.specs.declared.Answer.{Answer}
@@ -23,12 +24,16 @@ pub refused-keeps : (s : State) (c : Call) → outcome (answer s c) ≡ refused 
 unfolding after
 refused-keeps s c e = rw e
 
-loaded-frames : (s : State) (n : ℕ) (image name : List ℕ) (args : List (List ℕ)) → 1 ≤ n → pageCount (startPieces image) ≤ free (s .store .book)
-    → free (load s n image name args .store .book) + pageCount (startPieces image) ≡ free (s .store .book)
+pub bad-setup : (s : State) (c : Call) → sized (s .store) ≡ true → lengthsFit (c .ask) ≡ true → setupOk (s .setup) ≡ false → answer s c ≡ refuse 38 (c .ask)
+unfolding answer
+bad-setup s c p q r = rw (p, q, r)
+
+loaded-frames : (s : State) (n : ℕ) (image name : List ℕ) (args : List (List ℕ)) → 1 ≤ n → pageCount (startPieces (s .setup) image) ≤ free (s .store .book)
+    → free (load s n image name args .store .book) + pageCount (startPieces (s .setup) image) ≡ free (s .store .book)
 loaded-frames s n image name args h l =
     let f : ℕ → List ℕ = pageBytes (fileByte (segmentsOf image)) in
-    let e = length-pages f (startPieces image) in
-    let p = free-place (s .store) n (pagesOf f (startPieces image)) h (rw e l) in
+    let e = length-pages f (startPieces (s .setup) image) in
+    let p = free-place (s .store) n (pagesOf f (startPieces (s .setup) image)) h (rw e l) in
     rw (pokes-book, pokes-book, ← e) p
 
 -- ---- a start that is accepted
@@ -43,25 +48,27 @@ passed-answer false k b e = (refl, e)
 
 pub start-takes : (s : State) (n : ℕ) (image name bytes lengths : List ℕ)
     → let c : Call = record { number = n; ask = start image name bytes lengths } in
-    outcome (answer s c) ≡ accepted → free (after s c .store .book) + pageCount (startPieces image) ≡ free (s .store .book)
+    outcome (answer s c) ≡ accepted → free (after s c .store .book) + pageCount (startPieces (s .setup) image) ≡ free (s .store .book)
 unfolding answer judge after
 start-takes s n image name bytes lengths e =
     let q : Ask = start image name bytes lengths in
     let args : List (List ℕ) = argsOf bytes lengths in
-    let a8 : Answer = Regs (registers (entry image) ustktop args) in
-    let a7 : Answer = pageCount (startPieces image) above free (s .store .book) ⇒ Refused 33 else a8 in
-    let a6 : Answer = imageError image isnt 0 ⇒ Refused (imageError image) else a7 in
-    let a5 : Reply = plainly (argsError args isnt 0 ⇒ Refused (argsError args) else a6) in
+    let a8 : Answer = Regs (registers (entry image) (s .setup .ustktop) args) in
+    let a7 : Answer = pageCount (startPieces (s .setup) image) above free (s .store .book) ⇒ Refused 33 else a8 in
+    let a6 : Answer = imageError (s .setup) image isnt 0 ⇒ Refused (imageError (s .setup) image) else a7 in
+    let a5 : Reply = plainly (argsError (s .setup) args isnt 0 ⇒ Refused (argsError (s .setup) args) else a6) in
     let a4 : Reply = not (not (taken s n)) ⇒ refuse 5 q else a5 in
     let a3 : Reply = not (valid n) ⇒ refuse 3 q else a4 in
     let a2 : Reply = not (sum lengths is length bytes) ⇒ refuse 1 q else a3 in
     let a1 : Reply = not (sound s) ⇒ refuse 2 q else a2 in
-    let p1 = passed (not (sized (s .store) && sum lengths is length bytes)) 1 q a1 e in
+    let a0 : Reply = not (setupOk (s .setup)) ⇒ refuse 38 q else a1 in
+    let p0 = passed (not (sized (s .store) && sum lengths is length bytes)) 1 q a0 e in
+    let p1 = passed (not (setupOk (s .setup))) 38 q a1 (p0 .1) in
     let p2 = passed (not (sound s)) 2 q a2 (p1 .1) in
     let p3 = passed (not (sum lengths is length bytes)) 1 q a3 (p2 .1) in
     let p4 = passed (not (valid n)) 3 q a4 (p3 .1) in
     let p5 = passed (not (not (taken s n))) 5 q a5 (p4 .1) in
-    let p6 = passed-answer (argsError args isnt 0) (argsError args) a6 (p5 .1) in
-    let p7 = passed-answer (imageError image isnt 0) (imageError image) a7 (p6 .1) in
-    let p8 = passed-answer (pageCount (startPieces image) above free (s .store .book)) 33 a8 (p7 .1) in
+    let p6 = passed-answer (argsError (s .setup) args isnt 0) (argsError (s .setup) args) a6 (p5 .1) in
+    let p7 = passed-answer (imageError (s .setup) image isnt 0) (imageError (s .setup) image) a7 (p6 .1) in
+    let p8 = passed-answer (pageCount (startPieces (s .setup) image) above free (s .store .book)) 33 a8 (p7 .1) in
     rw e (loaded-frames s n image name args (within-means 1 17 n (un-not (valid n) (p4 .0)) .0) (ltb-false _ _ (p8 .0)))

@@ -8,7 +8,8 @@ use mathlib.Core.List.{List, [], _∷_}
 use lib.ListN.{length, getD}
 use Rattle.spec.specs.Tests.{_is_, _above_, within, _⇒_else_}
 use Rattle.spec.specs.Frames.{Cell, Mem}
-use Rattle.spec.specs.Numbers.{uaddrtop, pageUp, pageDown, bytesFrom}
+use Rattle.spec.specs.Numbers.{pageUp, pageDown, bytesFrom}
+use Rattle.spec.specs.declared.Setup.{Setup}
 
 -- a page is mapped, and is data for writing
 abbrev pub cellOk : Bool → Option Cell → Bool
@@ -23,9 +24,9 @@ pagesOk mem write page (suc k) = cellOk write (mem page) && pagesOk mem write (p
 
 -- `user_range_ok`: address + length must not exceed UADDRTOP; length 0 then passes, mapped or not; otherwise every page touched
 -- must be mapped, and be data for writing
-abbrev pub userRangeOk : Mem → Bool → ℕ → ℕ → Bool
-userRangeOk mem write addr len =
-    addr + len above uaddrtop ⇒ false else
+abbrev pub userRangeOk : Setup → Mem → Bool → ℕ → ℕ → Bool
+userRangeOk setup mem write addr len =
+    addr + len above setup .uaddrtop ⇒ false else
     len is 0 ⇒ true else
     pagesOk mem write (pageDown addr) ((pageUp (addr + len) - pageDown addr) / 4096)
 
@@ -56,10 +57,10 @@ longer byte s = record { whole = s .whole; size = s .size + 1; buffer = byte ∷
 
 -- it copies up to a NUL, which isn't stored, and leaves the rest of the buffer unchanged; with no NUL the length is the buffer's;
 -- on a bad page the bytes before it stay copied
-abbrev pub copyStr : Mem → List ℕ → ℕ → Str
-copyStr mem [] a = record { whole = true; size = 0; buffer = [] }
-copyStr mem (d ∷ dst) a =
-    let more : Str = longer (byteOf (mem a)) (copyStr mem dst (a + 1)) in
-    not (userRangeOk mem false a 1) ⇒ record { whole = false; size = 0; buffer = d ∷ dst } else
+abbrev pub copyStr : Setup → Mem → List ℕ → ℕ → Str
+copyStr setup mem [] a = record { whole = true; size = 0; buffer = [] }
+copyStr setup mem (d ∷ dst) a =
+    let more : Str = longer (byteOf (mem a)) (copyStr setup mem dst (a + 1)) in
+    not (userRangeOk setup mem false a 1) ⇒ record { whole = false; size = 0; buffer = d ∷ dst } else
     byteOf (mem a) is 0 ⇒ record { whole = true; size = 0; buffer = d ∷ dst } else
     more

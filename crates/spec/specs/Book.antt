@@ -7,7 +7,8 @@ use mathlib.Core.Option.{Option, none, some}
 use mathlib.Core.List.{List, [], _∷_, _++_}
 use lib.ListN.{length, getD, replicate}
 use Rattle.spec.specs.Tests.{_is_, _isnt_, within, _⇒_else_, all}
-use Rattle.spec.specs.Numbers.{ustktop, ustksize, maxProcs, pageUp, pageDown}
+use Rattle.spec.specs.Numbers.{maxProcs, pageUp, pageDown}
+use Rattle.spec.specs.declared.Setup.{Setup}
 use Rattle.spec.specs.declared.VirtRange.{VirtRange}
 use Rattle.spec.specs.declared.UserSegment.{UserSegment}
 use Rattle.spec.specs.declared.Proc.{Proc}
@@ -95,8 +96,8 @@ used [] = []
 used (g ∷ gs) = unused g ⇒ [] else g ∷ used gs
 
 -- the whole stack as data
-abbrev pub stack : UserSegment
-stack = segment (ustktop - ustksize) ustktop 3
+abbrev pub stack : Setup → UserSegment
+stack setup = segment (setup .ustktop - setup .ustksize) (setup .ustktop) 3
 
 -- the bss from its rounded start, as data
 abbrev pub bssSegment : VirtRange → UserSegment

@@ -7,11 +7,12 @@ use mathlib.Core.Option.{Option, none, some}
 use mathlib.Core.List.{List, [], _∷_, _++_, map}
 use lib.ListN.{length, take, drop, getD, replicate}
 use Rattle.spec.specs.Tests.{_is_, _isnt_, _below_, _above_, _⇒_else_, any, has, filter}
-use Rattle.spec.specs.Numbers.{utzero, limit, argLimit, pageUp, pageDown, le, leBytes}
+use Rattle.spec.specs.Numbers.{limit, argLimit, pageUp, pageDown, le, leBytes}
 use Rattle.spec.specs.Book.{range, segment, stack, bssSegment, permAt}
 use Rattle.spec.specs.Frames.{Cell, Mem}
 use Rattle.spec.specs.Access.{userRangeOk, bytesAt, write, Str, copyStr}
 use Rattle.spec.specs.Elf.{Segment, segmentsOf, elfError, inFile}
+use Rattle.spec.specs.declared.Setup.{Setup}
 use Rattle.spec.specs.declared.VirtRange.{VirtRange}
 use Rattle.spec.specs.declared.UserSegment.{UserSegment}
 use Rattle.spec.specs.declared.UserRegs.{UserRegs}
@@ -19,13 +20,15 @@ use Rattle.spec.specs.declared.UserRegs.{UserRegs}
 -- ---- layout
 
 -- `layout`: each segment starts at UTZERO or above and ends at most at limit, and nothing follows a data segment
-abbrev pub layoutOk : List Segment → Bool
-layoutOk [] = true
-layoutOk (g ∷ gs) = not (g .vaddr below utzero) && not (g .vaddr + g .memsz above limit) && (g .perm isnt 3 || length gs is 0) && layoutOk gs
+abbrev pub layoutOk : Setup → List Segment → Bool
+layoutOk setup [] = true
+layoutOk setup (g ∷ gs) =
+    not (g .vaddr below setup .utzero) && not (g .vaddr + g .memsz above limit setup) && (g .perm isnt 3 || length gs is 0) && layoutOk setup gs
 
 -- bss: from data's address + file size to the page end of data's memory; without data, empty at the page end of the last segment
+-- (an image with no segment is refused with 27)
 abbrev pub bssOf : List Segment → VirtRange
-bssOf [] = range utzero utzero
+bssOf [] = range 0 0
 bssOf (g ∷ []) = range (g .perm is 3 ⇒ g .vaddr + length (g .file) else pageUp (g .vaddr + g .memsz)) (pageUp (g .vaddr + g .memsz))
 bssOf (g ∷ h ∷ gs) = bssOf (h ∷ gs)
 
@@ -44,16 +47,16 @@ abbrev pub imageBss : List ℕ → VirtRange
 imageBss image = bssOf (segmentsOf image)
 
 -- 30 for any of 11 to 27 or the layout; 31 for over 15 recorded segments; or 0
-abbrev pub imageError : List ℕ → ℕ
-imageError image =
+abbrev pub imageError : Setup → List ℕ → ℕ
+imageError setup image =
     elfError image isnt 0 ⇒ 30 else
-    not (layoutOk (segmentsOf image)) ⇒ 30 else
+    not (layoutOk setup (segmentsOf image)) ⇒ 30 else
     length (imageSegments image) above 15 ⇒ 31 else
     0
 
 -- the pages that a start takes, ascending: the image's, the bss's, the stack's
-abbrev pub startPieces : List ℕ → List UserSegment
-startPieces image = imageSegments image ++ bssSegment (imageBss image) ∷ stack ∷ []
+abbrev pub startPieces : Setup → List ℕ → List UserSegment
+startPieces setup image = imageSegments image ++ bssSegment (imageBss image) ∷ stack setup ∷ []
 
 -- a page holds its file bytes and zero elsewhere
 abbrev pub fileByte : List Segment → ℕ → ℕ
@@ -65,8 +68,8 @@ abbrev pub cellOf : ℕ → Option ℕ → Option Cell
 cellOf byte none = none
 cellOf byte (some perm) = some (record { perm = perm; byte = byte })
 
-abbrev pub loaded : List ℕ → Mem
-loaded image a = cellOf (fileByte (segmentsOf image) a) (permAt (startPieces image) a)
+abbrev pub loaded : Setup → List ℕ → Mem
+loaded setup image a = cellOf (fileByte (segmentsOf image) a) (permAt (startPieces setup image) a)
 
 -- ---- arguments
 
@@ -85,10 +88,10 @@ abbrev pub stackSize : ℕ → ℕ → ℕ
 stackSize size count = (size + 7) / 8 * 8 + 8 * (count + 1) + 8
 
 -- 32 for a NUL in an argument; 33 for arguments over the limit; or 0
-abbrev pub argsError : List (List ℕ) → ℕ
-argsError args =
+abbrev pub argsError : Setup → List (List ℕ) → ℕ
+argsError setup args =
     any (has 0) args ⇒ 32 else
-    stackSize (length (strings args)) (length args) above argLimit ⇒ 33 else
+    stackSize (length (strings args)) (length args) above argLimit setup ⇒ 33 else
     0
 
 -- `push_args`: strings end at top; pointers and a null lie below from an 8-aligned place; sp is that place rounded down to 16
@@ -111,11 +114,11 @@ abbrev pub belowZero : ℕ → List (List ℕ) → Bool
 belowZero top args = stringsAt top args / 8 * 8 below 8 * (length args + 1)
 
 -- it may write its strings and its pointers
-abbrev pub pushOk : Mem → ℕ → List (List ℕ) → Bool
-pushOk mem top args =
+abbrev pub pushOk : Setup → Mem → ℕ → List (List ℕ) → Bool
+pushOk setup mem top args =
     not (belowZero top args)
-    && userRangeOk mem true (stringsAt top args) (length (strings args))
-    && userRangeOk mem true (argvAt top args) (8 * (length args + 1))
+    && userRangeOk setup mem true (stringsAt top args) (length (strings args))
+    && userRangeOk setup mem true (argvAt top args) (8 * (length args + 1))
 
 -- and what it leaves
 abbrev pub pushed : ℕ → List (List ℕ) → Mem → Mem
@@ -129,26 +132,26 @@ pub record Argv : Type 0 where
   pub args : List (List ℕ)
 
 -- the buffer that each string is copied to
-unfoldable pub argBuffer : List ℕ
-argBuffer = replicate argLimit 0
+unfoldable pub argBuffer : Setup → List ℕ
+argBuffer setup = replicate (argLimit setup) 0
 
 -- in reading order: pointer, string, limit, next. `before` are the arguments read so far; each takes 8 bytes of the limit or more,
 -- so that argLimit turns are never used up
-abbrev pub argvFrom : Mem → ℕ → List (List ℕ) → ℕ → Argv
-argvFrom mem argv before zero = record { error = 33; args = [] }
-argvFrom mem argv before (suc turns) =
+abbrev pub argvFrom : Setup → Mem → ℕ → List (List ℕ) → ℕ → Argv
+argvFrom setup mem argv before zero = record { error = 33; args = [] }
+argvFrom setup mem argv before (suc turns) =
     let at : ℕ = argv + 8 * length before in
     let s : ℕ = le 8 (bytesAt mem at 8) 0 in
-    let str : Str = copyStr mem argBuffer s in
+    let str : Str = copyStr setup mem (argBuffer setup) s in
     let args : List (List ℕ) = before ++ take (str .size) (str .buffer) ∷ [] in
-    let more : Argv = argvFrom mem argv args turns in
-    not (userRangeOk mem false at 8) ⇒ record { error = 35; args = [] } else
+    let more : Argv = argvFrom setup mem argv args turns in
+    not (userRangeOk setup mem false at 8) ⇒ record { error = 35; args = [] } else
     s is 0 ⇒ record { error = 0; args = before } else
     not (str .whole) ⇒ record { error = 35; args = [] } else
-    str .size is argLimit ⇒ record { error = 33; args = [] } else
-    stackSize (length (strings args)) (length args) above argLimit ⇒ record { error = 33; args = [] } else
+    str .size is argLimit setup ⇒ record { error = 33; args = [] } else
+    stackSize (length (strings args)) (length args) above argLimit setup ⇒ record { error = 33; args = [] } else
     more
 
 -- the arguments in the array of pointers at `argv`
-unfoldable pub copyArgv : Mem → ℕ → Argv
-copyArgv mem argv = argvFrom mem argv [] argLimit
+unfoldable pub copyArgv : Setup → Mem → ℕ → Argv
+copyArgv setup mem argv = argvFrom setup mem argv [] (argLimit setup)

@@ -8,12 +8,13 @@ use mathlib.Core.Option.{Option, none, some}
 use mathlib.Core.List.{List, [], _∷_, map}
 use lib.ListN.{length}
 use Rattle.spec.specs.Tests.{_is_, _⇒_else_, all}
-use Rattle.spec.specs.Numbers.{ustktop, argLimit}
+use Rattle.spec.specs.Numbers.{setupOk, argLimit}
 use Rattle.spec.specs.Book.{valid, free, pieces, permAt}
 use Rattle.spec.specs.Frames.{Cell, Mem, sized}
 use Rattle.spec.specs.Exec.{argsOf, copyArgv}
 use Rattle.spec.specs.Machine.{Ask, start, replace, push, break, fork, end, user-range-ok, copy-from-user, copy-to-user, try-copy-str-from-user, Call, Kind, begins, forks, plain, kind, Outcome, accepted, refused, ended, Reply, outcome, Machine, off, feed, judge}
 use Rattle.spec.specs.World.{State, sound, taken, view, answer, readable, after, Does}
+use Rattle.spec.specs.declared.Setup.{Setup}
 use Rattle.spec.specs.declared.Proc.{Proc}
 use Rattle.spec.specs.declared.Procs.{Procs}
 use Rattle.spec.specs.declared.UserRegs.{UserRegs}
@@ -77,9 +78,9 @@ abbrev pub lines : State → List Call → Lines
 lines s h = linesOf (entries s h)
 
 -- a process lives from its line's start to an answer that says it ended or an accepted end, which leave its machine nothing
-abbrev pub machine : List Entry → Machine
-machine [] = off
-machine (e ∷ earlier) = feed (machine earlier) (e .asked .call .ask) (outcome (e .answered))
+abbrev pub machine : Setup → List Entry → Machine
+machine setup [] = off setup
+machine setup (e ∷ earlier) = feed (machine setup earlier) (e .asked .call .ask) (outcome (e .answered))
 
 -- the byte that a machine holds at an address, and the permission
 abbrev pub byteIn : Option Cell → Option ℕ
@@ -98,10 +99,10 @@ heldPerm m a = permIn (m .mem a)
 
 -- each answer of a line is what items 3 to 6 and the table give over what the machine held, the free frames and the numbers taken
 -- before the call
-abbrev pub Explained : List Entry → Type 0
-Explained [] = Unit {0}
-Explained (e ∷ earlier) =
-    (e .answered ≡ judge (machine earlier) (e .asked .free-before) (e .asked .taken-before) (e .asked .call)) × Explained earlier
+abbrev pub Explained : Setup → List Entry → Type 0
+Explained setup [] = Unit {0}
+Explained setup (e ∷ earlier) =
+    (e .answered ≡ judge (machine setup earlier) (e .asked .free-before) (e .asked .taken-before) (e .asked .call)) × Explained setup earlier
 
 -- ---- demand 3
 
@@ -109,27 +110,30 @@ Explained (e ∷ earlier) =
 abbrev pub typed : State → Bool
 typed s = length (s .procs .all) is 16 && all (λ p. length (p .segments) is 16 && length (p .text) is 28) (s .procs .all)
 
--- a sound book with no process, sized as number 1 wants
+-- an accepted setup, and a sound book with no process, sized as number 1 wants
 pub record Begin (s : State) : Type 0 where
   pub types : typed s ≡ true
   pub sizes : sized (s .store) ≡ true
+  pub numbers : setupOk (s .setup) ≡ true
   pub book : sound s ≡ true
   pub nobody : (n : ℕ) → taken s n ≡ false
 
 pub record Claim : Type 0 where
+  -- the setup never changes
+  pub setup : (s : State) (h : List Call) → state s h .setup ≡ s .setup
   -- after any calls, each process's readable addresses and bytes are those of the machine fed its line
-  pub bytes : (s : State) → Begin s → (h : List Call) (n a : ℕ) → valid n ≡ true → readable (state s h) n a ≡ held (machine (lines s h n)) a
+  pub bytes : (s : State) → Begin s → (h : List Call) (n a : ℕ) → valid n ≡ true → readable (state s h) n a ≡ held (machine (s .setup) (lines s h n)) a
   -- which holds a byte for each address of its segments' and its bss's pages, with their permissions
   pub pages : (s : State) → Begin s → (h : List Call) (n a : ℕ) → valid n ≡ true
-      → heldPerm (machine (lines s h n)) a ≡ permAt (pieces (machine (lines s h n) .segments) (machine (lines s h n) .bss)) a
+      → heldPerm (machine (s .setup) (lines s h n)) a ≡ permAt (pieces (machine (s .setup) (lines s h n) .segments) (machine (s .setup) (lines s h n) .bss)) a
   -- a number is taken while its process lives by its line: while the machine holds segments
   pub numbers : (s : State) → Begin s → (h : List Call) (n : ℕ) → valid n ≡ true
-      → taken (state s h) n ≡ not (length (machine (lines s h n) .segments) is 0)
+      → taken (state s h) n ≡ not (length (machine (s .setup) (lines s h n) .segments) is 0)
   -- each answer of each line is what the table gives over that machine
-  pub answers : (s : State) → Begin s → (h : List Call) (n : ℕ) → Explained (lines s h n)
-  -- two histories with the same line, equally many free frames and the same numbers taken before each call of it, give equal answers
-  -- and equal bytes
-  pub alike : (s t : State) → Begin s → Begin t → (h g : List Call) (n : ℕ) → valid n ≡ true
+  pub answers : (s : State) → Begin s → (h : List Call) (n : ℕ) → Explained (s .setup) (lines s h n)
+  -- two histories with the same setup and the same line, equally many free frames and the same numbers taken before each call of it,
+  -- give equal answers and equal bytes
+  pub alike : (s t : State) → Begin s → Begin t → s .setup ≡ t .setup → (h g : List Call) (n : ℕ) → valid n ≡ true
       → map (λ e. e .asked) (lines s h n) ≡ map (λ e. e .asked) (lines t g n)
       → (map (λ e. e .answered) (lines s h n) ≡ map (λ e. e .answered) (lines t g n))
       × ((a : ℕ) → readable (state s h) n a ≡ readable (state t g) n a)
@@ -137,17 +141,17 @@ pub record Claim : Type 0 where
 -- ---- demand 2's last sentence: pushed arguments read back as given, and top minus stack pointer is at most the argument limit
 
 -- registers tell of arguments that were pushed below `top`
-pub record ArgsAt (mem : Mem) (top : ℕ) (args : List (List ℕ)) (regs : UserRegs) : Type 0 where
+pub record ArgsAt (setup : Setup) (mem : Mem) (top : ℕ) (args : List (List ℕ)) (regs : UserRegs) : Type 0 where
   pub count : regs .argc ≡ length args
-  pub read-back : copyArgv mem (regs .argv) ≡ record { error = 0; args = args }
-  pub near : (regs .sp ≤ top) × (top - regs .sp ≤ argLimit)
+  pub read-back : copyArgv setup mem (regs .argv) ≡ record { error = 0; args = args }
+  pub near : (regs .sp ≤ top) × (top - regs .sp ≤ argLimit setup)
 
 -- what registers that were answered tell of memory after the call: of start and push the arguments given, of replace those that it
 -- read before; no other call answers registers
 abbrev pub ArgsRead : Machine → Ask → Mem → UserRegs → Type 0
-ArgsRead m (start image name bytes lengths) mem regs = ArgsAt mem ustktop (argsOf bytes lengths) regs
-ArgsRead m (replace image name argv) mem regs = ArgsAt mem ustktop (copyArgv (m .mem) argv .args) regs
-ArgsRead m (push pc top bytes lengths) mem regs = ArgsAt mem top (argsOf bytes lengths) regs
+ArgsRead m (start image name bytes lengths) mem regs = ArgsAt (m .setup) mem (m .setup .ustktop) (argsOf bytes lengths) regs
+ArgsRead m (replace image name argv) mem regs = ArgsAt (m .setup) mem (m .setup .ustktop) (copyArgv (m .setup) (m .mem) argv .args) regs
+ArgsRead m (push pc top bytes lengths) mem regs = ArgsAt (m .setup) mem top (argsOf bytes lengths) regs
 ArgsRead m (break addr) mem regs = ⊥
 ArgsRead m (fork child segments) mem regs = ⊥
 ArgsRead m end mem regs = ⊥
@@ -172,22 +176,23 @@ pub data Ran (s : State) : List Entry → State → Type 0 where
 
 -- what a program that calls them in any order may rely on
 pub record Runs : Type 0 where
-  -- each call finds frames and book sized and sound, so that 1 and 2 are answered only for lengths and lists that don't fit
-  pub found : (s t : State) → Begin s → (h : List Entry) → Ran s h t → (sized (t .store) ≡ true) × (sound t ≡ true)
+  -- each call finds the setup of the beginning, and frames and book sized and sound, so that 38 is never answered, and 1 and 2 only for
+  -- lengths and lists that don't fit
+  pub found : (s t : State) → Begin s → (h : List Entry) → Ran s h t → (t .setup ≡ s .setup) × (sized (t .store) ≡ true) × (sound t ≡ true)
   -- readable addresses and bytes are those of the machine fed the process's line
-  pub bytes : (s t : State) → Begin s → (h : List Entry) → Ran s h t → (n a : ℕ) → valid n ≡ true → readable t n a ≡ held (machine (linesOf h n)) a
+  pub bytes : (s t : State) → Begin s → (h : List Entry) → Ran s h t → (n a : ℕ) → valid n ≡ true → readable t n a ≡ held (machine (s .setup) (linesOf h n)) a
   -- a number is taken while that machine holds segments
   pub numbers : (s t : State) → Begin s → (h : List Entry) → Ran s h t → (n : ℕ) → valid n ≡ true
-      → taken t n ≡ not (length (machine (linesOf h n) .segments) is 0)
+      → taken t n ≡ not (length (machine (s .setup) (linesOf h n) .segments) is 0)
   -- what a function answers next is what the table gives over that machine, the free frames and the numbers taken
   pub answers : (s t u : State) → Begin s → (h : List Entry) → Ran s h t → (c : Call) (r : Reply) → Does t c u r
-      → r ≡ judge (machine (linesOf h (c .number))) (free (t .store .book)) (taken t) c
+      → r ≡ judge (machine (s .setup) (linesOf h (c .number))) (free (t .store .book)) (taken t) c
   -- registers that it answers tell of the arguments
   pub arguments : (s t u : State) → Begin s → (h : List Entry) → Ran s h t → (c : Call) (r : Reply) (regs : UserRegs) → Does t c u r → r .says ≡ Regs regs
       → ArgsRead (view t (c .number)) (c .ask) (view u (c .number) .mem) regs
-  -- two runs with the same line, equally many free frames and the same numbers taken before each call of it, have had equal answers
-  -- to it from the functions and end with equal bytes
-  pub alike : (s t u v : State) → Begin s → Begin u → (h g : List Entry) → Ran s h t → Ran u g v → (n : ℕ) → valid n ≡ true
+  -- two runs with the same setup and the same line, equally many free frames and the same numbers taken before each call of it, have
+  -- had equal answers to it from the functions and end with equal bytes
+  pub alike : (s t u v : State) → Begin s → Begin u → s .setup ≡ u .setup → (h g : List Entry) → Ran s h t → Ran u g v → (n : ℕ) → valid n ≡ true
       → map (λ e. e .asked) (linesOf h n) ≡ map (λ e. e .asked) (linesOf g n)
       → (map (λ e. e .answered) (linesOf h n) ≡ map (λ e. e .answered) (linesOf g n))
       × ((a : ℕ) → readable t n a ≡ readable v n a)

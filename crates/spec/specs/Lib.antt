@@ -14,3 +14,4 @@ pub mod Machine
 pub mod World
 pub mod History
 pub mod Listing
+pub mod SetupText

@@ -1,10 +1,11 @@
 -- The listing program: what it prints for an image. It is the reader's half of the scope that a user sees without starting a
--- process.
+-- process. It keeps the deposit machine's numbers.
 -- Assumes nothing.
 use Prim.Native.Nat.{ℕ, zero, suc, _+_, _/_, _%_}
 use mathlib.Core.List.{List, [], _∷_, _++_}
 use lib.ListN.{length}
 use Rattle.spec.specs.Tests.{_is_, _isnt_, _below_, _above_, _⇒_else_, ascii}
+use Rattle.spec.specs.Numbers.{deposit}
 use Rattle.spec.specs.Book.{pageCount}
 use Rattle.spec.specs.Elf.{entry, elfError}
 use Rattle.spec.specs.Exec.{imageError, imageSegments, imageBss, startPieces}
@@ -16,7 +17,7 @@ unfoldable pub listError : List ℕ → ℕ
 listError image =
     length image above 32768 ⇒ 1 else
     elfError image isnt 0 ⇒ elfError image else
-    imageError image
+    imageError deposit image
 
 -- a number in decimal, of at most k digits; 20 digits hold every number below 2^64
 abbrev pub decimalOf : ℕ → ℕ → List ℕ
@@ -48,4 +49,4 @@ listing image =
     listError image isnt 0 ⇒ ascii "refused=" ++ decimal (listError image) ++ 10 ∷ [] else
     (ascii "entry=" ++ decimal (entry image) ++ 10 ∷ segmentLines (imageSegments image)
     ++ ascii "bss=" ++ rangeText (imageBss image)
-    ++ ascii "pages=" ++ decimal (pageCount (startPieces image)) ++ 10 ∷ [])
+    ++ ascii "pages=" ++ decimal (pageCount (startPieces deposit image)) ++ 10 ∷ [])

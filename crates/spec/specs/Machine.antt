@@ -6,13 +6,14 @@ use mathlib.Core.Option.{Option, none, some}
 use mathlib.Core.List.{List, [], _∷_, _++_}
 use lib.ListN.{length}
 use Rattle.spec.specs.Tests.{_is_, _isnt_, _above_, _⇒_else_, same, sum}
-use Rattle.spec.specs.Numbers.{ustktop, pageUp}
+use Rattle.spec.specs.Numbers.{pageUp}
 use Rattle.spec.specs.Book.{valid, range, stack, sameSegment, pieces, pageCount}
 use Rattle.spec.specs.Frames.{Mem}
 use Rattle.spec.specs.Access.{userRangeOk, bytesAt, write, Str, copyStr}
 use Rattle.spec.specs.Elf.{entry}
 use Rattle.spec.specs.Exec.{imageError, imageSegments, imageBss, startPieces, loaded, argsOf, argsError, registers, pushOk, pushed, Argv, copyArgv}
 use Rattle.spec.specs.Segment.{Break, ibrk, moved}
+use Rattle.spec.specs.declared.Setup.{Setup}
 use Rattle.spec.specs.declared.VirtRange.{VirtRange}
 use Rattle.spec.specs.declared.UserSegment.{UserSegment}
 use Rattle.spec.specs.declared.UserRegs.{UserRegs}
@@ -107,15 +108,16 @@ refuse number q = record { says = Refused number; buffer = lent q }
 
 -- ---- the machine
 
--- segments with permissions, a bss, and a byte for each address of their pages
+-- segments with permissions, a bss, and a byte for each address of their pages; and the setup, which never changes
 pub record Machine : Type 0 where
+  pub setup : Setup
   pub segments : List UserSegment
   pub bss : VirtRange
   pub mem : Mem
 
 -- nothing left
-abbrev pub off : Machine
-off = record { segments = []; bss = range 0 0; mem = λ a. none }
+abbrev pub off : Setup → Machine
+off setup = record { setup = setup; segments = []; bss = range 0 0; mem = λ a. none }
 
 -- ---- what a call answers, over what the machine holds, the free frames and the numbers taken
 
@@ -179,29 +181,29 @@ abbrev pub own : Machine → ℕ
 own m = pageCount (pieces (m .segments) (m .bss))
 
 -- start (`exec`): 32, 33 arguments, 30, 31, 33 frames
-abbrev pub weighStart : ℕ → List ℕ → List (List ℕ) → Answer
-weighStart free image args =
-    argsError args isnt 0 ⇒ Refused (argsError args) else
-    imageError image isnt 0 ⇒ Refused (imageError image) else
-    pageCount (startPieces image) above free ⇒ Refused 33 else
-    Regs (registers (entry image) ustktop args)
+abbrev pub weighStart : Setup → ℕ → List ℕ → List (List ℕ) → Answer
+weighStart setup free image args =
+    argsError setup args isnt 0 ⇒ Refused (argsError setup args) else
+    imageError setup image isnt 0 ⇒ Refused (imageError setup image) else
+    pageCount (startPieces setup image) above free ⇒ Refused 33 else
+    Regs (registers (entry image) (setup .ustktop) args)
 
 -- replace (`sysexec` after reading): 30, 31, then `copy_argv`'s 35 or 33 in reading order, then 33 if own and free frames don't suffice;
 -- 35 and the last 33 end the process
 abbrev pub weighReplace : Machine → ℕ → List ℕ → Argv → Answer
 weighReplace m free image read =
-    imageError image isnt 0 ⇒ Refused (imageError image) else
+    imageError (m .setup) image isnt 0 ⇒ Refused (imageError (m .setup) image) else
     read .error is 35 ⇒ Ended 35 else
     read .error is 33 ⇒ Refused 33 else
-    pageCount (startPieces image) above own m + free ⇒ Ended 33 else
-    Regs (registers (entry image) ustktop (read .args))
+    pageCount (startPieces (m .setup) image) above own m + free ⇒ Ended 33 else
+    Regs (registers (entry image) (m .setup .ustktop) (read .args))
 
 -- push: 36, 32, 33, 35
 abbrev pub weighPush : Machine → ℕ → ℕ → List (List ℕ) → Answer
 weighPush m pc top args =
     top % 16 isnt 0 ⇒ Refused 36 else
-    argsError args isnt 0 ⇒ Refused (argsError args) else
-    not (pushOk (m .mem) top args) ⇒ Ended 35 else
+    argsError (m .setup) args isnt 0 ⇒ Refused (argsError (m .setup) args) else
+    not (pushOk (m .setup) (m .mem) top args) ⇒ Ended 35 else
     Regs (registers pc top args)
 
 -- break: `ibrk`'s rule; a living process has a bss
@@ -218,19 +220,19 @@ weighStr s =
 
 -- after 1 to 5, each call's own numbers in its order
 abbrev pub weigh : Machine → ℕ → Ask → Reply
-weigh m free (start image name bytes lengths) = plainly (weighStart free image (argsOf bytes lengths))
-weigh m free (replace image name argv) = plainly (weighReplace m free image (copyArgv (m .mem) argv))
+weigh m free (start image name bytes lengths) = plainly (weighStart (m .setup) free image (argsOf bytes lengths))
+weigh m free (replace image name argv) = plainly (weighReplace m free image (copyArgv (m .setup) (m .mem) argv))
 weigh m free (push pc top bytes lengths) = plainly (weighPush m pc top (argsOf bytes lengths))
-weigh m free (break addr) = plainly (weighBreak (ibrk (some (m .bss)) addr free))
+weigh m free (break addr) = plainly (weighBreak (ibrk (m .setup) (some (m .bss)) addr free))
 weigh m free (fork child segments) = plainly (own m above free ⇒ Refused 33 else Done)
 weigh m free end = plainly Done
-weigh m free (user-range-ok addr len write) = plainly (Value (userRangeOk (m .mem) write addr len ⇒ 1 else 0))
+weigh m free (user-range-ok addr len write) = plainly (Value (userRangeOk (m .setup) (m .mem) write addr len ⇒ 1 else 0))
 weigh m free (copy-from-user buffer src) =
-    not (userRangeOk (m .mem) false src (length buffer)) ⇒ record { says = Ended 35; buffer = buffer } else
+    not (userRangeOk (m .setup) (m .mem) false src (length buffer)) ⇒ record { says = Ended 35; buffer = buffer } else
     record { says = Done; buffer = bytesAt (m .mem) src (length buffer) }
-weigh m free (copy-to-user dst bytes) = plainly (not (userRangeOk (m .mem) true dst (length bytes)) ⇒ Ended 35 else Done)
+weigh m free (copy-to-user dst bytes) = plainly (not (userRangeOk (m .setup) (m .mem) true dst (length bytes)) ⇒ Ended 35 else Done)
 weigh m free (try-copy-str-from-user buffer src) =
-    let str : Str = copyStr (m .mem) buffer src in
+    let str : Str = copyStr (m .setup) (m .mem) buffer src in
     record { says = weighStr str; buffer = str .buffer }
 
 -- the table: 1 to 5 come first, in that order
@@ -246,24 +248,29 @@ judge m free taken c =
 -- ---- what a call makes of the machine
 
 abbrev pub withMem : Machine → Mem → Machine
-withMem m mem = record { segments = m .segments; bss = m .bss; mem = mem }
+withMem m mem = record { setup = m .setup; segments = m .segments; bss = m .bss; mem = mem }
 
 -- start: segments, bss and stack of an image, file bytes in place, 0 elsewhere; then the arguments pushed
-abbrev pub begun : List ℕ → List (List ℕ) → Machine
-begun image args = record { segments = imageSegments image ++ stack ∷ []; bss = imageBss image; mem = pushed ustktop args (loaded image) }
+abbrev pub begun : Setup → List ℕ → List (List ℕ) → Machine
+begun setup image args = record {
+  setup = setup;
+  segments = imageSegments image ++ stack setup ∷ [];
+  bss = imageBss image;
+  mem = pushed (setup .ustktop) args (loaded setup image);
+}
 
 -- break: the bss end becomes `top`
 abbrev pub movedTo : ℕ → Machine → Machine
-movedTo top m = record { segments = m .segments; bss = range (m .bss .start) top; mem = moved (m .bss .end) top (m .mem) }
+movedTo top m = record { setup = m .setup; segments = m .segments; bss = range (m .bss .start) top; mem = moved (m .bss .end) top (m .mem) }
 
 -- an accepted call; fork, reads and checks make no change
 abbrev pub run : Machine → Ask → Machine
-run m (start image name bytes lengths) = begun image (argsOf bytes lengths)
-run m (replace image name argv) = begun image (copyArgv (m .mem) argv .args)
+run m (start image name bytes lengths) = begun (m .setup) image (argsOf bytes lengths)
+run m (replace image name argv) = begun (m .setup) image (copyArgv (m .setup) (m .mem) argv .args)
 run m (push pc top bytes lengths) = withMem m (pushed top (argsOf bytes lengths) (m .mem))
 run m (break addr) = addr is 0 ⇒ m else movedTo (pageUp addr) m
 run m (fork child segments) = m
-run m end = off
+run m end = off (m .setup)
 run m (user-range-ok addr len write) = m
 run m (copy-from-user buffer src) = m
 run m (copy-to-user dst bytes) = withMem m (write dst bytes (m .mem))
@@ -273,4 +280,4 @@ run m (try-copy-str-from-user buffer src) = m
 abbrev pub feed : Machine → Ask → Outcome → Machine
 feed m ask accepted = run m ask
 feed m ask refused = m
-feed m ask ended = off
+feed m ask ended = off (m .setup)

@@ -1,34 +1,52 @@
--- The machine numbers, whole pages, and little-endian numbers in bytes. Every rule below cites the machine's addresses and
--- sizes by their names.
+-- The machine numbers (02, 5/13), whole pages, and little-endian numbers in bytes. Every rule below that needs a machine number is
+-- handed the setup that has it.
 -- Assumes nothing.
-use Prim.Native.Nat.{ℕ, zero, suc, _+_, _*_, _-_, _/_, _%_, _^_}
+use Prim.Native.Nat.{ℕ, zero, suc, _+_, _*_, _-_, _/_, _%_, _^_, _≤_, _<_}
+use mathlib.Core.Bool.{Bool, not, _&&_}
+use mathlib.Core.Path.{_≡_}
 use mathlib.Core.List.{List, [], _∷_}
 use lib.ListN.{getD, replicate}
+use Rattle.spec.specs.Tests.{_is_, _below_, _above_}
+use Rattle.spec.specs.declared.Setup.{Setup}
 
 -- ---- machine numbers. A page is 4,096 bytes, and that number is written out, since a proof divides by numerals only.
 
--- where user text may begin
-abbrev pub utzero : ℕ
-utzero = 65536
+-- no user address space ends above this
+abbrev pub maxTop : ℕ
+maxTop = 2 ^ 47
 
--- the end of the user address space
-abbrev pub uaddrtop : ℕ
-uaddrtop = 2 ^ 47
-
--- the top of the user stack, and its size
-abbrev pub ustktop : ℕ
-ustktop = 2 ^ 47
-
-abbrev pub ustksize : ℕ
-ustksize = 16384
+-- the deposit machine's (01)
+abbrev pub deposit : Setup
+deposit = record { utzero = 65536; ustktop = 2 ^ 47; ustksize = 16384; uaddrtop = 2 ^ 47 }
 
 -- "limit": one guard page lies above it
-abbrev pub limit : ℕ
-limit = ustktop - ustksize - 4096
+abbrev pub limit : Setup → ℕ
+limit setup = setup .ustktop - setup .ustksize - 4096
 
 -- the argument limit: a quarter of the stack
-abbrev pub argLimit : ℕ
-argLimit = ustksize / 4
+abbrev pub argLimit : Setup → ℕ
+argLimit setup = setup .ustksize / 4
+
+-- 38 (02, 5/13): all are multiples of 4,096; UTZERO and USTKSIZE are at least 4,096; USTKSIZE is at most 65,536 and below USTKTOP;
+-- UTZERO + 8,192 is at most USTKTOP − USTKSIZE; USTKTOP is at most UADDRTOP, and that at most 2^47
+unfoldable pub setupOk : Setup → Bool
+setupOk setup =
+    setup .utzero % 4096 is 0 && setup .ustktop % 4096 is 0 && setup .ustksize % 4096 is 0 && setup .uaddrtop % 4096 is 0
+    && not (setup .utzero below 4096) && not (setup .ustksize below 4096)
+    && not (setup .ustksize above 65536) && setup .ustksize below setup .ustktop
+    && not (setup .utzero + 8192 above setup .ustktop - setup .ustksize)
+    && not (setup .ustktop above setup .uaddrtop) && not (setup .uaddrtop above maxTop)
+
+-- the same as facts
+pub record SetupOk (setup : Setup) : Type 0 where
+  pub pages : (setup .utzero % 4096 ≡ 0) × (setup .ustktop % 4096 ≡ 0) × (setup .ustksize % 4096 ≡ 0) × (setup .uaddrtop % 4096 ≡ 0)
+  pub text-least : 4096 ≤ setup .utzero
+  pub stack-least : 4096 ≤ setup .ustksize
+  pub stack-most : setup .ustksize ≤ 65536
+  pub stack-fits : setup .ustksize < setup .ustktop
+  pub room : setup .utzero + 8192 ≤ setup .ustktop - setup .ustksize
+  pub in-space : setup .ustktop ≤ setup .uaddrtop
+  pub space-most : setup .uaddrtop ≤ maxTop
 
 -- frames 1 to 1,024; processes numbered 1 to 16
 abbrev pub maxFrames : ℕ

@@ -7,6 +7,7 @@ use Rattle.spec.specs.Tests.{_is_, _below_, _above_, within, _⇒_else_}
 use Rattle.spec.specs.Numbers.{limit, pageUp}
 use Rattle.spec.specs.Book.{range}
 use Rattle.spec.specs.Frames.{Cell, Mem}
+use Rattle.spec.specs.declared.Setup.{Setup}
 use Rattle.spec.specs.declared.VirtRange.{VirtRange}
 
 -- what a break comes to: the number it is refused with, or 0; its value; and the bss handed back
@@ -25,13 +26,13 @@ endsAt top bss = record { error = 0; value = 0; bss = some (range (bss .start) t
 
 -- `ibrk`'s rule, over an optional bss with any numbers in it, an address and a free count: no bss 32; address 0 answers bss start;
 -- below start 33; rounding past 64 bits 33; above limit 34; shrink; too few frames 33; grow
-unfoldable pub ibrk : Option VirtRange → ℕ → ℕ → Break
-ibrk none addr free = record { error = 32; value = 0; bss = none }
-ibrk (some bss) addr free =
+unfoldable pub ibrk : Setup → Option VirtRange → ℕ → ℕ → Break
+ibrk setup none addr free = record { error = 32; value = 0; bss = none }
+ibrk setup (some bss) addr free =
     addr is 0 ⇒ record { error = 0; value = bss .start; bss = some bss } else
     addr below bss .start ⇒ refusedBy 33 bss else
     not (pageUp addr below 2 ^ 64) ⇒ refusedBy 33 bss else
-    pageUp addr above limit ⇒ refusedBy 34 bss else
+    pageUp addr above limit setup ⇒ refusedBy 34 bss else
     pageUp addr below bss .end ⇒ endsAt (pageUp addr) bss else
     pageUp addr - bss .end above 4096 * free ⇒ refusedBy 33 bss else
     endsAt (pageUp addr) bss

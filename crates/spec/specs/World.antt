@@ -8,7 +8,7 @@ use mathlib.Core.Option.{Option, none, some}
 use mathlib.Core.List.{List, [], _∷_, _++_}
 use lib.ListN.{length, getD, set, replicate}
 use Rattle.spec.specs.Tests.{_is_, within, _⇒_else_}
-use Rattle.spec.specs.Numbers.{ustktop, pageUp, pageBytes, zeroPage}
+use Rattle.spec.specs.Numbers.{setupOk, pageUp, pageBytes, zeroPage}
 use Rattle.spec.specs.Name.{elem, kstrcpy}
 use Rattle.spec.specs.Book.{pageOf, ownerOf, valid, frameOf, free, range, segment, zeroSegment, zeroProc, lives, used, stack, piecesOf, procAt}
 use Rattle.spec.specs.Frames.{Store, sized, memOf, pagesOf, place, release, frameBytes, pokes}
@@ -16,17 +16,19 @@ use Rattle.spec.specs.Sound.{soundBook}
 use Rattle.spec.specs.Elf.{segmentsOf}
 use Rattle.spec.specs.Exec.{imageSegments, imageBss, startPieces, fileByte, argsOf, strings, stringsAt, argvAt, pointers, copyArgv}
 use Rattle.spec.specs.Machine.{Ask, start, replace, push, break, fork, end, user-range-ok, copy-from-user, copy-to-user, try-copy-str-from-user, Call, Outcome, accepted, refused, ended, Reply, outcome, refuse, Machine, lengthsFit, judge}
+use Rattle.spec.specs.declared.Setup.{Setup}
 use Rattle.spec.specs.declared.Proc.{Proc}
 use Rattle.spec.specs.declared.Procs.{Procs}
 
--- frames and book, which are lent to every call, and records
+-- the setup, which is handed to every call, the same each time; frames and book, which are lent to it; and records
 pub record State : Type 0 where
+  pub setup : Setup
   pub store : Store
   pub procs : Procs
 
 -- 2: the book is sound
 abbrev pub sound : State → Bool
-sound s = soundBook (s .store .book) (s .procs)
+sound s = soundBook (s .setup) (s .store .book) (s .procs)
 
 -- a number is taken while its process lives
 abbrev pub taken : State → ℕ → Bool
@@ -35,6 +37,7 @@ taken s n = valid n && lives (procAt (s .procs) n)
 -- what process n holds: the machine of demand 3, read off frames, book and records
 abbrev pub view : State → ℕ → Machine
 view s n = record {
+  setup = s .setup;
   segments = used (procAt (s .procs) n .segments);
   bss = procAt (s .procs) n .bss;
   mem = memOf (s .store) n;
@@ -42,10 +45,12 @@ view s n = record {
 
 -- ---- the answer
 
--- 1 and 2 judge what is lent; all else is judged over what the process holds, the free frames and the numbers taken
+-- 1, 38 and 2 judge what is lent and handed over; all else is judged over what the process holds, the free frames and the numbers
+-- taken
 unfoldable pub answer : State → Call → Reply
 answer s c =
     not (sized (s .store) && lengthsFit (c .ask)) ⇒ refuse 1 (c .ask) else
+    not (setupOk (s .setup)) ⇒ refuse 38 (c .ask) else
     not (sound s) ⇒ refuse 2 (c .ask) else
     judge (view s (c .number)) (free (s .store .book)) (taken s) c
 
@@ -72,12 +77,12 @@ pushIn m n top args = pokes (pokes m n (stringsAt top args) (strings args)) n (a
 
 -- a process ends: frames free, record zero, frame bytes as before
 abbrev pub forget : State → ℕ → State
-forget s n = record { store = release (s .store) (λ w. ownerOf w is n); procs = setProc (s .procs) n zeroProc }
+forget s n = record { setup = s .setup; store = release (s .store) (λ w. ownerOf w is n); procs = setProc (s .procs) n zeroProc }
 
 -- the record of an image: its segments and the stack, the last element of a name, and its bss
-abbrev pub procOf : List ℕ → List ℕ → Proc
-procOf image name = record {
-  segments = imageSegments image ++ stack ∷ replicate (15 - length (imageSegments image)) zeroSegment;
+abbrev pub procOf : Setup → List ℕ → List ℕ → Proc
+procOf setup image name = record {
+  segments = imageSegments image ++ stack setup ∷ replicate (15 - length (imageSegments image)) zeroSegment;
   text = kstrcpy (elem name);
   bss = imageBss image;
 }
@@ -85,13 +90,15 @@ procOf image name = record {
 -- an image's pages, ascending, then its arguments; and its record
 abbrev pub load : State → ℕ → List ℕ → List ℕ → List (List ℕ) → State
 load s n image name args = record {
-  store = pushIn (place (s .store) n (pagesOf (pageBytes (fileByte (segmentsOf image))) (startPieces image))) n ustktop args;
-  procs = setProc (s .procs) n (procOf image name);
+  setup = s .setup;
+  store = pushIn (place (s .store) n (pagesOf (pageBytes (fileByte (segmentsOf image))) (startPieces (s .setup) image))) n (s .setup .ustktop) args;
+  procs = setProc (s .procs) n (procOf (s .setup) image name);
 }
 
 -- the bss end moves to `top`: pages past it are freed, new ones are zeroed
 abbrev pub brk : State → ℕ → Proc → ℕ → State
 brk s n p top = record {
+  setup = s .setup;
   store =
       place (release (s .store) (λ w. ownerOf w is n && within top (p .bss .end) (pageOf w))) n
       (pagesOf zeroPage (segment (p .bss .end) top 3 ∷ []));
@@ -101,17 +108,18 @@ brk s n p top = record {
 -- fork: every page now, segments in record order, then bss; the child takes record and name
 abbrev pub copy : State → ℕ → ℕ → Proc → State
 copy s n child p = record {
+  setup = s .setup;
   store = place (s .store) child (pagesOf (λ a. frameBytes (s .store .frames) (frameOf (s .store .book) n a)) (piecesOf p));
   procs = setProc (s .procs) child p;
 }
 
 abbrev pub withStore : State → Store → State
-withStore s m = record { store = m; procs = s .procs }
+withStore s m = record { setup = s .setup; store = m; procs = s .procs }
 
 -- an accepted call; replace frees the old pages first, and has read its arguments before
 abbrev pub settle : State → ℕ → Ask → State
 settle s n (start image name bytes lengths) = load s n image name (argsOf bytes lengths)
-settle s n (replace image name argv) = load (forget s n) n image name (copyArgv (view s n .mem) argv .args)
+settle s n (replace image name argv) = load (forget s n) n image name (copyArgv (s .setup) (view s n .mem) argv .args)
 settle s n (push pc top bytes lengths) = withStore s (pushIn (s .store) n top (argsOf bytes lengths))
 settle s n (break addr) = addr is 0 ⇒ s else brk s n (procAt (s .procs) n) (pageUp addr)
 settle s n (fork child segments) = copy s n child (procAt (s .procs) n)

@@ -1,22 +1,26 @@
 // The types that calls take and give back, as r9's dat.rs and mem.rs declare them, and the types of their answers.
 // Every definition that a contract cites is over these; the definitions stand in specs/.
 
-// The machine's numbers, as fake.rs has them for its own. A page is mem.rs's.
+// A page is mem.rs's.
 pub const PAGE_SIZE_4K: u64 = 4096;
 
-pub const UTZERO: u64 = 65536;
+// No user address space ends above this.
+pub const MAX_TOP: u64 = 140737488355328;
 
-pub const UADDRTOP: u64 = 140737488355328;
+// What arguments may take of the largest stack that a setup may have: buffers are of this size.
+pub const MAX_ARGS: u64 = 16384;
 
-pub const USTKTOP: u64 = 140737488355328;
-
-pub const USTKSIZE: u64 = 16384;
-
-// The highest address that an image or a bss may end at: one guard page lies between it and the stack.
-pub const LIMIT: u64 = USTKTOP - USTKSIZE - PAGE_SIZE_4K;
-
-// What arguments may take of a stack.
-pub const ARG_LIMIT: u64 = USTKSIZE / 4;
+// What is fixed before the first start and handed to every call: the machine's numbers, as fake.rs has them for its own.
+#[repr(C)]
+pub struct Setup {
+    // Where user text may begin.
+    pub utzero: u64,
+    // The top of the user stack, and its size.
+    pub ustktop: u64,
+    pub ustksize: u64,
+    // The end of the user address space.
+    pub uaddrtop: u64,
+}
 
 // Permissions of segments and pages, in records and in book words.
 pub const TEXT: u64 = 1;
@@ -35,6 +39,10 @@ pub const NUMBER: u64 = 3;
 pub const DEAD: u64 = 4;
 
 pub const TAKEN: u64 = 5;
+
+pub const SETUP_LINES: u64 = 37;
+
+pub const SETUP: u64 = 38;
 
 pub const EBADEXEC: u64 = 30;
 

@@ -2,17 +2,49 @@
 // numbers are weighed before the first page is placed.
 
 ghost use mathlib.Core.Path.{_≡_};
+ghost use lib.ListN.{length};
+ghost use Rattle.spec.specs.Tests.{sum};
+ghost use Rattle.spec.specs.Elf.{entry};
+ghost use Rattle.spec.specs.Exec.{argsOf, argsError, registers};
 ghost use Rattle.spec.specs.Machine.{start, plainly};
 ghost use Rattle.spec.specs.World.{Does};
+ghost use Rattle.book.specs.Lent.{store};
 ghost use Rattle.front.specs.Numbers.{stateOf, call};
+ghost use Rattle.install.specs.Installing.{Installable, installed};
+use exec::Plan;
 use front::left::Left;
 use spec::Answer;
 use spec::Procs;
+use spec::Setup;
+use spec::UserRegs;
+
+// Installs an accepted image with arguments that pass, as `install`, by way of a buffer of its own.
+fn install_with(
+    setup: Setup,
+    frames: &mut [u8],
+    book: &mut [u64],
+    number: u64,
+    image: &[u8],
+    plan: Plan,
+    bytes: &[u8],
+    lengths: &[u64],
+) -> UserRegs
+    requires { ⌜ Installable setup (store (now frames) (now book)) number (now image) plan ⌝ }
+    requires { ⌜ (sum (now lengths) ≡ length (now bytes)) × (argsError setup (argsOf (now bytes) (now lengths)) ≡ 0) ⌝ }
+    ensures { λ _. ⌜ store (now (frames .exit)) (now (book .exit)) ≡ installed setup (store (now (frames .entry)) (now (book .entry))) number (now (image .entry)) (argsOf (now (bytes .entry)) (now (lengths .entry))) ⌝ }
+    ensures { λ r. ⌜ r ≡ registers (entry (now (image .entry))) (setup .ustktop) (argsOf (now (bytes .entry)) (now (lengths .entry))) ⌝ }
+{
+    let mut buf = [0u8; args_into::BUFFER_SIZE];
+    let size = args_into::args_into(&mut buf, setup.ustktop, bytes, lengths);
+    let nargs = lengths.len();
+    install::install(setup, frames, book, number, image, plan, &buf, size, nargs)
+}
 
 // Starts process `number` from an image, with the last element of `name` as its name and with arguments, which are bytes and
-// lengths. Refused with 1, 2, 3 or 5, then with 32 or 33 for its arguments, 30 or 31 for its image, or 33 if the free frames don't
+// lengths. Refused with 1, 38, 2, 3 or 5, then with 32 or 33 for its arguments, 30 or 31 for its image, or 33 if the free frames don't
 // hold its pages, it changes nothing.
 pub fn start(
+    setup: Setup,
     frames: &mut [u8],
     book: &mut [u64],
     procs: Procs,
@@ -22,18 +54,18 @@ pub fn start(
     bytes: &[u8],
     lengths: &[u64],
 ) -> Left
-    ensures { λ r. ⌜ Does (stateOf (now (frames .entry)) (now (book .entry)) procs) (call number (start (now (image .entry)) (now (name .entry)) (now (bytes .entry)) (now (lengths .entry)))) (stateOf (now (frames .exit)) (now (book .exit)) (r .procs)) (plainly (r .answer)) ⌝ }
+    ensures { λ r. ⌜ Does (stateOf setup (now (frames .entry)) (now (book .entry)) procs) (call number (start (now (image .entry)) (now (name .entry)) (now (bytes .entry)) (now (lengths .entry)))) (stateOf setup (now (frames .exit)) (now (book .exit)) (r .procs)) (plainly (r .answer)) ⌝ }
 {
     let fits = args::lengths_fit(bytes, lengths);
-    let e = front::numbers::begin_error(frames, book, procs, number, fits);
+    let e = front::numbers::begin_error(setup, frames, book, procs, number, fits);
     if e != 0 {
         return Left {
             procs: procs,
             answer: Answer::Refused(e),
         };
     }
-    let checked = args::args_size(bytes, lengths);
-    let plan = exec::plan_of(image);
+    let checked = args::args_size(setup, bytes, lengths);
+    let plan = exec::plan_of(setup, image);
     let free = book::free_count(book) as u64;
     if checked.error != 0 {
         return Left {
@@ -53,15 +85,9 @@ pub fn start(
             answer: Answer::Refused(spec::ENOVMEM),
         };
     }
-    install::install(
-        frames,
-        book,
-        procs,
-        number,
-        image,
-        plan,
-        name,
-        bytes,
-        lengths,
-    )
+    let regs = install_with(setup, frames, book, number, image, plan, bytes, lengths);
+    Left {
+        procs: front::record::with_proc(procs, number, install::record_of(plan, name)),
+        answer: Answer::Regs(regs),
+    }
 }

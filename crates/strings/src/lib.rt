@@ -37,6 +37,20 @@ fn blocks(s: &[u8]) -> usize
     k
 }
 
+// How many bytes stand before the first NUL: first those of whole blocks, then byte by byte.
+pub fn to_nul(s: &[u8]) -> usize
+    ensures { λ r. ⌜ r ≡ toNul (now (s .entry)) ⌝ }
+{
+    let mut i = blocks(s);
+    while i < s.len() {
+        if s[i] == 0 {
+            return i;
+        }
+        i += 1;
+    }
+    i
+}
+
 // Copies `s` into `d` up to a NUL, which isn't stored, and counts what it copied: first whole blocks, then byte by byte.
 pub fn copy_to_nul(d: &mut [u8], s: &[u8]) -> usize
     requires { ⌜ length (now d) ≡ length (now s) ⌝ }

@@ -7,6 +7,7 @@
 ghost use mathlib.Core.Path.{_≡_};
 ghost use Prim.Native.Nat.{_*_};
 ghost use lib.ListN.{length};
+ghost use Rattle.spec.specs.Numbers.{SetupOk};
 ghost use Rattle.spec.specs.Frames.{memOf};
 ghost use Rattle.spec.specs.Access.{copyStr};
 ghost use Rattle.sound.specs.Table.{Ready};
@@ -15,6 +16,7 @@ ghost use Rattle.uaccess.specs.Strings.{copied};
 pub use copies::read_user;
 pub use copies::write_user;
 pub use ranges::user_range_ok;
+use spec::Setup;
 
 // What a string copy answers: whether every byte that it needed could be read, and the length.
 pub struct Str {
@@ -26,6 +28,7 @@ pub struct Str {
 // length, or `dst.len()` if there's no NUL within that many bytes. Each page is checked before it's read, so a string may end just
 // before an unmapped page. Where a byte that it needs can't be read, what it has copied stays.
 pub fn try_copy_str_from_user(
+    setup: Setup,
     frames: &[u8],
     book: &[u64],
     tags: &[u64; 272],
@@ -36,13 +39,14 @@ pub fn try_copy_str_from_user(
     src: u64,
 ) -> Str
     requires { ⌜ (length (now frames) ≡ 4096 * length (now book)) × Ready (now book) (now tags) (now bases) (now table) ⌝ }
-    ensures { λ r. ⌜ copied (r .whole) (r .size) (now (dst .exit)) ≡ copyStr (memOf (store (now (frames .entry)) (now (book .entry))) number) (now (dst .entry)) src ⌝ }
+    requires { ⌜ SetupOk setup ⌝ }
+    ensures { λ r. ⌜ copied (r .whole) (r .size) (now (dst .exit)) ≡ copyStr setup (memOf (store (now (frames .entry)) (now (book .entry))) number) (now (dst .entry)) src ⌝ }
 {
     let mut n = 0;
     while n < dst.len() {
         // The first check puts src below UADDRTOP, so this can't overflow.
         let va = src + (n as u64);
-        if !user_range_ok(book, tags, bases, table, number, va, 1, false) {
+        if !user_range_ok(setup, book, tags, bases, table, number, va, 1, false) {
             return Str {
                 whole: false,
                 size: n,

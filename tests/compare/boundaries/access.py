@@ -1,8 +1,8 @@
 """user_range_ok, copy_from_user, copy_to_user, try_copy_str_from_user."""
-from document01.machine import LIMIT, MAX, PAGE, UTZERO
+from papers.machine import MAX, PAGE
 
 from .built import build, seg
-from .out import BSS_END, DATA, LOW, TEXT, TOP, Out, run_of
+from .out import BSS_END, DATA, LIMIT, LOW, TEXT, TOP, UTZERO, Out, run_of
 
 
 def access():

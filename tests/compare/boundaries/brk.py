@@ -1,8 +1,8 @@
 """break, and its rule by itself."""
-from document01.machine import LIMIT, MAX, PAGE, UTZERO
+from papers.machine import MAX, PAGE
 
 from .built import build, data, seg
-from .out import BSS, BSS_END, LOW, TOP, Out
+from .out import BSS, BSS_END, LIMIT, LOW, TOP, UTZERO, Out
 
 
 def brk():

@@ -1,7 +1,9 @@
 """Images for the scripts: the example with fields changed, and images of a few headers."""
-from document01.machine import PAGE, UTZERO
 from elf import change, header, program
+from papers.machine import PAGE
 from random_images import EXAMPLE
+
+from .out import UTZERO
 
 H1, H2 = 64, 120          # where the example's two program headers lie
 
@@ -31,14 +33,14 @@ def phdr(at, base=EXAMPLE, **f):
     return base
 
 
-def build(*headers, entry=None, body=b'\x1f\x20\x03\xd5abcd'):
+def build(*headers, entry=UTZERO, body=b'\x1f\x20\x03\xd5abcd'):
     """An image of these program headers."""
-    return header(UTZERO if entry is None else entry, len(headers)) + b''.join(program(*h) for h in headers) + body
+    return header(entry, len(headers)) + b''.join(program(*h) for h in headers) + body
 
 
-def seg(flags, page, filesz=8, memsz=8, at=0, kind=1):
-    """A program header for `build`: the page counts from UTZERO; `at` is its place in the page and the file."""
-    return flags, at, UTZERO + PAGE * page + at, filesz, memsz, kind
+def seg(flags, page, filesz=8, memsz=8, at=0, kind=1, base=UTZERO):
+    """A program header for `build`: the page counts from `base`; `at` is its place in the page and the file."""
+    return flags, at, base + PAGE * page + at, filesz, memsz, kind
 
 
 def many(count, *more):

@@ -1,8 +1,8 @@
 """fork."""
-from document01.machine import MAX, PAGE, UTZERO
+from papers.machine import MAX, PAGE
 
 from .built import build, many, seg
-from .out import BSS_END, DATA, LOW, TEXT, TOP, Out
+from .out import BSS_END, DATA, LOW, TEXT, TOP, UTZERO, Out
 
 
 def fork():

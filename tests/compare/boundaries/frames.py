@@ -1,9 +1,9 @@
 """Frames: exactly enough, freed and used again; books of each size; longer histories."""
-from document01.machine import PAGE, UTZERO
+from papers.machine import PAGE
 from script import shown
 
 from .built import data, long_image
-from .out import BSS_END, DATA, E, TOP, Out, words
+from .out import BSS_END, DATA, E, TOP, UTZERO, Out, words
 
 
 def frames():

@@ -1,11 +1,11 @@
 """Images: each boundary of checks 11 to 27, 30 and 31."""
-from document01.machine import LIMIT, MAX, PAGE, UTZERO
 from elf import header
+from papers.machine import MAX, PAGE
 from random_images import EXAMPLE
 from script import shown
 
 from .built import H1, H2, build, data, example, long_image, many, phdr, seg, text
-from .out import LOW, TOP, Out
+from .out import LIMIT, LOW, TOP, UTZERO, Out
 
 
 def groups():

@@ -1,7 +1,7 @@
 """Numbers 1 to 5, for each of the ten calls."""
-from document01.machine import LIMIT, MAX, PAGE
+from papers.machine import MAX, PAGE
 
-from .out import BSS_END, DATA, E, LOW, TEXT, TOP, Out
+from .out import BSS_END, DATA, E, LIMIT, LOW, TEXT, TOP, Out
 
 
 def ten(n, child=2):

@@ -1,13 +1,12 @@
 """What scripts are written with: the example and its addresses, and lines."""
 import struct
 
-from document01.machine import STACK, USTKTOP
+from papers.setup import DEPOSIT
 from random_images import EXAMPLE
 from script import shown
 
 E = EXAMPLE.hex()
-TOP = USTKTOP
-LOW = STACK[0]
+UTZERO, LIMIT, LOW, TOP = DEPOSIT.utzero, DEPOSIT.limit, DEPOSIT.low, DEPOSIT.ustktop
 # The example's process: text 65536 to 69632, data to 73728, bss 69816 to 77824, 7 pages with the stack.
 TEXT, DATA, BSS, BSS_END = 65536, 69632, 69816, 77824
 

@@ -1,7 +1,7 @@
 """push."""
-from document01.machine import LIMIT, MAX, UTZERO
+from papers.machine import MAX
 
-from .out import BSS_END, DATA, LOW, TOP, Out, run_of
+from .out import BSS_END, DATA, LIMIT, LOW, TOP, UTZERO, Out, run_of
 
 
 def push():

@@ -1,10 +1,10 @@
 """replace."""
-from document01.machine import LIMIT, MAX, PAGE, UTZERO
+from papers.machine import MAX, PAGE
 from random_images import EXAMPLE
 from script import shown
 
 from .built import build, data, long_image, many, seg
-from .out import BSS_END, DATA, E, LOW, TEXT, TOP, Out, run_of, words
+from .out import BSS_END, DATA, E, LIMIT, LOW, TEXT, TOP, UTZERO, Out, run_of, words
 
 
 def replace():

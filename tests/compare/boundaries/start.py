@@ -1,9 +1,9 @@
 """start: the examples, arguments, names."""
-from document01.machine import LIMIT, MAX
+from papers.machine import MAX
 from script import shown
 
 from .built import many
-from .out import BSS_END, E, TOP, Out, run_of
+from .out import BSS_END, E, LIMIT, TOP, Out, run_of
 
 
 def examples():

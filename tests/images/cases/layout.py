@@ -1,7 +1,9 @@
 """Numbers 30 and 31, and the bss."""
-from document01.machine import LIMIT
+from papers.setup import DEPOSIT
 
 from .built import DATA, ONE, ONE_LISTING, RODATA, TEXT, THREE, build, case, lines, load, two
+
+LIMIT = DEPOSIT.limit
 
 
 def lowest_and_limit():

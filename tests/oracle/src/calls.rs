@@ -181,7 +181,7 @@ impl Calls for World {
         self.of(n, |_, _| rust(|| inside::try_copy_str_from_user::<Machine>(dst, addr as usize)))
     }
 
-    fn rule(bss: Option<[u64; 2]>, free: u64, addr: u64) -> Answer<(u64, [u64; 2])> {
+    fn rule(&self, bss: Option<[u64; 2]>, free: u64, addr: u64) -> Answer<(u64, [u64; 2])> {
         rule::rule(bss, free, addr)
     }
 

@@ -32,6 +32,14 @@ pub trait Calls: Sized {
     fn record(&self, n: usize) -> Record;
     /// Lend only so much of frames and book, which have as much.
     fn lend(&mut self, bytes: usize, words: usize);
+    /// Hands over a set of the machine's numbers: UTZERO, USTKTOP, USTKSIZE and UADDRTOP. None where document 01's are fixed.
+    fn numbers(&mut self, _set: [u64; 4]) -> Option<Answer<()>> {
+        None
+    }
+    /// As `numbers`, of the lines of a file.
+    fn numbers_of(&mut self, _lines: &[u8]) -> Option<Answer<()>> {
+        None
+    }
     fn start(&mut self, n: u64, name: &[u8], image: &[u8], args: &[&[u8]]) -> Answer<Regs>;
     fn replace(&mut self, n: u64, name: &[u8], image: &[u8], argv: u64) -> Answer<Regs>;
     fn push(&mut self, n: u64, pc: u64, top: u64, args: &[&[u8]]) -> Answer<Regs>;
@@ -45,7 +53,7 @@ pub trait Calls: Sized {
     /// The length, or None for a bad page.
     fn string(&mut self, n: u64, addr: u64, dst: &mut [u8]) -> Answer<Option<usize>>;
     /// The break's rule by itself: the answer, and the bss after it.
-    fn rule(bss: Option<[u64; 2]>, free: u64, addr: u64) -> Answer<(u64, [u64; 2])>;
+    fn rule(&self, bss: Option<[u64; 2]>, free: u64, addr: u64) -> Answer<(u64, [u64; 2])>;
     /// The name copy by itself.
     fn name(name: &[u8]) -> Answer<[u8; 28]>;
 }
@@ -129,6 +137,8 @@ fn call<W: Calls>(w: &mut W, name: &[u8], words: &[&[u8]]) -> Given<String> {
             *w = W::new(n as usize, fill);
             "ok".into()
         }
+        (b"numbers", [u, t, s, a]) => show(w.numbers([number(u)?, number(t)?, number(s)?, number(a)?]).ok_or(BAD)?, none),
+        (b"numbers", [b]) => show(w.numbers_of(&bytes(b)?).ok_or(BAD)?, none),
         (b"lend", [b, words]) => {
             let (b, words) = (number(b)?, number(words)?);
             if b > w.frames().len() as u64 || words > w.book().len() as u64 {
@@ -194,7 +204,7 @@ fn call<W: Calls>(w: &mut W, name: &[u8], words: &[&[u8]]) -> Given<String> {
                 (b"none", b"none") => None,
                 (s, e) => Some([number(s)?, number(e)?]),
             };
-            show(W::rule(bss, number(free)?, number(addr)?), |(v, [start, end])| format!("{v} {start} {end}"))
+            show(w.rule(bss, number(free)?, number(addr)?), |(v, [start, end])| format!("{v} {start} {end}"))
         }
         (b"name", [b]) => show(W::name(&bytes(b)?), |n| hex(&n)),
         (b"sum", []) => sum(w),

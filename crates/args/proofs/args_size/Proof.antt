@@ -18,17 +18,17 @@ lengths-fit-requires c κs = search needs
 
 returns : tie.Need-returns
 returns c =
-    let a = c .before .before .before .before .args in
-    sym (size-unfit (now (a .bytes)) (now (a .lengths)) (sym (c .before .lengths-fit .ensures) ∙ not-true (c .before .lengths-fit .result) (c .if1 .taken)))
+    let a = c .before .before .before .before .before .args in
+    sym (size-unfit (a .setup) (now (a .bytes)) (now (a .lengths)) (sym (c .before .lengths-fit .ensures) ∙ not-true (c .before .lengths-fit .result) (c .if1 .taken)))
 
 has-nul-requires : tie.Need-has-nul-requires
 has-nul-requires c κs = search needs
 
 returns-2 : tie.Need-returns-2
 returns-2 c =
-    let a = c .before .before .before .before .before .before .args in
+    let a = c .before .before .before .before .before .before .before .args in
     let fit = c .before .before .before .lengths-fit in
-    sym (size-nul (now (a .bytes)) (now (a .lengths)) (sym (fit .ensures) ∙ un-not (fit .result) (c .before .before .if1 .left)) (sym (c .before .has-nul .ensures) ∙ c .if2 .taken))
+    sym (size-nul (a .setup) (now (a .bytes)) (now (a .lengths)) (sym (fit .ensures) ∙ un-not (fit .result) (c .before .before .if1 .left)) (sym (c .before .has-nul .ensures) ∙ c .if2 .taken))
 
 add-strings : tie.Need-add-strings
 add-strings c = search needs
@@ -38,21 +38,21 @@ stack-size-requires c κs = search needs
 
 returns-3 : tie.Need-returns-3
 returns-3 c =
-    let a = c .before .before .before .before .before .before .before .before .args in
+    let a = c .before .before .before .before .before .before .before .before .before .args in
     let fit = c .before .before .before .before .before .lengths-fit in
     let b = now (a .bytes) in
     let l = now (a .lengths) in
-    sym (size-over b l (sym (fit .ensures) ∙ un-not (fit .result) (c .before .before .before .before .if1 .left)) (sym (c .before .before .before .has-nul .ensures) ∙ c .before .before .if2 .left)
-    (saturated-above (stackSize (length b + length l) (length l)) argLimit (omega (arith, c .before .stack-size .ensures))))
+    sym (size-over (a .setup) b l (sym (fit .ensures) ∙ un-not (fit .result) (c .before .before .before .before .if1 .left)) (sym (c .before .before .before .has-nul .ensures) ∙ c .before .before .if2 .left)
+    (saturated-above (stackSize (length b + length l) (length l)) (argLimit (a .setup)) (omega (arith, c .before .stack-size .ensures))))
 
 returns-4 : tie.Need-returns-4
 returns-4 c =
-    let a = c .before .before .before .before .before .before .before .before .args in
+    let a = c .before .before .before .before .before .before .before .before .before .args in
     let fit = c .before .before .before .before .before .lengths-fit in
     let b = now (a .bytes) in
     let l = now (a .lengths) in
-    sym (size-within b l (sym (fit .ensures) ∙ un-not (fit .result) (c .before .before .before .before .if1 .left)) (sym (c .before .before .before .has-nul .ensures) ∙ c .before .before .if2 .left)
-    (saturated-within (stackSize (length b + length l) (length l)) argLimit (omega arith) (omega (arith, c .before .stack-size .ensures))))
+    sym (size-within (a .setup) b l (sym (fit .ensures) ∙ un-not (fit .result) (c .before .before .before .before .if1 .left)) (sym (c .before .before .before .has-nul .ensures) ∙ c .before .before .if2 .left)
+    (saturated-within (stackSize (length b + length l) (length l)) (argLimit (a .setup)) (omega arith) (omega (arith, c .before .stack-size .ensures))))
 
 pub args-size-spec : {M : Type 1} → statement M
 args-size-spec =

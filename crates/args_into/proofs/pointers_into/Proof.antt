@@ -67,19 +67,13 @@ mul-pointer-into-2 c = omega arith
 pointer-into-requires-2 : tie.Need-pointer-into-requires-2 Inv-loop μ-loop
 pointer-into-requires-2 c κs = omega arith
 
-add-result : tie.Need-add-result Inv-loop μ-loop
-add-result c = omega arith
-
-mul-result : tie.Need-mul-result Inv-loop μ-loop
-mul-result c = omega arith
-
 same-length : tie.Need-same-length Inv-loop μ-loop
 same-length c = omega arith
 
 returns : tie.Need-returns Inv-loop μ-loop
 returns c =
     let l = c .before .before .before .before .before .loop in
-    (c .before .before .pointer-into2 .ensures ∙ sym (l .inv .3 ∙ pointers-end (now (c .before .before .before .before .before .before .before .before .args .lengths)) (l .buf) (l .s) (8 * l .i) (l .i) (omega arith)), omega arith)
+    c .before .before .pointer-into2 .ensures ∙ sym (l .inv .3 ∙ pointers-end (now (c .before .before .before .before .before .before .before .before .args .lengths)) (l .buf) (l .s) (8 * l .i) (l .i) (omega arith))
 
 pub pointers-into-spec : {M : Type 1} → statement M
 pointers-into-spec =
@@ -99,7 +93,5 @@ pointers-into-spec =
     loop-again
     mul-pointer-into-2
     pointer-into-requires-2
-    add-result
-    mul-result
     same-length
     returns)

@@ -13,6 +13,7 @@ use Rattle.spec.specs.World.{State, taken, view, brk, leave, Does}
 use Rattle.spec.specs.declared.Proc.{Proc}
 use Rattle.spec.specs.declared.Answer.{Answer}
 use Rattle.spec.specs.declared.Answer.the-variants.{Value, Refused}
+use Rattle.spec.proofs.Setups.{setup-means}
 use Rattle.laws.proofs.Record.{Whole}
 use Rattle.history.proofs.Accepted.{Moves, ibrk-moves}
 use Rattle.records.proofs.Whole.{whole-procs}
@@ -27,7 +28,7 @@ use Rattle.brk.proofs.brk.Statement.{statement}
 use Rattle.brk.proofs.brk.Tie as tie
 
 whole : (c : tie.Start) → Whole (c .args .procs)
-whole c = let g = c .good .1 .1 .0 .1 .1 .0 in whole-procs (c .args .procs) (g .0) (g .1 .1) (g .1 .0 .1)
+whole c = let g = c .good .1 .1 .1 .0 .1 .1 .0 in whole-procs (c .args .procs) (g .0) (g .1 .1) (g .1 .0 .1)
 
 -- where no number came first
 module _ (c : tie.Else1) where
@@ -35,7 +36,7 @@ module _ (c : tie.Else1) where
   start = c .before .before .before .before .before .before .before .before .before
 
   abbrev state : State
-  state = stateOf (now (start .args .frames)) (now (start .args .book)) (start .args .procs)
+  state = stateOf (start .args .setup) (now (start .args .frames)) (now (start .args .book)) (start .args .procs)
 
   passed : Passed state (start .args .number) true × (taken state (start .args .number) ≡ true)
   passed = plain-none state (start .args .number) true (sym (c .before .plain-ready .ensures .0) ∙ c .if1 .left)
@@ -45,12 +46,12 @@ module _ (c : tie.After-ibrk) where
   abbrev first : tie.Else1
   first = c .before .before .before .before .before .before
 
-  rule : breakOf (c .ibrk .result) ≡ ibrk (some (view (state first) (start first .args .number) .bss)) (start first .args .addr) (free (now (start first .args .book)))
+  rule : breakOf (c .ibrk .result) ≡ ibrk (start first .args .setup) (some (view (state first) (start first .args .number) .bss)) (start first .args .addr) (free (now (start first .args .book)))
   rule =
-      break-rule (breakOf (c .ibrk .result)) _ _ _ _ _ (c .ibrk .ensures) (ap (λ (p : Proc). p .bss) (c .before .before .before .before .before .proc-at .ensures)) (c .before .free-frames .ensures _ _ (first .before .plain-ready .ensures .1 (first .if1 .left)))
+      break-rule (start first .args .setup) (breakOf (c .ibrk .result)) _ _ _ _ _ (c .ibrk .ensures) (ap (λ (p : Proc). p .bss) (c .before .before .before .before .before .proc-at .ensures)) (c .before .free-frames .ensures _ _ (first .before .plain-ready .ensures .1 (first .if1 .left)))
 
   -- an answer of the rule is the call's
-  answers : (t : State) (a : Answer) → weighBreak (ibrk (some (view (state first) (start first .args .number) .bss)) (start first .args .addr) (free (now (start first .args .book)))) ≡ a
+  answers : (t : State) (a : Answer) → weighBreak (ibrk (start first .args .setup) (some (view (state first) (start first .args .number) .bss)) (start first .args .addr) (free (now (start first .args .book)))) ≡ a
       → t ≡ leave (state first) (call (start first .args .number) (break (start first .args .addr))) (outcomeOf a)
       → Does (state first) (call (start first .args .number) (break (start first .args .addr))) t (plainly a)
   answers t a w l =
@@ -59,8 +60,8 @@ module _ (c : tie.After-ibrk) where
       plain-goes _ _ q (e .result) refl (e .ensures .0) (first .if1 .left) t (plainly a) (ap plainly w) l
 
 -- and lets the end move
-moves : (c : tie.Else3) → Moves (view (state (first (c .before .before))) (start (first (c .before .before)) .args .number) .bss) (start (first (c .before .before)) .args .addr) (free (now (start (first (c .before .before)) .args .book)))
-moves c = let i = c .before .before in ibrk-moves _ _ _ (sym (ap (λ (b : Break). b .error) (rule i)) ∙ c .before .if2 .left) (c .if3 .left)
+moves : (c : tie.Else3) → Moves (start (first (c .before .before)) .args .setup) (view (state (first (c .before .before))) (start (first (c .before .before)) .args .number) .bss) (start (first (c .before .before)) .args .addr) (free (now (start (first (c .before .before)) .args .book)))
+moves c = let i = c .before .before in ibrk-moves _ _ _ _ (sym (ap (λ (b : Break). b .error) (rule i)) ∙ c .before .if2 .left) (c .if3 .left)
 
 plain-ready-requires : tie.Need-plain-ready-requires
 plain-ready-requires c κs = (refl, refl, refl, blank-zeros 1024)
@@ -105,7 +106,7 @@ returns-3 : tie.Need-returns-3
 returns-3 c = let i = c .before .before in answers i _ _ (break-accepted (breakOf (i .ibrk .result)) _ (rule i) (c .before .if2 .left)) (breaks-nothing (state (first i)) (start (first i) .args .number) _ (c .if3 .taken))
 
 page-up-requires : tie.Need-page-up-requires
-page-up-requires c κs = let m = moves (c .before .before) in omega (arith, m .low)
+page-up-requires c κs = let m = moves (c .before .before) in let f = first (c .before .before .before .before) in omega (arith, m .low, setup-means (start f .args .setup) (passed f .0 .setup))
 
 move-break-requires : tie.Need-move-break-requires
 move-break-requires c κs =
@@ -114,7 +115,7 @@ move-break-requires c κs =
     let m = moves d in
     let p = passed f in
     let shape = living-shape (state f) (start f .args .number) true (whole (start f)) (p .0) (p .1) .1 in
-    ((sizes-words (now (start f .args .frames)) (now (start f .args .book)) (p .0 .sizes) .0, p .0 .number), (shape .bss-end .0, rw (c .page-up .ensures) (omega arith), rw (c .page-up .ensures) (omega (arith, m .low))))
+    ((sizes-words (now (start f .args .frames)) (now (start f .args .book)) (p .0 .sizes) .0, p .0 .number), (shape .bss-end .0, rw (c .page-up .ensures) (omega arith), rw (c .page-up .ensures) (omega (arith, m .low, setup-means (start f .args .setup) (p .0 .setup)))))
 
 same-length-7 : tie.Need-same-length-7
 same-length-7 c = search needs
@@ -128,7 +129,7 @@ returns-4 c =
     let d = b .before .before .before .before in
     let i = d .before .before in
     answers i _ _ (break-accepted (breakOf (i .ibrk .result)) _ (rule i) (d .before .if2 .left))
-    (breaks-moved (state (first i)) _ (start (first i) .args .number) _ (d .if3 .left) (b .move-break .ensures ∙ ap (brk (state (first i)) (start (first i) .args .number) _) (b .before .page-up .ensures)))
+    (breaks-moved (state (first i)) _ (start (first i) .args .number) _ (d .if3 .left) (b .move-break .ensures _ ∙ ap (brk (state (first i)) (start (first i) .args .number) _) (b .before .page-up .ensures)))
 
 pub brk-spec : {M : Type 1} → statement M
 brk-spec =

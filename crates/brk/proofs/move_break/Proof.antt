@@ -35,12 +35,12 @@ same-length-2 : tie.Need-same-length-2
 same-length-2 c = search needs
 
 returns : tie.Need-returns
-returns c =
+returns c setup =
     let m = c .before .before .before .before .before .before in
     let g = m .before .before .before in
     let a = g .before .before .before .args in
-    let from = stateOf (now (a .frames)) (now (a .book)) (a .procs) in
-    state-is _ _ _ _ (m .move-pages .ensures) (c .with-proc .ensures ∙ ap (λ (x : VirtRange). setProc (a .procs) (a .number) (record { segments = g .proc-at .result .segments; text = g .proc-at .result .text; bss = x })) (c .before .range .ensures))
+    let from = stateOf setup (now (a .frames)) (now (a .book)) (a .procs) in
+    state-is _ _ _ _ _ (m .move-pages .ensures) (c .with-proc .ensures ∙ ap (λ (x : VirtRange). setProc (a .procs) (a .number) (record { segments = g .proc-at .result .segments; text = g .proc-at .result .text; bss = x })) (c .before .range .ensures))
     ∙ ap (λ (p : Proc). brk from (a .number) p (a .top)) (g .proc-at .ensures)
 
 pub move-break-spec : {M : Type 1} → statement M

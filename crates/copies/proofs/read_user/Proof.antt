@@ -6,7 +6,7 @@ use mathlib.Core.Bool.{false}
 use lib.ListN.{length}
 use denote.Ref.{now}
 use borrow.Rule.Slice.PartMut.{mid-len}
-use Rattle.spec.specs.Numbers.{uaddrtop}
+use Rattle.spec.specs.Numbers.{maxTop}
 use Rattle.spec.specs.Frames.{Mem, memOf}
 use Rattle.spec.specs.Access.{byteOf, bytesAt}
 use Rattle.laws.proofs.Contents.{length-bytes}
@@ -29,8 +29,8 @@ module _ (c : tie.Start Inv-loop μ-loop) where
   abbrev memory : Mem
   memory = memOf (store (now (c .args .frames)) (now (c .args .book))) (c .args .number)
 
-  top : c .args .addr + length (now (c .args .buf)) ≤ uaddrtop
-  top = range-means memory false (c .args .addr) (length (now (c .args .buf))) (c .pre .1) .top
+  top : c .args .addr + length (now (c .args .buf)) ≤ maxTop
+  top = omega (arith, c .pre .1 .1, range-means (c .pre .1 .0) memory false (c .args .addr) (length (now (c .args .buf))) (c .pre .1 .2) .top)
 
 loop-holds : tie.Need-loop-holds Inv-loop μ-loop
 loop-holds c = (omega arith, refl, mix-none _ _)
@@ -52,7 +52,7 @@ user-bytes-requires c κs =
     let start = c .before .before .before .before .before .before in
     let a = start .args in
     let i = c .before .before .loop .i in
-    (start .pre .0, (omega (arith, c .in-page .ensures), range-cell (now (a .frames)) (now (a .frames)) (now (a .book)) (a .number) false (a .addr) (length (now (a .buf))) (a .addr + i) (start .pre .1) (omega arith) (omega arith)))
+    (start .pre .0, (omega (arith, c .in-page .ensures), range-cell (start .pre .1 .0) (now (a .frames)) (now (a .frames)) (now (a .book)) (a .number) false (a .addr) (length (now (a .buf))) (a .addr + i) (start .pre .1 .2) (omega arith) (omega arith)))
 
 sub-copy : tie.Need-sub-copy Inv-loop μ-loop
 sub-copy c = omega arith

@@ -7,7 +7,7 @@ use lib.ListN.{length, take}
 use lib.Seq.{take-all}
 use denote.Ref.{now}
 use borrow.Rule.Slice.PartMut.{mid-len}
-use Rattle.spec.specs.Numbers.{uaddrtop}
+use Rattle.spec.specs.Numbers.{maxTop}
 use Rattle.spec.specs.Frames.{memOf, pokes}
 use Rattle.book.specs.Lent.{store}
 use Rattle.ranges.proofs.Ranges.{range-cell}
@@ -23,8 +23,8 @@ abbrev μ-loop : tie.MeasureT-loop
 μ-loop frames₀ book tags bases table number addr bytes i₀ frames i = length bytes - i
 
 -- the range that has been checked
-top : (c : tie.Start Inv-loop μ-loop) → c .args .addr + length (now (c .args .bytes)) ≤ uaddrtop
-top c = range-means (memOf (store (now (c .args .frames)) (now (c .args .book))) (c .args .number)) true (c .args .addr) (length (now (c .args .bytes))) (c .pre .1) .top
+top : (c : tie.Start Inv-loop μ-loop) → c .args .addr + length (now (c .args .bytes)) ≤ maxTop
+top c = omega (arith, c .pre .1 .1, range-means (c .pre .1 .0) (memOf (store (now (c .args .frames)) (now (c .args .book))) (c .args .number)) true (c .args .addr) (length (now (c .args .bytes))) (c .pre .1 .2) .top)
 
 loop-holds : tie.Need-loop-holds Inv-loop μ-loop
 unfolding pokes
@@ -62,7 +62,7 @@ write-part-requires c κs =
       (l .inv .1 ∙ start .pre .0 .0, start .pre .0 .1),
       (
         omega (arith, n .ensures, w, q),
-        range-cell (now (a .frames)) (l .frames) (now (a .book)) (a .number) true (a .addr) (length (now (a .bytes))) (a .addr + l .i) (start .pre .1) (omega arith) (omega arith),
+        range-cell (start .pre .1 .0) (now (a .frames)) (l .frames) (now (a .book)) (a .number) true (a .addr) (length (now (a .bytes))) (a .addr + l .i) (start .pre .1 .2) (omega arith) (omega arith),
       ),
     )
 

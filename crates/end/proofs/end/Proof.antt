@@ -35,7 +35,7 @@ returns-2 : tie.Need-returns-2
 returns-2 c =
     let i = c .before .before .before .before in
     let e = i .before .plain-error in
-    plain-goes _ _ end (e .result) refl (e .ensures) (i .if1 .left) _ (plainly Done) refl (c .before .before .forget .ensures _)
+    plain-goes _ _ end (e .result) refl (e .ensures) (i .if1 .left) _ (plainly Done) refl (c .before .before .forget .ensures _ _)
 
 pub end-spec : {M : Type 1} → statement M
 end-spec =

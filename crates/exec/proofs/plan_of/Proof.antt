@@ -14,14 +14,15 @@ use Rattle.exec.proofs.plan_of.Statement.{statement}
 use Rattle.exec.proofs.plan_of.Tie as tie
 
 plan-parsed-requires : tie.Need-plan-parsed-requires
-plan-parsed-requires c κs = sym (ap said (c .before .p2 .given .1)) ∙ c .before .before .before .parse .ensures
+plan-parsed-requires c κs = (sym (ap said (c .before .p2 .given .1)) ∙ c .before .before .before .parse .ensures, search needs)
 
 returns : tie.Need-returns
 returns c =
     let image = now (c .before .before .before .before .before .before .before .args .image) in
+    let setup = c .before .before .before .before .before .before .before .args .setup in
     let e = c .before .before .before .p .given .0 .0 in
     c .refused .ensures ∙ ap (refusedPlan 30) (c .before .error-number .ensures)
-    ∙ plan-elf image _ (says-number image (Refused e) (sym (ap said (c .before .before .before .p .given .1)) ∙ c .before .before .before .before .before .parse .ensures)) (not-zero e)
+    ∙ plan-elf setup image _ (says-number image (Refused e) (sym (ap said (c .before .before .before .p .given .1)) ∙ c .before .before .before .before .before .parse .ensures)) (not-zero e)
 
 pub plan-of-spec : {M : Type 1} → statement M
 plan-of-spec =

@@ -44,10 +44,10 @@ abbrev μ-loop : tie.MeasureT-loop
 -- what no number tells
 module _ (c : tie.Start Inv-loop μ-loop) where
   abbrev state : State
-  state = stateOf (now (c .args .frames)) (now (c .args .book)) (c .args .procs)
+  state = stateOf (c .pre .0 .0) (now (c .args .frames)) (now (c .args .book)) (c .args .procs)
 
   forks : Forks state (c .args .number) (c .args .child)
-  forks = fork-none state (c .args .number) (c .args .child) (c .pre .0)
+  forks = fork-none state (c .args .number) (c .args .child) (c .pre .0 .1)
 
   other : c .args .number ≡ c .args .child → ⊥
   other = fork-other state (c .args .number) (c .args .child) forks
@@ -64,10 +64,10 @@ module _ (c : tie.Start Inv-loop μ-loop) where
   whole : Whole (c .args .procs)
   whole = let g = c .good .1 .1 .1 .1 .1 .0 .1 .1 .0 in whole-procs (c .args .procs) (g .0) (g .1 .1) (g .1 .0 .1)
 
-  sound : Sound (now (c .args .book)) (c .args .procs)
+  sound : Sound (c .pre .0 .0) (now (c .args .book)) (c .args .procs)
   sound = passed-sound state (c .args .number) _ whole (forks .passed)
 
-  shape : (image : List UserSegment) × Shape (procAt (c .args .procs) (c .args .number)) image
+  shape : (image : List UserSegment) × Shape (c .pre .0 .0) (procAt (c .args .procs) (c .args .number)) image
   shape = living-shape state (c .args .number) _ whole (forks .passed) (forks .parent)
 
   segments : Each (Copyable (now (c .args .book)) (c .args .number)) (procAt (c .args .procs) (c .args .number) .segments)
@@ -133,7 +133,7 @@ bss-segment-requires : tie.Need-bss-segment-requires Inv-loop μ-loop
 bss-segment-requires c κs =
     let a = c .before .before .before .before .before .before .before in
     let b = shape a .1 in
-    rw (c .before .before .before .before .proc-at .ensures) (omega (arith, b .bss-order, b .bss-end .1))
+    rw (c .before .before .before .before .proc-at .ensures) (omega (arith, b .bss-order, b .bss-end .1, sound a .accepted))
 
 -- and so can the bss
 bss-is : (c : tie.After-bss-segment Inv-loop μ-loop) → c .bss-segment .result ≡ bssSegment (procAt (c .before .before .before .before .before .before .before .before .args .procs) (c .before .before .before .before .before .before .before .before .args .number) .bss)

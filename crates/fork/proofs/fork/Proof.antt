@@ -17,6 +17,7 @@ use Rattle.front.specs.Numbers.{stateOf}
 use Rattle.front.proofs.First.{Forks, fork-none}
 use Rattle.front.proofs.Answers.{fork-refused, fork-goes}
 use Rattle.front.proofs.Living.{living-shape}
+use Rattle.spec.proofs.Setups.{setup-means}
 use Rattle.front.proofs.Own.{count-own}
 use Rattle.front.proofs.States.{state-is}
 use Rattle.fork.proofs.Forked.{fork-short, fork-fits}
@@ -29,15 +30,15 @@ module _ (c : tie.Else1) where
   start = c .before .before .before .before .before .before .before .before .before
 
   abbrev state : State
-  state = stateOf (now (start .args .frames)) (now (start .args .book)) (start .args .procs)
+  state = stateOf (start .args .setup) (now (start .args .frames)) (now (start .args .book)) (start .args .procs)
 
   forks : Forks state (start .args .number) (start .args .child)
   forks = fork-none state (start .args .number) (start .args .child) (sym (c .before .fork-ready .ensures .0) ∙ c .if1 .left)
 
   whole : Whole (start .args .procs)
-  whole = let g = start .good .1 .1 .0 .1 .1 .0 in whole-procs (start .args .procs) (g .0) (g .1 .1) (g .1 .0 .1)
+  whole = let g = start .good .1 .1 .1 .0 .1 .1 .0 in whole-procs (start .args .procs) (g .0) (g .1 .1) (g .1 .0 .1)
 
-  shape : (image : List UserSegment) × Shape (procAt (start .args .procs) (start .args .number)) image
+  shape : (image : List UserSegment) × Shape (start .args .setup) (procAt (start .args .procs) (start .args .number)) image
   shape = living-shape state (start .args .number) true whole (forks .passed) (forks .parent)
 
 -- the counts are the specification's
@@ -70,7 +71,7 @@ free-frames-requires : tie.Need-free-frames-requires
 free-frames-requires c κs = let f = c .before .before .before in omega (arith, free-frames _ _ _ _ (f .before .fork-ready .ensures .1 (f .if1 .left)))
 
 own-pages-requires : tie.Need-own-pages-requires
-own-pages-requires c κs = let b = shape (c .before .before .before .before) .1 in rw (c .before .before .before .proc-at .ensures) (omega (arith, b .bss-order, b .bss-end .1))
+own-pages-requires c κs = let f = c .before .before .before .before in let b = shape f .1 in rw (c .before .before .before .proc-at .ensures) (omega (arith, b .bss-order, b .bss-end .1, setup-means (start f .args .setup) (forks f .passed .setup)))
 
 same-length-3 : tie.Need-same-length-3
 same-length-3 c = search needs
@@ -89,7 +90,7 @@ returns-2 c =
 copy-segments-requires : tie.Need-copy-segments-requires
 copy-segments-requires c κs =
     let f = c .before .before .before .before .before .before .before .before .before .before .before in
-    (sym (f .before .fork-ready .ensures .0) ∙ f .if1 .left, f .before .fork-ready .ensures .1 (f .if1 .left))
+    ((start f .args .setup, sym (f .before .fork-ready .ensures .0) ∙ f .if1 .left), f .before .fork-ready .ensures .1 (f .if1 .left))
 
 with-proc-requires : tie.Need-with-proc-requires
 with-proc-requires c κs = forks (c .before .before .before .before .before .before .before .before .before .before .before .before .before .before .before .before) .second
@@ -108,7 +109,7 @@ returns-3 c =
     let e = f .before .fork-ready in
     fork-goes (state f) (a .number) (a .child) (e .result) (e .ensures .0) (f .if1 .left) _ _
     (fork-fits (view (state f) (a .number)) (free (now (a .book))) (a .child) (used (procAt (a .procs) (a .number) .segments)) (omega (arith, counted (u .before), free-is (u .before .before))))
-    (state-is _ _ _ _ (c .before .before .before .before .before .copy-segments .ensures) (c .with-proc .ensures ∙ ap (setProc (a .procs) (a .child)) (u .before .before .before .before .before .proc-at .ensures)))
+    (state-is _ _ _ _ _ (c .before .before .before .before .before .copy-segments .ensures) (c .with-proc .ensures ∙ ap (setProc (a .procs) (a .child)) (u .before .before .before .before .before .proc-at .ensures)))
 
 pub fork-spec : {M : Type 1} → statement M
 fork-spec =

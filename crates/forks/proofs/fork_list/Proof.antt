@@ -47,6 +47,8 @@ use Rattle.spec.proofs.Proc as P
 use Rattle.spec.proofs.Proc.Laws as P′
 use Rattle.spec.proofs.Procs as Ps
 use Rattle.spec.proofs.Procs.Laws as Ps′
+use Rattle.spec.proofs.Setup as Se
+use Rattle.spec.proofs.Setup.Laws as Se′
 use Rattle.front.specs.declared.left.Left.{Left}
 use Rattle.front.proofs.left.Left as Lf
 use Rattle.front.proofs.left.Left.Laws as Lf′
@@ -54,9 +56,9 @@ use Rattle.forks.specs.Fork.{recordOf}
 use Rattle.forks.specs.declared.parent.Parent.{Parent}
 use Rattle.forks.proofs.parent.Parent as Pa
 use Rattle.forks.proofs.parent.Parent.Laws as Pa′
-use Rattle.forks.proofs.Rows.{R, Rec, Recs, Par, Res, word, slice₀, slice₁, slice₂, seen₀, seen₁, shared₀, shared₁, ref₀, ref₁, lent₀, lent₁}
+use Rattle.forks.proofs.Rows.{Nums, R, Rec, Recs, Par, Res, word, slice₀, slice₁, slice₂, seen₀, seen₁, shared₀, shared₁, ref₀, ref₁, lent₀, lent₁}
 use Rattle.forks.proofs.Loans.{share-slice, slice-unshared}
-use Rattle.forks.proofs.Called.{stayed, Recorded, Same, Prepared, Refusal, Forked, Lists, Start, mp, mpar, vf, vb, vs, mps, listAt, a, at, OwnF, OwnB, OwnS, Judged, Found, error, fits-error, Said, Ended, given-forked, Post, to-recorded, asks-recorded, recorded-said, to-same, asks-same, same-said, given-prepared, to-prepared, asks-prepared, prepared-said, to-refused, asks-refused, refused-said, exits-refused, to-forked, asks-forked, exits-done}
+use Rattle.forks.proofs.Called.{stayed, Recorded, Same, Prepared, Refusal, Forked, Lists, Start, mp, mpar, mse, vf, vb, vs, mps, listAt, a, at, OwnF, OwnB, OwnS, Judged, Found, error, fits-error, Said, Ended, given-forked, Post, to-recorded, asks-recorded, recorded-said, to-same, asks-same, same-said, given-prepared, to-prepared, asks-prepared, prepared-said, to-refused, asks-refused, refused-said, exits-refused, to-forked, asks-forked, exits-done}
 use Rattle.forks.proofs.recorded as recorded
 use Rattle.forks.proofs.recorded.Symbol as recorded-def
 use Rattle.forks.proofs.recorded.Symbol.{name as #recorded}
@@ -104,13 +106,13 @@ module _ {M : Type 1} (𝓤 : URA M) (H : Heap 𝓤) (A : Atoms 𝓤) (W : Given
   Last = Post c 𝓤 H A W at-mem run
 
   module _ (C : Calls 𝓤 H) (Λ : Loops 𝓤 H) (fm : FmC 𝓤 H (W .laws) C) (known-recorded : Triple 𝓤 (C #recorded) (Recorded 𝓤 H A at-mem run)) (known-same : Triple 𝓤 (C #same-list) (Same 𝓤 H A at-mem run)) (known-prepared : Triple 𝓤 (C #prepared) (Prepared 𝓤 H A at-mem run)) (known-refused : Triple 𝓤 (C #refused) (Refusal 𝓤 H A at-mem run)) (known-forked : Triple 𝓤 (C #forked) (Forked 𝓤 H A at-mem run)) where
-    module _ (l₀ l₁ l₂ l₃ l₄ l₅ l₆ l₇ l₈ l₉ l₁₀ l₁₁ l₁₂ l₁₃ l₁₄ l₁₅ l₁₆ l₁₇ l₁₈ l₁₉ : ℕ) where
+    module _ (l₀ l₁ l₂ l₃ l₄ l₅ l₆ l₇ l₈ l₉ l₁₀ l₁₁ l₁₂ l₁₃ l₁₄ l₁₅ l₁₆ l₁₇ l₁₈ l₁₉ l₂₀ : ℕ) where
       -- the arm of a refusal, which the generated MIR has under no name
       abbrev refuses : Body
-      refuses = seq (call #refused (copied (place 3 []) ∷ copied (place 10 []) ∷ []) (place 0 [])) return
+      refuses = seq (call #refused (copied (place 4 []) ∷ copied (place 11 []) ∷ []) (place 0 [])) return
 
       abbrev E : Env 𝓤 H
-      E = (Lf′.mir, l₀) ∷ (slice₀, l₁) ∷ (slice₁, l₂) ∷ (Ps′.mir, l₃) ∷ (word, l₄) ∷ (word, l₅) ∷ (slice₂, l₆) ∷ (P′.mir, l₇) ∷ (tyBool, l₈) ∷ (Pa′.mir, l₉) ∷ (word, l₁₀) ∷ (seen₀, l₁₁) ∷ (shared₀, l₁₂) ∷ (seen₁, l₁₃) ∷ (shared₁, l₁₄) ∷ (tyBool, l₁₅) ∷ (ref₀, l₁₆) ∷ (lent₀, l₁₇) ∷ (ref₁, l₁₈) ∷ (lent₁, l₁₉) ∷ []
+      E = (Lf′.mir, l₀) ∷ (Se′.mir, l₁) ∷ (slice₀, l₂) ∷ (slice₁, l₃) ∷ (Ps′.mir, l₄) ∷ (word, l₅) ∷ (word, l₆) ∷ (slice₂, l₇) ∷ (P′.mir, l₈) ∷ (tyBool, l₉) ∷ (Pa′.mir, l₁₀) ∷ (word, l₁₁) ∷ (seen₀, l₁₂) ∷ (shared₀, l₁₃) ∷ (seen₁, l₁₄) ∷ (shared₁, l₁₅) ∷ (tyBool, l₁₆) ∷ (ref₀, l₁₇) ∷ (lent₀, l₁₈) ∷ (ref₁, l₁₉) ∷ (lent₁, l₂₀) ∷ []
 
       -- the tokens, and what the slices own
       abbrev Before : List (Item 𝓤) → List (Item 𝓤)
@@ -118,32 +120,32 @@ module _ {M : Type 1} (𝓤 : URA M) (H : Heap 𝓤) (A : Atoms 𝓤) (W : Given
 
       -- the locals, the last first: the slices lent to `forked`, and those shared for `prepared`, not yet made
       abbrev Unlent : List (Item 𝓤) → List (Item 𝓤)
-      Unlent Γ = ‵ (froom lent₁ l₁₉ 0) ∷ ‵ (fdies lent₁ l₁₉) ∷ ‵ (froom ref₁ l₁₈ 0) ∷ ‵ (fdies ref₁ l₁₈) ∷ ‵ (froom lent₀ l₁₇ 0) ∷ ‵ (fdies lent₀ l₁₇) ∷ ‵ (froom ref₀ l₁₆ 0) ∷ ‵ (fdies ref₀ l₁₆) ∷ Γ
+      Unlent Γ = ‵ (froom lent₁ l₂₀ 0) ∷ ‵ (fdies lent₁ l₂₀) ∷ ‵ (froom ref₁ l₁₉ 0) ∷ ‵ (fdies ref₁ l₁₉) ∷ ‵ (froom lent₀ l₁₈ 0) ∷ ‵ (fdies lent₀ l₁₈) ∷ ‵ (froom ref₀ l₁₇ 0) ∷ ‵ (fdies ref₀ l₁₇) ∷ Γ
 
       abbrev Unshared : List (Item 𝓤) → List (Item 𝓤)
-      Unshared Γ = ‵ (froom tyBool l₁₅ 0) ∷ ‵ (fdies tyBool l₁₅) ∷ ‵ (froom shared₁ l₁₄ 0) ∷ ‵ (fdies shared₁ l₁₄) ∷ ‵ (froom seen₁ l₁₃ 0) ∷ ‵ (fdies seen₁ l₁₃) ∷ ‵ (froom shared₀ l₁₂ 0) ∷ ‵ (fdies shared₀ l₁₂) ∷ ‵ (froom seen₀ l₁₁ 0) ∷ ‵ (fdies seen₀ l₁₁) ∷ ‵ (froom word l₁₀ 0) ∷ ‵ (fdies word l₁₀) ∷ ‵ (froom Pa′.mir l₉ 0) ∷ ‵ (fdies Pa′.mir l₉) ∷ Γ
+      Unshared Γ = ‵ (froom tyBool l₁₆ 0) ∷ ‵ (fdies tyBool l₁₆) ∷ ‵ (froom shared₁ l₁₅ 0) ∷ ‵ (fdies shared₁ l₁₅) ∷ ‵ (froom seen₁ l₁₄ 0) ∷ ‵ (fdies seen₁ l₁₄) ∷ ‵ (froom shared₀ l₁₃ 0) ∷ ‵ (fdies shared₀ l₁₃) ∷ ‵ (froom seen₀ l₁₂ 0) ∷ ‵ (fdies seen₀ l₁₂) ∷ ‵ (froom word l₁₁ 0) ∷ ‵ (fdies word l₁₁) ∷ ‵ (froom Pa′.mir l₁₀ 0) ∷ ‵ (fdies Pa′.mir l₁₀) ∷ Γ
 
       -- those that `prepared` was called with
       abbrev Shared : List (Item 𝓤) → List (Item 𝓤)
-      Shared Γ = ‵ (fat fullShare shared₁ l₁₄ 0 (vb c)) ∷ ‵ (fdies shared₁ l₁₄) ∷ ‵ (fat fullShare seen₁ l₁₃ 0 (vptr (c .b₁) (c .o₁))) ∷ ‵ (fdies seen₁ l₁₃) ∷ ‵ (fat fullShare shared₀ l₁₂ 0 (vf c)) ∷ ‵ (fdies shared₀ l₁₂) ∷ ‵ (fat fullShare seen₀ l₁₁ 0 (vptr (c .b₀) (c .o₀))) ∷ ‵ (fdies seen₀ l₁₁) ∷ Γ
+      Shared Γ = ‵ (fat fullShare shared₁ l₁₅ 0 (vb c)) ∷ ‵ (fdies shared₁ l₁₅) ∷ ‵ (fat fullShare seen₁ l₁₄ 0 (vptr (c .b₁) (c .o₁))) ∷ ‵ (fdies seen₁ l₁₄) ∷ ‵ (fat fullShare shared₀ l₁₃ 0 (vf c)) ∷ ‵ (fdies shared₀ l₁₃) ∷ ‵ (fat fullShare seen₀ l₁₂ 0 (vptr (c .b₀) (c .o₀))) ∷ ‵ (fdies seen₀ l₁₂) ∷ Γ
 
       -- the parameters and the answer's place
       abbrev Params : List (Item 𝓤) → List (Item 𝓤)
-      Params Γ = ‵ (fat fullShare slice₂ l₆ 0 (vs c)) ∷ ‵ (fdies slice₂ l₆) ∷ ‵ (fat fullShare word l₅ 0 (vint w64 (c .child))) ∷ ‵ (fdies word l₅) ∷ ‵ (fat fullShare word l₄ 0 (vint w64 (c .number))) ∷ ‵ (fdies word l₄) ∷ ‵ (fat fullShare Ps′.mir l₃ 0 (mps c)) ∷ ‵ (fdies Ps′.mir l₃)
-          ∷ ‵ (fat fullShare slice₁ l₂ 0 (vb c)) ∷ ‵ (fdies slice₁ l₂) ∷ ‵ (fat fullShare slice₀ l₁ 0 (vf c)) ∷ ‵ (fdies slice₀ l₁) ∷ ‵ (froom Lf′.mir l₀ 0) ∷ ‵ (fdies Lf′.mir l₀) ∷ Γ
+      Params Γ = ‵ (fat fullShare slice₂ l₇ 0 (vs c)) ∷ ‵ (fdies slice₂ l₇) ∷ ‵ (fat fullShare word l₆ 0 (vint w64 (c .child))) ∷ ‵ (fdies word l₆) ∷ ‵ (fat fullShare word l₅ 0 (vint w64 (c .number))) ∷ ‵ (fdies word l₅) ∷ ‵ (fat fullShare Ps′.mir l₄ 0 (mps c)) ∷ ‵ (fdies Ps′.mir l₄)
+          ∷ ‵ (fat fullShare slice₁ l₃ 0 (vb c)) ∷ ‵ (fdies slice₁ l₃) ∷ ‵ (fat fullShare slice₀ l₂ 0 (vf c)) ∷ ‵ (fdies slice₀ l₂) ∷ ‵ (fat fullShare Se′.mir l₁ 0 (mse c)) ∷ ‵ (fdies Se′.mir l₁) ∷ ‵ (froom Lf′.mir l₀ 0) ∷ ‵ (fdies Lf′.mir l₀) ∷ Γ
 
       -- once the record is known, once the list was held to it, once `prepared` has answered, and once its number was tested
       abbrev Known : Proc → List (Item 𝓤)
-      Known p = Before (Unlent (Unshared (‵ (froom tyBool l₈ 0) ∷ ‵ (fdies tyBool l₈) ∷ ‵ (fat fullShare P′.mir l₇ 0 (mp p)) ∷ ‵ (fdies P′.mir l₇) ∷ Params [])))
+      Known p = Before (Unlent (Unshared (‵ (froom tyBool l₉ 0) ∷ ‵ (fdies tyBool l₉) ∷ ‵ (fat fullShare P′.mir l₈ 0 (mp p)) ∷ ‵ (fdies P′.mir l₈) ∷ Params [])))
 
       abbrev Listed : Proc → Bool → List (Item 𝓤)
-      Listed p alike = Before (Unlent (Unshared (‵ (fat fullShare tyBool l₈ 0 (vbool alike)) ∷ ‵ (fdies tyBool l₈) ∷ ‵ (fat fullShare P′.mir l₇ 0 (mp p)) ∷ ‵ (fdies P′.mir l₇) ∷ Params [])))
+      Listed p alike = Before (Unlent (Unshared (‵ (fat fullShare tyBool l₉ 0 (vbool alike)) ∷ ‵ (fdies tyBool l₉) ∷ ‵ (fat fullShare P′.mir l₈ 0 (mp p)) ∷ ‵ (fdies P′.mir l₈) ∷ Params [])))
 
       abbrev Numbered : Found c → List (Item 𝓤)
-      Numbered d = Before (Unlent (‵ (froom tyBool l₁₅ 0) ∷ ‵ (fdies tyBool l₁₅) ∷ Shared (‵ (froom word l₁₀ 0) ∷ ‵ (fdies word l₁₀) ∷ ‵ (fat fullShare Pa′.mir l₉ 0 (mpar (d .par))) ∷ ‵ (fdies Pa′.mir l₉) ∷ ‵ (fat fullShare tyBool l₈ 0 (vbool (d .alike))) ∷ ‵ (fdies tyBool l₈) ∷ ‵ (fat fullShare P′.mir l₇ 0 (mp (d .p))) ∷ ‵ (fdies P′.mir l₇) ∷ Params [])))
+      Numbered d = Before (Unlent (‵ (froom tyBool l₁₆ 0) ∷ ‵ (fdies tyBool l₁₆) ∷ Shared (‵ (froom word l₁₁ 0) ∷ ‵ (fdies word l₁₁) ∷ ‵ (fat fullShare Pa′.mir l₁₀ 0 (mpar (d .par))) ∷ ‵ (fdies Pa′.mir l₁₀) ∷ ‵ (fat fullShare tyBool l₉ 0 (vbool (d .alike))) ∷ ‵ (fdies tyBool l₉) ∷ ‵ (fat fullShare P′.mir l₈ 0 (mp (d .p))) ∷ ‵ (fdies P′.mir l₈) ∷ Params [])))
 
       abbrev Tested : Found c → List (Item 𝓤)
-      Tested d = Before (Unlent (‵ (fat fullShare tyBool l₁₅ 0 (vbool (not (eqb (error c d) 0)))) ∷ ‵ (fdies tyBool l₁₅) ∷ Shared (‵ (fat fullShare word l₁₀ 0 (vint w64 (error c d))) ∷ ‵ (fdies word l₁₀) ∷ ‵ (fat fullShare Pa′.mir l₉ 0 (mpar (d .par))) ∷ ‵ (fdies Pa′.mir l₉) ∷ ‵ (fat fullShare tyBool l₈ 0 (vbool (d .alike))) ∷ ‵ (fdies tyBool l₈) ∷ ‵ (fat fullShare P′.mir l₇ 0 (mp (d .p))) ∷ ‵ (fdies P′.mir l₇) ∷ Params [])))
+      Tested d = Before (Unlent (‵ (fat fullShare tyBool l₁₆ 0 (vbool (not (eqb (error c d) 0)))) ∷ ‵ (fdies tyBool l₁₆) ∷ Shared (‵ (fat fullShare word l₁₁ 0 (vint w64 (error c d))) ∷ ‵ (fdies word l₁₁) ∷ ‵ (fat fullShare Pa′.mir l₁₀ 0 (mpar (d .par))) ∷ ‵ (fdies Pa′.mir l₁₀) ∷ ‵ (fat fullShare tyBool l₉ 0 (vbool (d .alike))) ∷ ‵ (fdies tyBool l₉) ∷ ‵ (fat fullShare P′.mir l₈ 0 (mp (d .p))) ∷ ‵ (fdies P′.mir l₈) ∷ Params [])))
 
       -- there is a number: the call is refused
       then-refused : (d : Found c) → (error c d ≡ 0 → ⊥) → Sq W (Tested d) (runs C Λ E refuses (anyQ (afterSeq 𝓤 H (Wp 𝓤 H C Λ E mir.t-11 (atReturn 𝓤 H E Last)) (atReturn 𝓤 H E Last))))
@@ -153,9 +155,9 @@ module _ {M : Type 1} (𝓤 : URA M) (H : Heap 𝓤) (A : Atoms 𝓤) (W : Given
           use1 W (later (some (λ (r : Left). (‵ ftrue ⊛ ‵ (Res .own r (u ∷ []))) ⊛ raw (ensured 𝓤 H A refused.ended (refused.clauses 𝓤 H A at-mem run) tt (c .procs, (error c d, tt)) tt r)))) (id⊢ 𝓤 _) $ await ! tt $ pick ! (λ r.
           split ! $ move ! (1 ∷ []) $ use1 W (raw (fact 𝓤 (Said c d r))) (refused-said c 𝓤 H A W at-mem run d r) $ heard ! (Said c d r) (λ h. split ! $ drop ! $
           peeks ! Res (Is Res) (shows 𝓤 H A Res) r (u ∷ []) (λ is.
-          land ! (from ! (stop !)) (init ! 45 refl (LL.lawful Lf.the-type Lf′.the-laws 𝓤 H A W .typed r _ is .0)) $ returns-within ! Last refl (look ! 45 refl) $
-          forget ! 15 refl $ forget ! 17 refl $ forget ! 19 refl $ forget ! 21 refl $ forget ! 23 refl $ forget ! 25 refl $ forget ! 27 refl $ forget ! 29 refl $ forget ! 31 refl $ forget ! 33 refl $ forget ! 35 refl $ forget ! 37 refl $ forget ! 39 refl $ forget ! 41 refl $ forget ! 43 refl $ forget ! 45 refl $
-          move ! (45 ∷ 46 ∷ []) $ free1 ! $ move ! (43 ∷ 44 ∷ []) $ free1 ! $ move ! (41 ∷ 42 ∷ []) $ free1 ! $ move ! (39 ∷ 40 ∷ []) $ free1 ! $ move ! (37 ∷ 38 ∷ []) $ free1 ! $ move ! (35 ∷ 36 ∷ []) $ free1 ! $ move ! (33 ∷ 34 ∷ []) $ free1 ! $ move ! (31 ∷ 32 ∷ []) $ free1 ! $ move ! (29 ∷ 30 ∷ []) $ free1 ! $ move ! (27 ∷ 28 ∷ []) $ free1 ! $ move ! (25 ∷ 26 ∷ []) $ free1 ! $ move ! (23 ∷ 24 ∷ []) $ free1 ! $ move ! (21 ∷ 22 ∷ []) $ free1 ! $ move ! (19 ∷ 20 ∷ []) $ free1 ! $ move ! (17 ∷ 18 ∷ []) $ free1 ! $ move ! (15 ∷ 16 ∷ []) $ free1 ! $ move ! (13 ∷ 14 ∷ []) $ free1 ! $ move ! (11 ∷ 12 ∷ []) $ free1 ! $ move ! (9 ∷ 10 ∷ []) $ free1 ! $ move ! (7 ∷ 8 ∷ []) $ free1 ! $ free0 ! $
+          land ! (from ! (stop !)) (init ! 47 refl (LL.lawful Lf.the-type Lf′.the-laws 𝓤 H A W .typed r _ is .0)) $ returns-within ! Last refl (look ! 47 refl) $
+          forget ! 15 refl $ forget ! 17 refl $ forget ! 19 refl $ forget ! 21 refl $ forget ! 23 refl $ forget ! 25 refl $ forget ! 27 refl $ forget ! 29 refl $ forget ! 31 refl $ forget ! 33 refl $ forget ! 35 refl $ forget ! 37 refl $ forget ! 39 refl $ forget ! 41 refl $ forget ! 43 refl $ forget ! 45 refl $ forget ! 47 refl $
+          move ! (47 ∷ 48 ∷ []) $ free1 ! $ move ! (45 ∷ 46 ∷ []) $ free1 ! $ move ! (43 ∷ 44 ∷ []) $ free1 ! $ move ! (41 ∷ 42 ∷ []) $ free1 ! $ move ! (39 ∷ 40 ∷ []) $ free1 ! $ move ! (37 ∷ 38 ∷ []) $ free1 ! $ move ! (35 ∷ 36 ∷ []) $ free1 ! $ move ! (33 ∷ 34 ∷ []) $ free1 ! $ move ! (31 ∷ 32 ∷ []) $ free1 ! $ move ! (29 ∷ 30 ∷ []) $ free1 ! $ move ! (27 ∷ 28 ∷ []) $ free1 ! $ move ! (25 ∷ 26 ∷ []) $ free1 ! $ move ! (23 ∷ 24 ∷ []) $ free1 ! $ move ! (21 ∷ 22 ∷ []) $ free1 ! $ move ! (19 ∷ 20 ∷ []) $ free1 ! $ move ! (17 ∷ 18 ∷ []) $ free1 ! $ move ! (15 ∷ 16 ∷ []) $ free1 ! $ move ! (13 ∷ 14 ∷ []) $ free1 ! $ move ! (11 ∷ 12 ∷ []) $ free1 ! $ move ! (9 ∷ 10 ∷ []) $ free1 ! $ move ! (7 ∷ 8 ∷ []) $ free1 ! $ free0 ! $
           by ! (exits-refused c 𝓤 H A W at-mem run d r u ne h)))))
 
       -- there is none: `forked` takes frames and book
@@ -173,10 +175,10 @@ module _ {M : Type 1} (𝓤 : URA M) (H : Heap 𝓤) (A : Atoms 𝓤) (W : Given
           split ! $ move ! (1 ∷ []) $ heard ! (Ended c d ws r) (λ h.
           fsplit ! $ fsplit ! $ move ! (1 ∷ []) $ feqL ! (λ e₀. move ! (1 ∷ []) $ fsplit ! $ fsplit ! $ move ! (1 ∷ []) $ feqL ! (λ e₁.
           move ! (3 ∷ []) $ split ! $ move ! (1 ∷ []) $ peeks ! Res (Is Res) (shows 𝓤 H A Res) r (u ∷ []) (λ is.
-          -- [the result; the tokens; book's last list; …; frames' last list; segments; _19; …]
-          land ! (from ! (stop !)) (init ! 44 refl (LL.lawful Lf.the-type Lf′.the-laws 𝓤 H A W .typed r _ is .0)) $ returns ! (look ! 44 refl) $
-          forget ! 6 refl $ forget ! 8 refl $ forget ! 10 refl $ forget ! 12 refl $ forget ! 14 refl $ forget ! 16 refl $ forget ! 18 refl $ forget ! 20 refl $ forget ! 22 refl $ forget ! 24 refl $ forget ! 26 refl $ forget ! 28 refl $ forget ! 30 refl $ forget ! 32 refl $ forget ! 34 refl $ forget ! 36 refl $ forget ! 38 refl $ forget ! 40 refl $ forget ! 42 refl $ forget ! 44 refl $
-          move ! (44 ∷ 45 ∷ []) $ free1 ! $ move ! (42 ∷ 43 ∷ []) $ free1 ! $ move ! (40 ∷ 41 ∷ []) $ free1 ! $ move ! (38 ∷ 39 ∷ []) $ free1 ! $ move ! (36 ∷ 37 ∷ []) $ free1 ! $ move ! (34 ∷ 35 ∷ []) $ free1 ! $ move ! (32 ∷ 33 ∷ []) $ free1 ! $ move ! (30 ∷ 31 ∷ []) $ free1 ! $ move ! (28 ∷ 29 ∷ []) $ free1 ! $ move ! (26 ∷ 27 ∷ []) $ free1 ! $ move ! (24 ∷ 25 ∷ []) $ free1 ! $ move ! (22 ∷ 23 ∷ []) $ free1 ! $ move ! (20 ∷ 21 ∷ []) $ free1 ! $ move ! (18 ∷ 19 ∷ []) $ free1 ! $ move ! (16 ∷ 17 ∷ []) $ free1 ! $ move ! (14 ∷ 15 ∷ []) $ free1 ! $ move ! (12 ∷ 13 ∷ []) $ free1 ! $ move ! (10 ∷ 11 ∷ []) $ free1 ! $ move ! (8 ∷ 9 ∷ []) $ free1 ! $ move ! (6 ∷ 7 ∷ []) $ free1 ! $ free0 ! $
+          -- [the result; the tokens; book's last list; …; frames' last list; segments; _20; …]
+          land ! (from ! (stop !)) (init ! 46 refl (LL.lawful Lf.the-type Lf′.the-laws 𝓤 H A W .typed r _ is .0)) $ returns ! (look ! 46 refl) $
+          forget ! 6 refl $ forget ! 8 refl $ forget ! 10 refl $ forget ! 12 refl $ forget ! 14 refl $ forget ! 16 refl $ forget ! 18 refl $ forget ! 20 refl $ forget ! 22 refl $ forget ! 24 refl $ forget ! 26 refl $ forget ! 28 refl $ forget ! 30 refl $ forget ! 32 refl $ forget ! 34 refl $ forget ! 36 refl $ forget ! 38 refl $ forget ! 40 refl $ forget ! 42 refl $ forget ! 44 refl $ forget ! 46 refl $
+          move ! (46 ∷ 47 ∷ []) $ free1 ! $ move ! (44 ∷ 45 ∷ []) $ free1 ! $ move ! (42 ∷ 43 ∷ []) $ free1 ! $ move ! (40 ∷ 41 ∷ []) $ free1 ! $ move ! (38 ∷ 39 ∷ []) $ free1 ! $ move ! (36 ∷ 37 ∷ []) $ free1 ! $ move ! (34 ∷ 35 ∷ []) $ free1 ! $ move ! (32 ∷ 33 ∷ []) $ free1 ! $ move ! (30 ∷ 31 ∷ []) $ free1 ! $ move ! (28 ∷ 29 ∷ []) $ free1 ! $ move ! (26 ∷ 27 ∷ []) $ free1 ! $ move ! (24 ∷ 25 ∷ []) $ free1 ! $ move ! (22 ∷ 23 ∷ []) $ free1 ! $ move ! (20 ∷ 21 ∷ []) $ free1 ! $ move ! (18 ∷ 19 ∷ []) $ free1 ! $ move ! (16 ∷ 17 ∷ []) $ free1 ! $ move ! (14 ∷ 15 ∷ []) $ free1 ! $ move ! (12 ∷ 13 ∷ []) $ free1 ! $ move ! (10 ∷ 11 ∷ []) $ free1 ! $ move ! (8 ∷ 9 ∷ []) $ free1 ! $ move ! (6 ∷ 7 ∷ []) $ free1 ! $ free0 ! $
           keep ! (0 ∷ 1 ∷ 2 ∷ 4 ∷ 5 ∷ []) $ by ! (exits-done c 𝓤 H A W at-mem run d ws r u z e₀ e₁ h))))))))
 
       -- the number is taken from the parent and tested
@@ -195,12 +197,12 @@ module _ {M : Type 1} (𝓤 : URA M) (H : Heap 𝓤) (A : Atoms 𝓤) (W : Given
           assigns ! (agg ! (and-then ! (load ! (from ! (stop !)) (look ! 18 refl)) (and-then ! (load ! (from ! (fld ! refl (stop !))) (look-in ! 40 (sub ! 1 refl (whole !)))) (no-more !)))) (from ! (stop !)) (init ! 16 refl (tt, (tt, (record { fits = c .room₁ .0 }, tt)))) $
           move ! (3 ∷ 0 ∷ []) $ share-slice u8 (named 0) (named 0) (c .κ₀) (c .q₀) (c .γ₀) (c .b₀) (c .o₀) (c .frames) ! tt (λ ν₀ δ₀. move ! (5 ∷ 3 ∷ []) $ share-slice u64 (named 1) (named 1) (c .κ₁) (c .q₁) (c .γ₁) (c .b₁) (c .o₁) (c .book) ! tt (λ ν₁ δ₁.
           move ! (3 ∷ 4 ∷ 0 ∷ 1 ∷ []) $ group ! 4 $ use1 W (raw (Prepared 𝓤 H A at-mem run .pre (to-prepared c 𝓤 H A W at-mem run alike ν₀ δ₀ ν₁ δ₁))) (asks-prepared c 𝓤 H A W at-mem run alike ν₀ δ₀ ν₁ δ₁) $
-          -- [what `prepared` asks; what is kept of book and of frames; κ₂'s token; segments; _19; …]
-          calls-at ! fm (Prepared 𝓤 H A at-mem run) known-prepared (to-prepared c 𝓤 H A W at-mem run alike ν₀ δ₀ ν₁ δ₁) (and-then ! (load ! (from ! (stop !)) (look ! 19 refl)) (and-then ! (load ! (from ! (stop !)) (look ! 15 refl)) (and-then ! (load ! (from ! (stop !)) (look ! 37 refl)) (and-then ! (load ! (from ! (stop !)) (look ! 35 refl)) (and-then ! (load ! (from ! (stop !)) (look ! 33 refl)) (and-then ! (load ! (from ! (stop !)) (look ! 27 refl)) (no-more !))))))) (λ u.
+          -- [what `prepared` asks; what is kept of book and of frames; κ₂'s token; segments; _20; …]
+          calls-at ! fm (Prepared 𝓤 H A at-mem run) known-prepared (to-prepared c 𝓤 H A W at-mem run alike ν₀ δ₀ ν₁ δ₁) (and-then ! (load ! (from ! (stop !)) (look ! 43 refl)) (and-then ! (load ! (from ! (stop !)) (look ! 19 refl)) (and-then ! (load ! (from ! (stop !)) (look ! 15 refl)) (and-then ! (load ! (from ! (stop !)) (look ! 37 refl)) (and-then ! (load ! (from ! (stop !)) (look ! 35 refl)) (and-then ! (load ! (from ! (stop !)) (look ! 33 refl)) (and-then ! (load ! (from ! (stop !)) (look ! 27 refl)) (no-more !)))))))) (λ u.
           use1 W (later (some (λ (par : Parent). ((‵ (flft (ν₀ ∷ []) fullShare) ⊛ (‵ (flft (ν₁ ∷ []) fullShare) ⊛ ‵ ftrue)) ⊛ ‵ (Par .own par (u ∷ []))) ⊛ raw (ensured 𝓤 H A prepared.ended (prepared.clauses 𝓤 H A at-mem run) (ν₀ ∷ [], (ν₁ ∷ [], tt)) (given-prepared c 𝓤 H A W at-mem run alike ν₀ δ₀ ν₁ δ₁) tt par)))) (id⊢ 𝓤 _) $ await ! tt $ pick ! (λ par.
           split ! $ move ! (1 ∷ []) $ use1 W (raw (fact 𝓤 (Judged c alike par))) (prepared-said c 𝓤 H A W at-mem run alike ν₀ δ₀ ν₁ δ₁ par) $ heard ! (Judged c alike par) (λ h. split ! $ move ! (1 ∷ []) $
           peeks ! Par (Is Par) (shows 𝓤 H A Par) par (u ∷ []) (λ is.
-          land ! (from ! (stop !)) (init ! 26 refl (LL.lawful Pa.the-type Pa′.the-laws 𝓤 H A W .typed par _ is .0)) $ rewrite ! 26 (λ (w : Val). ‵ (fat fullShare Pa′.mir l₉ 0 w)) (ap only (LL.tells Pa.the-type Pa′.the-laws par _ is)) refl $ drop ! $
+          land ! (from ! (stop !)) (init ! 26 refl (LL.lawful Pa.the-type Pa′.the-laws 𝓤 H A W .typed par _ is .0)) $ rewrite ! 26 (λ (w : Val). ‵ (fat fullShare Pa′.mir l₁₀ 0 w)) (ap only (LL.tells Pa.the-type Pa′.the-laws par _ is)) refl $ drop ! $
           -- frames and book are back
           split ! $ move ! (0 ∷ 3 ∷ []) $ slice-unshared u8 (named 0) (named 0) (c .κ₀) (c .q₀) (c .γ₀) (c .b₀) (c .o₀) (c .frames) ! tt ν₀ $
           move ! (2 ∷ []) $ split ! $ move ! (0 ∷ 4 ∷ []) $ slice-unshared u64 (named 1) (named 1) (c .κ₁) (c .q₁) (c .γ₁) (c .b₁) (c .o₁) (c .book) ! tt ν₁ $
@@ -211,48 +213,48 @@ module _ {M : Type 1} (𝓤 : URA M) (H : Heap 𝓤) (A : Atoms 𝓤) (W : Given
       then-listed p isP is-record =
           move ! (5 ∷ []) $ use1 W (‵ (OwnS c) ⊛ ‵ (OwnS c)) (shr-slice-copy 𝓤 H A W (named 2) (c .κ₂) R .twice (listAt c) (vs c ∷ [])) $ split ! $ move ! (4 ∷ 0 ∷ []) $
           use2 W (raw (Same 𝓤 H A at-mem run .pre (to-same c 𝓤 H A W at-mem run p))) (asks-same c 𝓤 H A W at-mem run p isP) $
-          -- [what `same_list` asks; segments; two tokens; frames; book; _19; …]
+          -- [what `same_list` asks; segments; two tokens; frames; book; _20; …]
           calls-at ! fm (Same 𝓤 H A at-mem run) known-same (to-same c 𝓤 H A W at-mem run p) (and-then ! (load ! (from ! (stop !)) (look ! 32 refl)) (and-then ! (load ! (from ! (stop !)) (look ! 30 refl)) (no-more !))) (λ u.
           use1 W (later (some (λ (r : Bool). ((‵ (flft (c .κ₂) (c .q₂)) ⊛ ‵ ftrue) ⊛ ‵ (bool .own r (u ∷ []))) ⊛ raw (ensured 𝓤 H A same-list.ended (same-list.clauses 𝓤 H A at-mem run) (c .κ₂, tt) (listAt c, (p, tt)) tt r)))) (id⊢ 𝓤 _) $ await ! tt $ pick ! (λ r.
           split ! $ move ! (1 ∷ []) $ use1 W (raw (fact 𝓤 (r ≡ same sameSegment (c .gs) (used (p .segments))))) (same-said c 𝓤 H A W at-mem run p r) $ heard ! (r ≡ same sameSegment (c .gs) (used (p .segments))) (λ h. split ! $ move ! (1 ∷ []) $
           peeks ! bool (Is bool) (shows 𝓤 H A bool) r (u ∷ []) (λ is.
-          land ! (from ! (stop !)) (init ! 29 refl (bool-lawful 𝓤 H A W .typed r _ is .0)) $ rewrite ! 29 (λ (w : Val). ‵ (fat fullShare tyBool l₈ 0 w)) (ap only is) refl $ drop ! $
+          land ! (from ! (stop !)) (init ! 29 refl (bool-lawful 𝓤 H A W .typed r _ is .0)) $ rewrite ! 29 (λ (w : Val). ‵ (fat fullShare tyBool l₉ 0 w)) (ap only is) refl $ drop ! $
           split ! $ move ! (3 ∷ 4 ∷ 0 ∷ 5 ∷ 6 ∷ 2 ∷ []) $ move ! (6 ∷ []) $ drop ! $ then-numbered p is-record r h))))
 
       -- the parameters are stored
       abbrev Stored : List (Item 𝓤)
-      Stored = Unlent (Unshared (‵ (froom tyBool l₈ 0) ∷ ‵ (fdies tyBool l₈) ∷ ‵ (froom P′.mir l₇ 0) ∷ ‵ (fdies P′.mir l₇) ∷ Params (raw (onEntry 𝓤 H A all.signature (c .κ₀, (c .κ₁, (c .κ₂, tt))) (c .q₀, (c .q₁, (c .q₂, tt))) (a c) (at c)) ∷ [])))
+      Stored = Unlent (Unshared (‵ (froom tyBool l₉ 0) ∷ ‵ (fdies tyBool l₉) ∷ ‵ (froom P′.mir l₈ 0) ∷ ‵ (fdies P′.mir l₈) ∷ Params (raw (onEntry 𝓤 H A all.signature (c .κ₀, (c .κ₁, (c .κ₂, tt))) (c .q₀, (c .q₁, (c .q₂, tt))) (a c) (at c)) ∷ [])))
 
       starts : Sq W Stored (runs C Λ E mir.t-1 (atRet E Last))
       starts =
-          move ! (40 ∷ []) $ use1 W ((‵ (flft (c .κ₀) (c .q₀)) ⊛ ‵ (flft (c .κ₁) (c .q₁)) ⊛ ‵ (flft (c .κ₂) (c .q₂)) ⊛ ‵ ftrue) ⊛ ‵ (owns (MutSlice (named 0) (c .κ₀) u8 ∷ MutSlice (named 1) (c .κ₁) u64 ∷ Recs ∷ u64 ∷ u64 ∷ ShrSlice (named 2) (c .κ₂) R ∷ []) (a c) (at c))) (id⊢ 𝓤 _) $
+          move ! (42 ∷ []) $ use1 W ((‵ (flft (c .κ₀) (c .q₀)) ⊛ ‵ (flft (c .κ₁) (c .q₁)) ⊛ ‵ (flft (c .κ₂) (c .q₂)) ⊛ ‵ ftrue) ⊛ ‵ (owns (Nums ∷ MutSlice (named 0) (c .κ₀) u8 ∷ MutSlice (named 1) (c .κ₁) u64 ∷ Recs ∷ u64 ∷ u64 ∷ ShrSlice (named 2) (c .κ₂) R ∷ []) (a c) (at c))) (id⊢ 𝓤 _) $
           split ! $ split ! $ move ! (1 ∷ []) $ split ! $ move ! (1 ∷ []) $ split ! $ move ! (1 ∷ []) $ drop ! $
-          -- [κ₂'s token; κ₁'s; κ₀'s; what is owned; _19; …]
-          move ! (3 ∷ []) $ fsplit ! $ move ! (1 ∷ []) $ fsplit ! $ move ! (1 ∷ []) $ fsplit ! $ drop ! $ fsplit ! $ drop ! $ fsplit ! $ drop ! $ fsplit ! $ move ! (1 ∷ []) $ drop ! $
-          -- [segments; book; frames; κ₂'s token; κ₁'s; κ₀'s; _19; …]
+          -- [κ₂'s token; κ₁'s; κ₀'s; what is owned; _20; …]
+          move ! (3 ∷ []) $ fsplit ! $ drop ! $ fsplit ! $ move ! (1 ∷ []) $ fsplit ! $ move ! (1 ∷ []) $ fsplit ! $ drop ! $ fsplit ! $ drop ! $ fsplit ! $ drop ! $ fsplit ! $ move ! (1 ∷ []) $ drop ! $
+          -- [segments; book; frames; κ₂'s token; κ₁'s; κ₀'s; _20; …]
           move ! (5 ∷ 4 ∷ 3 ∷ 2 ∷ 1 ∷ 0 ∷ []) $ use0 W (raw (Recorded 𝓤 H A at-mem run .pre (to-recorded c 𝓤 H A W at-mem run))) (asks-recorded c 𝓤 H A W at-mem run) $
           calls-at ! fm (Recorded 𝓤 H A at-mem run) known-recorded (to-recorded c 𝓤 H A W at-mem run) (and-then ! (load ! (from ! (stop !)) (look ! 39 refl)) (and-then ! (load ! (from ! (stop !)) (look ! 37 refl)) (no-more !))) (λ u.
           use1 W (later (some (λ (p : Proc). (‵ ftrue ⊛ ‵ (Rec .own p (u ∷ []))) ⊛ raw (ensured 𝓤 H A recorded.ended (recorded.clauses 𝓤 H A at-mem run) tt (c .procs, (c .number, tt)) tt p)))) (id⊢ 𝓤 _) $ await ! tt $ pick ! (λ p.
           split ! $ move ! (1 ∷ []) $ use1 W (raw (fact 𝓤 (p ≡ recordOf (c .procs) (c .number)))) (recorded-said c 𝓤 H A W at-mem run p) $ heard ! (p ≡ recordOf (c .procs) (c .number)) (λ h. split ! $ drop ! $
           peeks ! Rec (Is Rec) (shows 𝓤 H A Rec) p (u ∷ []) (λ is.
-          land ! (from ! (stop !)) (init ! 31 refl (LL.lawful P.the-type P′.the-laws 𝓤 H A W .typed p _ is .0)) $ rewrite ! 31 (λ (w : Val). ‵ (fat fullShare P′.mir l₇ 0 w)) (ap only (LL.tells P.the-type P′.the-laws p _ is)) refl $ drop ! $
+          land ! (from ! (stop !)) (init ! 31 refl (LL.lawful P.the-type P′.the-laws 𝓤 H A W .typed p _ is .0)) $ rewrite ! 31 (λ (w : Val). ‵ (fat fullShare P′.mir l₈ 0 w)) (ap only (LL.tells P.the-type P′.the-laws p _ is)) refl $ drop ! $
           then-listed p (subst (Is Rec p) (LL.tells P.the-type P′.the-laws p _ is) is) h))))
 
-    walk : ent 𝓤 (onEntry 𝓤 H A all.signature (c .κ₀, (c .κ₁, (c .κ₂, tt))) (c .q₀, (c .q₁, (c .q₂, tt))) (a c) (at c)) (WpFn 𝓤 H C Λ code.function (vf c ∷ vb c ∷ mps c ∷ vint w64 (c .number) ∷ vint w64 (c .child) ∷ vs c ∷ []) Last)
+    walk : ent 𝓤 (onEntry 𝓤 H A all.signature (c .κ₀, (c .κ₁, (c .κ₂, tt))) (c .q₀, (c .q₁, (c .q₂, tt))) (a c) (at c)) (WpFn 𝓤 H C Λ code.function (mse c ∷ vf c ∷ vb c ∷ mps c ∷ vint w64 (c .number) ∷ vint w64 (c .child) ∷ vs c ∷ []) Last)
     walk =
-        qed W (raw (onEntry 𝓤 H A all.signature (c .κ₀, (c .κ₁, (c .κ₂, tt))) (c .q₀, (c .q₁, (c .q₂, tt))) (a c) (at c)) ∷ []) ∵ enter ! C Λ code.function (vf c ∷ vb c ∷ mps c ∷ vint w64 (c .number) ∷ vint w64 (c .child) ∷ vs c ∷ []) _ $
-        alloc1 ! (λ l₀. alloc1 ! (λ l₁. alloc1 ! (λ l₂. alloc1 ! (λ l₃. alloc1 ! (λ l₄. alloc1 ! (λ l₅. alloc1 ! (λ l₆. alloc1 ! (λ l₇. alloc1 ! (λ l₈. alloc1 ! (λ l₉. alloc1 ! (λ l₁₀. alloc1 ! (λ l₁₁. alloc1 ! (λ l₁₂. alloc1 ! (λ l₁₃. alloc1 ! (λ l₁₄. alloc1 ! (λ l₁₅. alloc1 ! (λ l₁₆. alloc1 ! (λ l₁₇. alloc1 ! (λ l₁₈. alloc1 ! (λ l₁₉. alloc0 ! $ params1 ! $
-        pass1 ! (init ! 36 refl (tt, (tt, (record { fits = c .room₀ .0 }, tt)))) $ pass1 ! (init ! 34 refl (tt, (tt, (record { fits = c .room₁ .0 }, tt)))) $ pass1 ! (init ! 32 refl (LL.lawful Ps.the-type Ps′.the-laws 𝓤 H A W .typed (c .procs) _ (c .isPs) .0)) $
+        qed W (raw (onEntry 𝓤 H A all.signature (c .κ₀, (c .κ₁, (c .κ₂, tt))) (c .q₀, (c .q₁, (c .q₂, tt))) (a c) (at c)) ∷ []) ∵ enter ! C Λ code.function (mse c ∷ vf c ∷ vb c ∷ mps c ∷ vint w64 (c .number) ∷ vint w64 (c .child) ∷ vs c ∷ []) _ $
+        alloc1 ! (λ l₀. alloc1 ! (λ l₁. alloc1 ! (λ l₂. alloc1 ! (λ l₃. alloc1 ! (λ l₄. alloc1 ! (λ l₅. alloc1 ! (λ l₆. alloc1 ! (λ l₇. alloc1 ! (λ l₈. alloc1 ! (λ l₉. alloc1 ! (λ l₁₀. alloc1 ! (λ l₁₁. alloc1 ! (λ l₁₂. alloc1 ! (λ l₁₃. alloc1 ! (λ l₁₄. alloc1 ! (λ l₁₅. alloc1 ! (λ l₁₆. alloc1 ! (λ l₁₇. alloc1 ! (λ l₁₈. alloc1 ! (λ l₁₉. alloc1 ! (λ l₂₀. alloc0 ! $ params1 ! $
+        pass1 ! (init ! 38 refl (LL.lawful Se.the-type Se′.the-laws 𝓤 H A W .typed (c .setup) _ (c .isSe) .0)) $ pass1 ! (init ! 36 refl (tt, (tt, (record { fits = c .room₀ .0 }, tt)))) $ pass1 ! (init ! 34 refl (tt, (tt, (record { fits = c .room₁ .0 }, tt)))) $ pass1 ! (init ! 32 refl (LL.lawful Ps.the-type Ps′.the-laws 𝓤 H A W .typed (c .procs) _ (c .isPs) .0)) $
         pass1 ! (init ! 30 refl (tt, record { fits = c .fits-number })) $ pass1 ! (init ! 28 refl (tt, record { fits = c .fits-child })) $ pass1 ! (init ! 26 refl (tt, (tt, (record { fits = c .room₂ .0 }, tt)))) $ pass0 ! $
-        starts l₀ l₁ l₂ l₃ l₄ l₅ l₆ l₇ l₈ l₉ l₁₀ l₁₁ l₁₂ l₁₃ l₁₄ l₁₅ l₁₆ l₁₇ l₁₈ l₁₉))))))))))))))))))))
+        starts l₀ l₁ l₂ l₃ l₄ l₅ l₆ l₇ l₈ l₉ l₁₀ l₁₁ l₁₂ l₁₃ l₁₄ l₁₅ l₁₆ l₁₇ l₁₈ l₁₉ l₂₀)))))))))))))))))))))
 
 module _ {M : Type 1} (𝓤 : URA M) (H : Heap 𝓤) (A : Atoms 𝓤) (W : Given 𝓤 H A) (at-mem : Memory → SProp 𝓤) (run : Routine → Fun 𝓤) (𝓣 : Tables 𝓤 H)
     (known-recorded : Triple 𝓤 (𝓣 .C #recorded) (Recorded 𝓤 H A at-mem run)) (known-same : Triple 𝓤 (𝓣 .C #same-list) (Same 𝓤 H A at-mem run)) (known-prepared : Triple 𝓤 (𝓣 .C #prepared) (Prepared 𝓤 H A at-mem run)) (known-refused : Triple 𝓤 (𝓣 .C #refused) (Refusal 𝓤 H A at-mem run)) (known-forked : Triple 𝓤 (𝓣 .C #forked) (Forked 𝓤 H A at-mem run)) where
   fork-list-walks : Walks 𝓤 H A all.ended stayed (WpFn 𝓤 H (𝓣 .C) (𝓣 .Λ) code.function) (all.clauses 𝓤 H A at-mem run)
   fork-list-walks =
       walked 𝓤 H A all.ended stayed (all.clauses 𝓤 H A at-mem run) (WpFn 𝓤 H (𝓣 .C) (𝓣 .Λ) code.function)
-      (λ κs. (slice-vals, (slice-vals, (LL.vals Ps.the-type Ps′.the-laws, (uint-vals w64, (uint-vals w64, (slice-vals, tt)))))))
-      (λ κs. (mut-slice-tells (named 0) (κs .0) u8, (mut-slice-tells (named 1) (κs .1 .0) u64, (LL.tells Ps.the-type Ps′.the-laws, (uint-tells w64, (uint-tells w64, (shr-slice-tells (named 2) (κs .1 .1 .0) R, tt)))))))
+      (λ κs. (LL.vals Se.the-type Se′.the-laws, (slice-vals, (slice-vals, (LL.vals Ps.the-type Ps′.the-laws, (uint-vals w64, (uint-vals w64, (slice-vals, tt))))))))
+      (λ κs. (LL.tells Se.the-type Se′.the-laws, (mut-slice-tells (named 0) (κs .0) u8, (mut-slice-tells (named 1) (κs .1 .0) u64, (LL.tells Ps.the-type Ps′.the-laws, (uint-tells w64, (uint-tells w64, (shr-slice-tells (named 2) (κs .1 .1 .0) R, tt))))))))
       (λ κs qs bounds a g are. via 𝓤 _ (fst∗ 𝓤 _ (emp 𝓤)) (walk 𝓤 H A W at-mem run (record {
         κ₀ = κs .0;
         κ₁ = κs .1 .0;
@@ -260,34 +262,36 @@ module _ {M : Type 1} (𝓤 : URA M) (H : Heap 𝓤) (A : Atoms 𝓤) (W : Given
         q₀ = qs .0;
         q₁ = qs .1 .0;
         q₂ = qs .1 .1 .0;
-        b₀ = a .0 .ptr .0;
-        o₀ = a .0 .ptr .1;
-        γ₀ = a .0 .name;
-        frames = a .0 .now;
-        b₁ = a .1 .0 .ptr .0;
-        o₁ = a .1 .0 .ptr .1;
-        γ₁ = a .1 .0 .name;
-        book = a .1 .0 .now;
-        procs = a .1 .1 .0;
-        number = a .1 .1 .1 .0;
-        child = a .1 .1 .1 .1 .0;
-        b₂ = a .1 .1 .1 .1 .1 .0 .ptr .0;
-        o₂ = a .1 .1 .1 .1 .1 .0 .ptr .1;
-        γ₂ = a .1 .1 .1 .1 .1 .0 .name;
-        gs = a .1 .1 .1 .1 .1 .0 .now;
-        room₀ = are .0 .0 .1;
-        room₁ = are .1 .0 .0 .1;
-        isPs = are .1 .1 .0;
-        fits-number = are .1 .1 .1 .0 .1;
-        fits-child = are .1 .1 .1 .1 .0 .1;
-        room₂ = are .1 .1 .1 .1 .1 .0 .0 .1;
+        setup = a .0;
+        b₀ = a .1 .0 .ptr .0;
+        o₀ = a .1 .0 .ptr .1;
+        γ₀ = a .1 .0 .name;
+        frames = a .1 .0 .now;
+        b₁ = a .1 .1 .0 .ptr .0;
+        o₁ = a .1 .1 .0 .ptr .1;
+        γ₁ = a .1 .1 .0 .name;
+        book = a .1 .1 .0 .now;
+        procs = a .1 .1 .1 .0;
+        number = a .1 .1 .1 .1 .0;
+        child = a .1 .1 .1 .1 .1 .0;
+        b₂ = a .1 .1 .1 .1 .1 .1 .0 .ptr .0;
+        o₂ = a .1 .1 .1 .1 .1 .1 .0 .ptr .1;
+        γ₂ = a .1 .1 .1 .1 .1 .1 .0 .name;
+        gs = a .1 .1 .1 .1 .1 .1 .0 .now;
+        isSe = are .0;
+        room₀ = are .1 .0 .0 .1;
+        room₁ = are .1 .1 .0 .0 .1;
+        isPs = are .1 .1 .1 .0;
+        fits-number = are .1 .1 .1 .1 .0 .1;
+        fits-child = are .1 .1 .1 .1 .1 .0 .1;
+        room₂ = are .1 .1 .1 .1 .1 .1 .0 .0 .1;
       })
       (𝓣 .C) (𝓣 .Λ) (fmOf 𝓤 H (W .laws) 𝓣) known-recorded known-same known-prepared known-refused known-forked))
 
   fork-list-meets : Meets 𝓤 H A all.signature (WpFn 𝓤 H (𝓣 .C) (𝓣 .Λ) code.function) (all.spec 𝓤 H A at-mem run)
   fork-list-meets =
       walk-meets 𝓤 H A all.ended stayed W
-      (goes-gave-slice 𝓤 H A W 3 0 tt (plain (λ _. u8)), (goes-gave-slice 𝓤 H A W 3 1 tt (plain (λ _. u64)), (goes-none 𝓤 H A W 3 (λ _. Recs) yes (λ κs x f. refl), (goes-none 𝓤 H A W 3 (λ _. u64) yes (λ κs x f. refl), (goes-none 𝓤 H A W 3 (λ _. u64) yes (λ κs x f. refl), (goes-none-slice 𝓤 H A W 3 (2 ∷ []) tt (plain (λ _. R)) yes, tt))))))
+      (goes-none 𝓤 H A W 3 (λ _. Nums) yes (λ κs x f. refl), (goes-gave-slice 𝓤 H A W 3 0 tt (plain (λ _. u8)), (goes-gave-slice 𝓤 H A W 3 1 tt (plain (λ _. u64)), (goes-none 𝓤 H A W 3 (λ _. Recs) yes (λ κs x f. refl), (goes-none 𝓤 H A W 3 (λ _. u64) yes (λ κs x f. refl), (goes-none 𝓤 H A W 3 (λ _. u64) yes (λ κs x f. refl), (goes-none-slice 𝓤 H A W 3 (2 ∷ []) tt (plain (λ _. R)) yes, tt)))))))
       (all.clauses 𝓤 H A at-mem run) (WpFn 𝓤 H (𝓣 .C) (𝓣 .Λ) code.function) (WpFn-mono 𝓤 H (W .laws) 𝓣 code.function) fork-list-walks
 
 pub fork-list-spec : {M : Type 1} → stated.statement M

@@ -10,6 +10,7 @@ use Rattle.spec.specs.Sound.{Shape}
 use Rattle.spec.specs.World.{State}
 use Rattle.spec.specs.declared.UserSegment.{UserSegment}
 use Rattle.spec.specs.declared.Proc.{Proc}
+use Rattle.spec.proofs.Setups.{setup-means}
 use Rattle.laws.proofs.Record.{Whole}
 use Rattle.records.proofs.Whole.{whole-procs}
 use Rattle.sound.proofs.Lookup.{free-frames}
@@ -27,15 +28,15 @@ module _ (c : tie.Else2) where
   start = c .before .before .before .before .before .before .before .before .before
 
   abbrev state : State
-  state = stateOf (now (start .args .frames)) (now (start .args .book)) (start .args .procs)
+  state = stateOf (start .args .setup) (now (start .args .frames)) (now (start .args .book)) (start .args .procs)
 
   forks : Forks state (start .args .number) (start .args .child)
   forks = fork-none state (start .args .number) (start .args .child) (sym (c .before .before .before .fork-ready .ensures .0) ∙ c .if2 .left)
 
   whole : Whole (start .args .procs)
-  whole = let g = start .good .1 .1 .0 .1 .1 .0 in whole-procs (start .args .procs) (g .0) (g .1 .1) (g .1 .0 .1)
+  whole = let g = start .good .1 .1 .1 .0 .1 .1 .0 in whole-procs (start .args .procs) (g .0) (g .1 .1) (g .1 .0 .1)
 
-  shape : (image : List UserSegment) × Shape (procAt (start .args .procs) (start .args .number)) image
+  shape : (image : List UserSegment) × Shape (start .args .setup) (procAt (start .args .procs) (start .args .number)) image
   shape = living-shape state (start .args .number) true whole (forks .passed) (forks .parent)
 
 -- the counts are the specification's
@@ -60,14 +61,14 @@ returns c =
     let a = c .before .before .before .before .before .before .before .before .args in
     let e = c .before .before .fork-ready in
     let v = c .before .is-number in
-    (torn (stateOf (now (a .frames)) (now (a .book)) (a .procs)) (a .number) (a .child) (a .alike) (e .result) (v .result) (e .ensures .0) (v .ensures) (c .if1 .taken), λ z. absurd (omega arith))
+    (torn (stateOf (a .setup) (now (a .frames)) (now (a .book)) (a .procs)) (a .number) (a .child) (a .alike) (e .result) (v .result) (e .ensures .0) (v .ensures) (c .if1 .taken), λ z. absurd (omega arith))
 
 returns-2 : tie.Need-returns-2
 returns-2 c =
     let a = c .before .before .before .before .before .before .before .before .before .args in
     let e = c .before .before .before .fork-ready in
     let v = c .before .before .is-number in
-    (first-number (stateOf (now (a .frames)) (now (a .book)) (a .procs)) (a .number) (a .child) (a .alike) (e .result) (v .result) (e .ensures .0) (v .ensures) (c .before .if1 .left) (c .if2 .taken), λ z. absurd (c .if2 .taken z))
+    (first-number (stateOf (a .setup) (now (a .frames)) (now (a .book)) (a .procs)) (a .number) (a .child) (a .alike) (e .result) (v .result) (e .ensures .0) (v .ensures) (c .before .if1 .left) (c .if2 .taken), λ z. absurd (c .if2 .taken z))
 
 proc-at-requires : tie.Need-proc-at-requires
 proc-at-requires c κs = forks c .passed .number
@@ -76,7 +77,7 @@ free-frames-requires : tie.Need-free-frames-requires
 free-frames-requires c κs = let f = c .before .before in omega (arith, free-frames _ _ _ _ (f .before .before .before .fork-ready .ensures .1 (f .if2 .left)))
 
 own-pages-requires : tie.Need-own-pages-requires
-own-pages-requires c κs = let b = shape (c .before .before .before) .1 in rw (c .before .before .proc-at .ensures) (omega (arith, b .bss-order, b .bss-end .1))
+own-pages-requires c κs = let f = c .before .before .before in let b = shape f .1 in rw (c .before .before .proc-at .ensures) (omega (arith, b .bss-order, b .bss-end .1, setup-means (start f .args .setup) (forks f .passed .setup)))
 
 returns-3 : tie.Need-returns-3
 returns-3 c =

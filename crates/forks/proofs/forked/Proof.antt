@@ -44,6 +44,7 @@ use Rattle.spec.specs.Book.{sameSegment, used, bssSegment, procAt}
 use Rattle.spec.specs.World.{setProc}
 use Rattle.spec.specs.declared.UserSegment.{UserSegment}
 use Rattle.spec.specs.declared.Procs.{Procs}
+use Rattle.spec.specs.declared.Setup.{Setup}
 use Rattle.spec.specs.declared.Answer.the-variants.{Done}
 use Rattle.spec.proofs.Procs as Ps
 use Rattle.spec.proofs.Procs.Laws as Ps′
@@ -98,7 +99,7 @@ Lists₆ = List ℕ × (List ℕ × (Unit {0} × (Unit {0} × (Unit {0} × (Unit
 module _ {M : Type 1} (𝓤 : URA M) (H : Heap 𝓤) (A : Atoms 𝓤) (W : Given 𝓤 H A) (at-mem : Memory → SProp 𝓤) (run : Routine → Fun 𝓤)
     (κ₀ κ₁ κ₂ : Lft) (q₀ q₁ q₂ : Share) (b₀ o₀ : ℕ) (γ₀ : GName) (frames : List ℕ) (b₁ o₁ : ℕ) (γ₁ : GName) (book : List ℕ) (procs : Procs) (parent : Parent) (child : ℕ) (b₂ o₂ : ℕ) (γ₂ : GName) (gs : List UserSegment)
     (room₀ : Room u8 (length frames)) (room₁ : Room u64 (length book)) (isPs : Is Recs procs (LL.vals Ps.the-type Ps′.the-laws procs)) (isPar : Is Par parent (LL.vals Pa.the-type Pa′.the-laws parent)) (fits-child : child < 2 ^ 64) (room₂ : Room R (length gs))
-    (none : forkError (stateOf frames book procs) (parent .number) child ≡ 0) (alike : same sameSegment gs (used (procAt procs (parent .number) .segments)) ≡ true) (ready : Ready book (parent .tags) (parent .bases) (parent .table)) where
+    (none : (setup : Setup) × (forkError (stateOf setup frames book procs) (parent .number) child ≡ 0)) (alike : same sameSegment gs (used (procAt procs (parent .number) .segments)) ≡ true) (ready : Ready book (parent .tags) (parent .bases) (parent .table)) where
   whole-records : Whole procs
   whole-records = let g = isPs .1 .1 .0 in whole-procs procs (g .0) (g .1 .1) (g .1 .0 .1)
 
@@ -290,7 +291,7 @@ module _ {M : Type 1} (𝓤 : URA M) (H : Heap 𝓤) (A : Atoms 𝓤) (W : Given
       walked 𝓤 H A all.ended stayed (all.clauses 𝓤 H A at-mem run) (WpFn 𝓤 H (𝓣 .C) (𝓣 .Λ) code.function)
       (λ κs. (slice-vals, (slice-vals, (LL.vals Ps.the-type Ps′.the-laws, (LL.vals Pa.the-type Pa′.the-laws, (uint-vals w64, (slice-vals, tt)))))))
       (λ κs. (mut-slice-tells (named 0) (κs .0) u8, (mut-slice-tells (named 1) (κs .1 .0) u64, (LL.tells Ps.the-type Ps′.the-laws, (LL.tells Pa.the-type Pa′.the-laws, (uint-tells w64, (shr-slice-tells (named 2) (κs .1 .1 .0) R, tt)))))))
-      (λ κs qs bounds a g are. needs 𝓤 ((forkError (stateOf (a .0 .now) (a .1 .0 .now) (a .1 .1 .0)) (a .1 .1 .1 .0 .number) (a .1 .1 .1 .1 .0) ≡ 0) × (same sameSegment (a .1 .1 .1 .1 .1 .0 .now) (used (procAt (a .1 .1 .0) (a .1 .1 .1 .0 .number) .segments)) ≡ true) × Ready (a .1 .0 .now) (a .1 .1 .1 .0 .tags) (a .1 .1 .1 .0 .bases) (a .1 .1 .1 .0 .table)) _ (λ pre.
+      (λ κs qs bounds a g are. needs 𝓤 (((setup : Setup) × (forkError (stateOf setup (a .0 .now) (a .1 .0 .now) (a .1 .1 .0)) (a .1 .1 .1 .0 .number) (a .1 .1 .1 .1 .0) ≡ 0)) × (same sameSegment (a .1 .1 .1 .1 .1 .0 .now) (used (procAt (a .1 .1 .0) (a .1 .1 .1 .0 .number) .segments)) ≡ true) × Ready (a .1 .0 .now) (a .1 .1 .1 .0 .tags) (a .1 .1 .1 .0 .bases) (a .1 .1 .1 .0 .table)) _ (λ pre.
       walk 𝓤 H A W at-mem run (κs .0) (κs .1 .0) (κs .1 .1 .0) (qs .0) (qs .1 .0) (qs .1 .1 .0) (a .0 .ptr .0) (a .0 .ptr .1) (a .0 .name) (a .0 .now) (a .1 .0 .ptr .0) (a .1 .0 .ptr .1) (a .1 .0 .name) (a .1 .0 .now) (a .1 .1 .0) (a .1 .1 .1 .0) (a .1 .1 .1 .1 .0)
       (a .1 .1 .1 .1 .1 .0 .ptr .0) (a .1 .1 .1 .1 .1 .0 .ptr .1) (a .1 .1 .1 .1 .1 .0 .name) (a .1 .1 .1 .1 .1 .0 .now) (are .0 .0 .1) (are .1 .0 .0 .1) (are .1 .1 .0) (are .1 .1 .1 .0) (are .1 .1 .1 .1 .0 .1) (are .1 .1 .1 .1 .1 .0 .0 .1) (pre .0) (pre .1) (pre .2)
       (𝓣 .C) (𝓣 .Λ) (fmOf 𝓤 H (W .laws) 𝓣) known-copy known-finish))

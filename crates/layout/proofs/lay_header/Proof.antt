@@ -18,12 +18,12 @@ lay-requires c κs =
     (g .end, g .file)
 
 returns : tie.Need-returns
-returns c = let a = c .before .before .before .before .args in sym (ap (fitOf (a .before)) (sym (c .before .before .segment-of .ensures) ∙ c .enum-told .given .1))
+returns c = let a = c .before .before .before .before .args in sym (ap (fitOf (a .setup) (a .before)) (sym (c .before .before .segment-of .ensures) ∙ c .enum-told .given .1))
 
 returns-2 : tie.Need-returns-2
 returns-2 c =
     let a = c .before .before .before .before .before .before .args in
-    c .lay .ensures ∙ sym (ap (fitOf (a .before)) (sym (c .before .before .before .before .segment-of .ensures) ∙ c .before .before .l .given .1))
+    c .lay .ensures ∙ sym (ap (fitOf (a .setup) (a .before)) (sym (c .before .before .before .before .segment-of .ensures) ∙ c .before .before .l .given .1))
 
 pub lay-header-spec : {M : Type 1} → statement M
 lay-header-spec =

@@ -7,6 +7,7 @@ use native.Mathlib.Omega.{arith}
 use denote.Ref.{now}
 use borrow.Author.Needs.{needs}
 use Rattle.spec.specs.Elf.{segmentsOf}
+use Rattle.spec.specs.declared.Setup.{Setup}
 use Rattle.elf.proofs.Walk.{segs}
 use Rattle.elf.proofs.Ahead.{Ahead, ahead-all, ahead-here, ahead-next, all-segs}
 use Rattle.checked.proofs.Indexed.{at-first, at-next}
@@ -18,19 +19,19 @@ use Rattle.layout.proofs.layout.Statement.{statement}
 use Rattle.layout.proofs.layout.Tie as tie
 
 -- with k headers left from a place on
-abbrev Left : List ℕ → Laid → ℕ → ℕ → Type 0
-Left image seen at k = Ahead image at k × (fits nothing (segmentsOf image) ≡ fits seen (segs image at k))
+abbrev Left : Setup → List ℕ → Laid → ℕ → ℕ → Type 0
+Left setup image seen at k = Ahead image at k × (fits setup nothing (segmentsOf image) ≡ fits setup seen (segs image at k))
 
 abbrev Inv-loop : tie.InvT-loop
-Inv-loop image h seen₀ n k₀ seen k = (n ≡ h .phnum) × (k ≤ h .phnum) × Left image seen (h .phoff + 56 * k) (h .phnum - k)
+Inv-loop setup image h seen₀ n k₀ seen k = (n ≡ h .phnum) × (k ≤ h .phnum) × Left setup image seen (h .phoff + 56 * k) (h .phnum - k)
 
 abbrev μ-loop : tie.MeasureT-loop
-μ-loop image h seen₀ n k₀ seen k = h .phnum - k
+μ-loop setup image h seen₀ n k₀ seen k = h .phnum - k
 
 loop-holds : tie.Need-loop-holds Inv-loop μ-loop
 loop-holds c =
     let a = c .before .args in
-    (refl, omega arith, at-first (Left (now (a .image)) nothing) (a .h .phoff) (a .h .phnum) (ahead-all (now (a .image)) (a .h) (c .before .pre), ap (fits nothing) (sym (all-segs (now (a .image)) (a .h) (c .before .pre)))))
+    (refl, omega arith, at-first (Left (a .setup) (now (a .image)) nothing) (a .h .phoff) (a .h .phnum) (ahead-all (now (a .image)) (a .h) (c .before .pre), ap (fits (a .setup) nothing) (sym (all-segs (now (a .image)) (a .h) (c .before .pre)))))
 
 lay-header-requires : tie.Need-lay-header-requires Inv-loop μ-loop
 lay-header-requires c κs =
@@ -43,12 +44,12 @@ lay-header-requires c κs =
 on : (c : tie.After-lay-header Inv-loop μ-loop) (f : Fit) → c .lay-header .result ≡ f
     → let a = c .before .before .before .before .args in
     let l = c .before .before .loop in
-    (0 < a .h .phnum - l .k) × (fits nothing (segmentsOf (now (a .image))) ≡ then f (segs (now (a .image)) (a .h .phoff + 56 * l .k + 56) (a .h .phnum - l .k - 1)))
+    (0 < a .h .phnum - l .k) × (fits (a .setup) nothing (segmentsOf (now (a .image))) ≡ then (a .setup) f (segs (now (a .image)) (a .h .phoff + 56 * l .k + 56) (a .h .phnum - l .k - 1)))
 on c f e =
     let a = c .before .before .before .before .args in
     let l = c .before .before .loop in
     let more : 0 < a .h .phnum - l .k = omega (arith, c .before .loop-test .taken, l .inv .0) in
-    (more, l .inv .2 .1 ∙ fits-some (now (a .image)) (a .h .phoff + 56 * l .k) (a .h .phnum - l .k) (l .seen) f more (l .inv .2 .0) (sym e ∙ c .lay-header .ensures))
+    (more, l .inv .2 .1 ∙ fits-some (a .setup) (now (a .image)) (a .h .phoff + 56 * l .k) (a .h .phnum - l .k) (l .seen) f more (l .inv .2 .0) (sym e ∙ c .lay-header .ensures))
 
 add-k : tie.Need-add-k Inv-loop μ-loop
 add-k c = omega (arith, c .before .before .loop .inv .2 .0 .room)
@@ -65,13 +66,13 @@ loop-again c =
     let a = c .before .before .before .before .before .before .before .args in
     let o = on (c .before .before .before) _ (c .before .f .given .1) in
     let more = o .0 in
-    (l .inv .0, omega (arith, more), at-next (Left (now (a .image)) (c .before .f .given .0 .0)) (a .h .phoff) (a .h .phnum) (l .k) (ahead-next _ (a .h .phoff + 56 * l .k) (a .h .phnum - l .k) more (l .inv .2 .0), o .1))
+    (l .inv .0, omega (arith, more), at-next (Left (a .setup) (now (a .image)) (c .before .f .given .0 .0)) (a .h .phoff) (a .h .phnum) (l .k) (ahead-next _ (a .h .phoff + 56 * l .k) (a .h .phnum - l .k) more (l .inv .2 .0), o .1))
 
 returns-2 : tie.Need-returns-2 Inv-loop μ-loop
 returns-2 c =
     let l = c .before .loop in
     let a = c .before .before .before .args in
-    sym (l .inv .2 .1 ∙ fits-end _ (a .h .phoff + 56 * l .k) (a .h .phnum - l .k) (l .seen) (omega (arith, c .loop-test .left, l .inv .0)))
+    sym (l .inv .2 .1 ∙ fits-end (a .setup) _ (a .h .phoff + 56 * l .k) (a .h .phnum - l .k) (l .seen) (omega (arith, c .loop-test .left, l .inv .0)))
 
 pub layout-spec : {M : Type 1} → statement M
 layout-spec = tie.close (tie.spec Inv-loop μ-loop loop-holds lay-header-requires add-k (λ c. search needs) returns (λ c. search needs) loop-less loop-again returns-2)

@@ -25,10 +25,10 @@ use Rattle.listed.proofs.fork_triples.Tie as tie
 
 module _ (c : tie.Start) where
   abbrev state : State
-  state = stateOf (now (c .args .frames)) (now (c .args .book)) (c .args .procs)
+  state = stateOf (c .args .setup) (now (c .args .frames)) (now (c .args .book)) (c .args .procs)
 
   records-whole : Whole (c .args .procs)
-  records-whole = let g = c .good .1 .1 .0 .1 .1 .0 in whole-procs (c .args .procs) (g .0) (g .1 .1) (g .1 .0 .1)
+  records-whole = let g = c .good .1 .1 .1 .0 .1 .1 .0 in whole-procs (c .args .procs) (g .0) (g .1 .1) (g .1 .0 .1)
 
 returns : tie.Need-returns
 returns c =
@@ -37,12 +37,13 @@ returns c =
     let l = c .before .before .before .before .before .before .before .segments in
     let d = c .before .before .before .before .lend in
     let a = start .args in
-    let Forks : List UserSegment → Type 0 = λ gs. Does (state start) (call (a .number) (fork (a .child) gs)) (stateOf (d .last .0) (d .last .1 .0) (d .result .procs)) (plainly (d .result .answer)) in
+    let after = stateOf (a .setup) (d .last .1 .0) (d .last .1 .1 .0) (d .result .procs) in
+    let Forks : List UserSegment → Type 0 = λ gs. Does (state start) (call (a .number) (fork (a .child) gs)) after (plainly (d .result .answer)) in
     split (ltb (n .result) 17)
     (λ q. subst Forks (whole (now (a .triples)) (n .result) (take (n .result) (l .result)) (n .ensures .2 (ltb-true (n .result) 17 q)) (l .ensures .1)) (d .ensures))
     (λ q.
     let e = length-take-le (n .result) (l .result) (omega (arith, n .ensures .0, l .ensures .0)) in
-    subst Forks (l .ensures .1) (longer (state start) (a .number) (a .child) (take (n .result) (l .result)) (listOf (drop (3 * n .result) (now (a .triples)))) (records-whole start) (omega (arith, e, n .ensures .0, ltb-false (n .result) 17 q)) (d .ensures)))
+    subst Forks (l .ensures .1) (longer (state start) (a .number) (a .child) (take (n .result) (l .result)) (listOf (drop (3 * n .result) (now (a .triples)))) (records-whole start) (omega (arith, e, n .ensures .0, ltb-false (n .result) 17 q)) {t = after} (d .ensures)))
 
 pub fork-triples-spec : {M : Type 1} → statement M
 fork-triples-spec =

@@ -46,15 +46,18 @@ use Rattle.spec.specs.Machine.{fork, plainly}
 use Rattle.spec.specs.World.{Does}
 use Rattle.spec.specs.declared.UserSegment.{UserSegment}
 use Rattle.spec.specs.declared.Procs.{Procs}
+use Rattle.spec.specs.declared.Setup.{Setup}
 use Rattle.spec.proofs.UserSegment as S
 use Rattle.spec.proofs.UserSegment.Laws as S′
 use Rattle.spec.proofs.Procs as Ps
 use Rattle.spec.proofs.Procs.Laws as Ps′
+use Rattle.spec.proofs.Setup as Se
+use Rattle.spec.proofs.Setup.Laws as Se′
 use Rattle.front.specs.Numbers.{stateOf, call}
 use Rattle.front.specs.declared.left.Left.{Left}
 use Rattle.front.proofs.left.Left as Lf
 use Rattle.front.proofs.left.Left.Laws as Lf′
-use Rattle.forks.proofs.Rows.{R, Recs, Res, word, slice₀, slice₁, ref₀, ref₁, lent₀, lent₁}
+use Rattle.forks.proofs.Rows.{Nums, R, Recs, Res, word, slice₀, slice₁, ref₀, ref₁, lent₀, lent₁}
 use Rattle.forks.proofs.Loans.{sliceAt, Owns, OwnsShared}
 use Rattle.forks.proofs.fork_list as inner
 use Rattle.forks.proofs.fork_list.Symbol as inner-def
@@ -84,7 +87,7 @@ abbrev shared₂ : Ty
 shared₂ = sliceTy (tyRef erased imm (pointee (R .written)))
 
 abbrev stayed : Stays (all.ended .signature .params) (all.ended .kept)
-stayed = (gave-slice (0 ∷ []) tt (plain (λ _. u8)), (gave-slice (1 ∷ []) tt (plain (λ _. u64)), (stay-none (λ _. Recs) yes, (stay-none (λ _. u64) yes, (stay-none (λ _. u64) yes, (stay-none (λ _. Rows) yes, (stay-none (λ _. usize) yes, tt)))))))
+stayed = (stay-none (λ _. Nums) yes, (gave-slice (0 ∷ []) tt (plain (λ _. u8)), (gave-slice (1 ∷ []) tt (plain (λ _. u64)), (stay-none (λ _. Recs) yes, (stay-none (λ _. u64) yes, (stay-none (λ _. u64) yes, (stay-none (λ _. Rows) yes, (stay-none (λ _. usize) yes, tt))))))))
 
 -- the contract that the proof cites
 abbrev Inner : {M : Type 1} (𝓤 : URA M) (H : Heap 𝓤) (A : Atoms 𝓤) (at-mem : Memory → SProp 𝓤) (run : Routine → Fun 𝓤) → Contract 𝓤
@@ -92,11 +95,11 @@ Inner 𝓤 H A at-mem run = tripleOf 𝓤 H A inner.signature (inner.spec 𝓤 H
 
 -- the last lists of frames and book that it leaves
 abbrev Lists : Type 0
-Lists = List ℕ × (List ℕ × (Unit {0} × (Unit {0} × (Unit {0} × (Unit {0} × Unit {0})))))
+Lists = Unit {0} × (List ℕ × (List ℕ × (Unit {0} × (Unit {0} × (Unit {0} × (Unit {0} × Unit {0}))))))
 
 module _ {M : Type 1} (𝓤 : URA M) (H : Heap 𝓤) (A : Atoms 𝓤) (W : Given 𝓤 H A) (at-mem : Memory → SProp 𝓤) (run : Routine → Fun 𝓤)
-    (κ₀ κ₁ : Lft) (q₀ q₁ : Share) (b₀ o₀ : ℕ) (γ₀ : GName) (frames : List ℕ) (b₁ o₁ : ℕ) (γ₁ : GName) (book : List ℕ) (procs : Procs) (number child : ℕ) (list : List UserSegment) (n : ℕ)
-    (room₀ : Room u8 (length frames)) (room₁ : Room u64 (length book)) (isPs : Is Recs procs (LL.vals Ps.the-type Ps′.the-laws procs)) (fits-number : number < 2 ^ 64) (fits-child : child < 2 ^ 64) (isL : Is Rows list (vals list)) (fits-n : n < 2 ^ 64) (within : n ≤ 17) where
+    (κ₀ κ₁ : Lft) (q₀ q₁ : Share) (setup : Setup) (b₀ o₀ : ℕ) (γ₀ : GName) (frames : List ℕ) (b₁ o₁ : ℕ) (γ₁ : GName) (book : List ℕ) (procs : Procs) (number child : ℕ) (list : List UserSegment) (n : ℕ)
+    (isSe : Is Nums setup (LL.vals Se.the-type Se′.the-laws setup)) (room₀ : Room u8 (length frames)) (room₁ : Room u64 (length book)) (isPs : Is Recs procs (LL.vals Ps.the-type Ps′.the-laws procs)) (fits-number : number < 2 ^ 64) (fits-child : child < 2 ^ 64) (isL : Is Rows list (vals list)) (fits-n : n < 2 ^ 64) (within : n ≤ 17) where
   -- the list lent, and its length
   abbrev gs : List UserSegment
   gs = take n list
@@ -111,6 +114,9 @@ module _ {M : Type 1} (𝓤 : URA M) (H : Heap 𝓤) (A : Atoms 𝓤) (W : Given
   room₂ = (omega (arith, many, within), omega (arith, many, within))
 
   -- machine values
+  abbrev mse : Val
+  mse = LL.val Se.the-type Se′.the-laws setup
+
   abbrev vf : Val
   vf = sliceVal (b₀, o₀) (length frames)
 
@@ -123,11 +129,11 @@ module _ {M : Type 1} (𝓤 : URA M) (H : Heap 𝓤) (A : Atoms 𝓤) (W : Given
   abbrev vl : Val
   vl = only (vals list)
 
-  abbrev a : RefT (List ℕ) × (RefT (List ℕ) × (Procs × (ℕ × (ℕ × (List UserSegment × (ℕ × Unit {0}))))))
-  a = (sliceAt u8 b₀ o₀ γ₀ frames, (sliceAt u64 b₁ o₁ γ₁ book, (procs, (number, (child, (list, (n, tt)))))))
+  abbrev a : Setup × (RefT (List ℕ) × (RefT (List ℕ) × (Procs × (ℕ × (ℕ × (List UserSegment × (ℕ × Unit {0})))))))
+  a = (setup, (sliceAt u8 b₀ o₀ γ₀ frames, (sliceAt u64 b₁ o₁ γ₁ book, (procs, (number, (child, (list, (n, tt))))))))
 
   abbrev at : Vals all.signature (κ₀, (κ₁, tt))
-  at = (vf ∷ [], (vb ∷ [], (mps ∷ [], (vint w64 number ∷ [], (vint w64 child ∷ [], (vl ∷ [], (vint w64 n ∷ [], tt)))))))
+  at = (mse ∷ [], (vf ∷ [], (vb ∷ [], (mps ∷ [], (vint w64 number ∷ [], (vint w64 child ∷ [], (vl ∷ [], (vint w64 n ∷ [], tt))))))))
 
   abbrev bound : walkOf 𝓤 H A all.ended stayed (all.clauses 𝓤 H A at-mem run) .Ghost
   bound = (((κ₀, (κ₁, tt)), (q₀, (q₁, tt)), tt, a, at), tt)
@@ -144,33 +150,33 @@ module _ {M : Type 1} (𝓤 : URA M) (H : Heap 𝓤) (A : Atoms 𝓤) (W : Given
 
   -- what the call ensures, at last lists ws
   abbrev Ended : Lists → Left → Type 0
-  Ended ws r = Does (stateOf frames book procs) (call number (fork child gs)) (stateOf (ws .0) (ws .1 .0) (r .procs)) (plainly (r .answer))
+  Ended ws r = Does (stateOf setup frames book procs) (call number (fork child gs)) (stateOf setup (ws .1 .0) (ws .1 .1 .0) (r .procs)) (plainly (r .answer))
 
-  exits : (ws : Lists) (r : Left) (u : Val) → length (ws .0) ≡ length frames → length (ws .1 .0) ≡ length book → Ended ws r
-      → ent 𝓤 (⋆ 𝓤 H A (‵ (Res .own r (u ∷ [])) ∷ ‵ (flft κ₀ q₀) ∷ ‵ (flft κ₁ q₁) ∷ ‵ (finally u64 γ₁ (ws .1 .0)) ∷ ‵ (finally u8 γ₀ (ws .0)) ∷ [])) (Post u)
+  exits : (ws : Lists) (r : Left) (u : Val) → length (ws .1 .0) ≡ length frames → length (ws .1 .1 .0) ≡ length book → Ended ws r
+      → ent 𝓤 (⋆ 𝓤 H A (‵ (Res .own r (u ∷ [])) ∷ ‵ (flft κ₀ q₀) ∷ ‵ (flft κ₁ q₁) ∷ ‵ (finally u64 γ₁ (ws .1 .1 .0)) ∷ ‵ (finally u8 γ₀ (ws .1 .0)) ∷ [])) (Post u)
   exits ws r u e₀ e₁ h =
-      qed W (‵ (Res .own r (u ∷ [])) ∷ ‵ (flft κ₀ q₀) ∷ ‵ (flft κ₁ q₁) ∷ ‵ (finally u64 γ₁ (ws .1 .0)) ∷ ‵ (finally u8 γ₀ (ws .0)) ∷ []) ∵
-      suffices ! _ (ends-at 𝓤 H A all.ended stayed (all.clauses 𝓤 H A at-mem run) W bound u r (ws .0, (ws .1 .0, (tt, (tt, (tt, (tt, (tt, tt))))))) (e₀, (e₁, (tt, (tt, (tt, (tt, (tt, tt)))))))) $ says ! h $
+      qed W (‵ (Res .own r (u ∷ [])) ∷ ‵ (flft κ₀ q₀) ∷ ‵ (flft κ₁ q₁) ∷ ‵ (finally u64 γ₁ (ws .1 .1 .0)) ∷ ‵ (finally u8 γ₀ (ws .1 .0)) ∷ []) ∵
+      suffices ! _ (ends-at 𝓤 H A all.ended stayed (all.clauses 𝓤 H A at-mem run) W bound u r (tt, (ws .1 .0, (ws .1 .1 .0, (tt, (tt, (tt, (tt, (tt, tt)))))))) (tt, (e₀, (e₁, (tt, (tt, (tt, (tt, (tt, tt))))))))) $ says ! h $
       -- the tokens
       nothing ! $ move ! (3 ∷ 0 ∷ []) $ join ! $ move ! (2 ∷ 0 ∷ []) $ join ! $ frame ! $
       -- [the result; book's last list; frames' last list]
       nothing ! $ owned ! usize (Is usize) (uint-makes 𝓤 H A W w64) n _ (refl, fits-n) $ fjoin ! $ owned ! Rows (Is Rows) (array-makes 𝓤 H A W R (LL.makes S.the-type S′.the-plain 𝓤 H A) 17) list (vl ∷ []) isL $ fjoin ! $
       owned ! u64 (Is u64) (uint-makes 𝓤 H A W w64) child _ (refl, fits-child) $ fjoin ! $ owned ! u64 (Is u64) (uint-makes 𝓤 H A W w64) number _ (refl, fits-number) $ fjoin ! $
-      owned ! Recs (Is Recs) (LL.makes Ps.the-type Ps′.the-plain 𝓤 H A) procs (mps ∷ []) isPs $ fjoin ! $ move ! (2 ∷ 0 ∷ []) $ fjoin ! $ move ! (2 ∷ 0 ∷ []) $ fjoin ! $ done !
+      owned ! Recs (Is Recs) (LL.makes Ps.the-type Ps′.the-plain 𝓤 H A) procs (mps ∷ []) isPs $ fjoin ! $ move ! (2 ∷ 0 ∷ []) $ fjoin ! $ move ! (2 ∷ 0 ∷ []) $ fjoin ! $ owned ! Nums (Is Nums) (LL.makes Se.the-type Se′.the-plain 𝓤 H A) setup (mse ∷ []) isSe $ fjoin ! $ done !
 
-  -- ---- the call: the first n segments of the array at l₈ are lent for ν under the name δ
-  module _ (l₈ : ℕ) (ν : ℕ) (δ : GName) where
+  -- ---- the call: the first n segments of the array at l₉ are lent for ν under the name δ
+  module _ (l₉ : ℕ) (ν : ℕ) (δ : GName) where
     abbrev vs : Val
-    vs = sliceVal (l₈, 0) (length gs)
+    vs = sliceVal (l₉, 0) (length gs)
 
     abbrev OwnS : Fml
-    OwnS = OwnsShared R (named 2) (ν ∷ []) l₈ 0 δ gs
+    OwnS = OwnsShared R (named 2) (ν ∷ []) l₉ 0 δ gs
 
-    abbrev given : RefT (List ℕ) × (RefT (List ℕ) × (Procs × (ℕ × (ℕ × (RefT (List UserSegment) × Unit {0})))))
-    given = (sliceAt u8 b₀ o₀ γ₀ frames, (sliceAt u64 b₁ o₁ γ₁ book, (procs, (number, (child, (sliceAt R l₈ 0 δ gs, tt))))))
+    abbrev given : Setup × (RefT (List ℕ) × (RefT (List ℕ) × (Procs × (ℕ × (ℕ × (RefT (List UserSegment) × Unit {0}))))))
+    given = (setup, (sliceAt u8 b₀ o₀ γ₀ frames, (sliceAt u64 b₁ o₁ γ₁ book, (procs, (number, (child, (sliceAt R l₉ 0 δ gs, tt)))))))
 
     abbrev to-inner : Inner 𝓤 H A at-mem run .Ghost
-    to-inner = (((κ₀, (κ₁, (ν ∷ [], tt))), (q₀, (q₁, (fullShare, tt))), tt, given, (vf ∷ [], (vb ∷ [], (mps ∷ [], (vint w64 number ∷ [], (vint w64 child ∷ [], (vs ∷ [], tt))))))), tt)
+    to-inner = (((κ₀, (κ₁, (ν ∷ [], tt))), (q₀, (q₁, (fullShare, tt))), tt, given, (mse ∷ [], (vf ∷ [], (vb ∷ [], (mps ∷ [], (vint w64 number ∷ [], (vint w64 child ∷ [], (vs ∷ [], tt)))))))), tt)
 
     asks : ent 𝓤 (⋆ 𝓤 H A (‵ (flft κ₀ q₀) ∷ ‵ OwnF ∷ ‵ (flft κ₁ q₁) ∷ ‵ OwnB ∷ ‵ (flft (ν ∷ []) fullShare) ∷ ‵ OwnS ∷ [])) (Inner 𝓤 H A at-mem run .pre to-inner)
     asks =
@@ -178,19 +184,19 @@ module _ {M : Type 1} (𝓤 : URA M) (H : Heap 𝓤) (A : Atoms 𝓤) (W : Given
         nothing ! $ move ! (5 ∷ 0 ∷ []) $ join ! $ move ! (3 ∷ 0 ∷ []) $ join ! $ move ! (1 ∷ 0 ∷ []) $ join ! $
         -- [the tokens; frames; book; the list]
         nothing ! $ move ! (4 ∷ 0 ∷ []) $ fjoin ! $ owned ! u64 (Is u64) (uint-makes 𝓤 H A W w64) child _ (refl, fits-child) $ fjoin ! $ owned ! u64 (Is u64) (uint-makes 𝓤 H A W w64) number _ (refl, fits-number) $ fjoin ! $
-        owned ! Recs (Is Recs) (LL.makes Ps.the-type Ps′.the-plain 𝓤 H A) procs (mps ∷ []) isPs $ fjoin ! $ move ! (3 ∷ 0 ∷ []) $ fjoin ! $ move ! (2 ∷ 0 ∷ []) $ fjoin ! $ move ! (1 ∷ 0 ∷ []) $ join ! $ frame ! $ done !
+        owned ! Recs (Is Recs) (LL.makes Ps.the-type Ps′.the-plain 𝓤 H A) procs (mps ∷ []) isPs $ fjoin ! $ move ! (3 ∷ 0 ∷ []) $ fjoin ! $ move ! (2 ∷ 0 ∷ []) $ fjoin ! $ owned ! Nums (Is Nums) (LL.makes Se.the-type Se′.the-plain 𝓤 H A) setup (mse ∷ []) isSe $ fjoin ! $ move ! (1 ∷ 0 ∷ []) $ join ! $ frame ! $ done !
 
   module _ (C : Calls 𝓤 H) (Λ : Loops 𝓤 H) (fm : FmC 𝓤 H (W .laws) C) (known : Triple 𝓤 (C #fork-list) (Inner 𝓤 H A at-mem run)) where
-    module _ (l₀ l₁ l₂ l₃ l₄ l₅ l₆ l₇ l₈ l₉ l₁₀ l₁₁ l₁₂ l₁₃ l₁₄ : ℕ) where
+    module _ (l₀ l₁ l₂ l₃ l₄ l₅ l₆ l₇ l₈ l₉ l₁₀ l₁₁ l₁₂ l₁₃ l₁₄ l₁₅ : ℕ) where
       abbrev E : Env 𝓤 H
-      E = (Lf′.mir, l₀) ∷ (slice₀, l₁) ∷ (slice₁, l₂) ∷ (Ps′.mir, l₃) ∷ (word, l₄) ∷ (word, l₅) ∷ (array, l₆) ∷ (word, l₇) ∷ (array, l₈) ∷ (ref₀, l₉) ∷ (lent₀, l₁₀) ∷ (ref₁, l₁₁) ∷ (lent₁, l₁₂) ∷ (ref₂, l₁₃) ∷ (shared₂, l₁₄) ∷ []
+      E = (Lf′.mir, l₀) ∷ (Se′.mir, l₁) ∷ (slice₀, l₂) ∷ (slice₁, l₃) ∷ (Ps′.mir, l₄) ∷ (word, l₅) ∷ (word, l₆) ∷ (array, l₇) ∷ (word, l₈) ∷ (array, l₉) ∷ (ref₀, l₁₀) ∷ (lent₀, l₁₁) ∷ (ref₁, l₁₂) ∷ (lent₁, l₁₃) ∷ (ref₂, l₁₄) ∷ (shared₂, l₁₅) ∷ []
 
       -- the parameters are stored
       abbrev Stored : List (Item 𝓤)
-      Stored = ‵ (froom shared₂ l₁₄ 0) ∷ ‵ (fdies shared₂ l₁₄) ∷ ‵ (froom ref₂ l₁₃ 0) ∷ ‵ (fdies ref₂ l₁₃) ∷ ‵ (froom lent₁ l₁₂ 0) ∷ ‵ (fdies lent₁ l₁₂) ∷ ‵ (froom ref₁ l₁₁ 0) ∷ ‵ (fdies ref₁ l₁₁)
-          ∷ ‵ (froom lent₀ l₁₀ 0) ∷ ‵ (fdies lent₀ l₁₀) ∷ ‵ (froom ref₀ l₉ 0) ∷ ‵ (fdies ref₀ l₉) ∷ ‵ (froom array l₈ 0) ∷ ‵ (fdies array l₈) ∷ ‵ (fat fullShare word l₇ 0 (vint w64 n)) ∷ ‵ (fdies word l₇)
-          ∷ ‵ (fat fullShare array l₆ 0 vl) ∷ ‵ (fdies array l₆) ∷ ‵ (fat fullShare word l₅ 0 (vint w64 child)) ∷ ‵ (fdies word l₅) ∷ ‵ (fat fullShare word l₄ 0 (vint w64 number)) ∷ ‵ (fdies word l₄)
-          ∷ ‵ (fat fullShare Ps′.mir l₃ 0 mps) ∷ ‵ (fdies Ps′.mir l₃) ∷ ‵ (fat fullShare slice₁ l₂ 0 vb) ∷ ‵ (fdies slice₁ l₂) ∷ ‵ (fat fullShare slice₀ l₁ 0 vf) ∷ ‵ (fdies slice₀ l₁) ∷ ‵ (froom Lf′.mir l₀ 0) ∷ ‵ (fdies Lf′.mir l₀)
+      Stored = ‵ (froom shared₂ l₁₅ 0) ∷ ‵ (fdies shared₂ l₁₅) ∷ ‵ (froom ref₂ l₁₄ 0) ∷ ‵ (fdies ref₂ l₁₄) ∷ ‵ (froom lent₁ l₁₃ 0) ∷ ‵ (fdies lent₁ l₁₃) ∷ ‵ (froom ref₁ l₁₂ 0) ∷ ‵ (fdies ref₁ l₁₂)
+          ∷ ‵ (froom lent₀ l₁₁ 0) ∷ ‵ (fdies lent₀ l₁₁) ∷ ‵ (froom ref₀ l₁₀ 0) ∷ ‵ (fdies ref₀ l₁₀) ∷ ‵ (froom array l₉ 0) ∷ ‵ (fdies array l₉) ∷ ‵ (fat fullShare word l₈ 0 (vint w64 n)) ∷ ‵ (fdies word l₈)
+          ∷ ‵ (fat fullShare array l₇ 0 vl) ∷ ‵ (fdies array l₇) ∷ ‵ (fat fullShare word l₆ 0 (vint w64 child)) ∷ ‵ (fdies word l₆) ∷ ‵ (fat fullShare word l₅ 0 (vint w64 number)) ∷ ‵ (fdies word l₅)
+          ∷ ‵ (fat fullShare Ps′.mir l₄ 0 mps) ∷ ‵ (fdies Ps′.mir l₄) ∷ ‵ (fat fullShare slice₁ l₃ 0 vb) ∷ ‵ (fdies slice₁ l₃) ∷ ‵ (fat fullShare slice₀ l₂ 0 vf) ∷ ‵ (fdies slice₀ l₂) ∷ ‵ (fat fullShare Se′.mir l₁ 0 mse) ∷ ‵ (fdies Se′.mir l₁) ∷ ‵ (froom Lf′.mir l₀ 0) ∷ ‵ (fdies Lf′.mir l₀)
           ∷ raw (onEntry 𝓤 H A all.signature (κ₀, (κ₁, tt)) (q₀, (q₁, tt)) a at) ∷ []
 
       starts : Sq W Stored (runs C Λ E mir.t-1 (atRet E Post))
@@ -202,52 +208,52 @@ module _ {M : Type 1} (𝓤 : URA M) (H : Heap 𝓤) (A : Atoms 𝓤) (W : Given
           assigns ! (agg ! (and-then ! (load ! (from ! (stop !)) (look ! 6 refl)) (and-then ! (load ! (from ! (fld ! refl (stop !))) (look-in ! 24 (sub ! 1 refl (whole !)))) (no-more !)))) (from ! (stop !)) (init ! 4 refl (tt, (tt, (record { fits = room₁ .0 }, tt)))) $
           assigns ! (addr ! (from ! (stop !))) (from ! (stop !)) (init ! 2 refl (tt, tt)) $
           assigns ! (agg ! (and-then ! (load ! (from ! (stop !)) (look ! 2 refl)) (and-then ! (load ! (from ! (stop !)) (look ! 14 refl)) (no-more !)))) (from ! (stop !)) (init ! 0 refl (tt, (tt, (record { fits = fits-n }, tt)))) $
-          move ! (30 ∷ []) $ use1 W ((‵ (flft κ₀ q₀) ⊛ ‵ (flft κ₁ q₁) ⊛ ‵ ftrue) ⊛ ‵ (owns (MutSlice (named 0) κ₀ u8 ∷ MutSlice (named 1) κ₁ u64 ∷ Recs ∷ u64 ∷ u64 ∷ Rows ∷ usize ∷ []) a at)) (id⊢ 𝓤 _) $
+          move ! (32 ∷ []) $ use1 W ((‵ (flft κ₀ q₀) ⊛ ‵ (flft κ₁ q₁) ⊛ ‵ ftrue) ⊛ ‵ (owns (Nums ∷ MutSlice (named 0) κ₀ u8 ∷ MutSlice (named 1) κ₁ u64 ∷ Recs ∷ u64 ∷ u64 ∷ Rows ∷ usize ∷ []) a at)) (id⊢ 𝓤 _) $
           split ! $ split ! $ move ! (1 ∷ []) $ split ! $ move ! (1 ∷ []) $ drop ! $
-          -- [κ₁'s token; κ₀'s; what is owned; _14; …]
-          move ! (2 ∷ []) $ fsplit ! $ move ! (1 ∷ []) $ fsplit ! $ move ! (1 ∷ []) $ fsplit ! $ drop ! $ fsplit ! $ drop ! $ fsplit ! $ drop ! $ fsplit ! $ move ! (1 ∷ []) $ drop ! $
-          -- [the array; book; frames; κ₁'s token; κ₀'s; _14; …]
-          move ! (17 ∷ 0 ∷ []) $ lend-front R 17 list n l₈ ! tt (named 2) tt room₂ vl (λ ν δ.
-          -- [ν's token; the list; what is kept; book; frames; κ₁'s token; κ₀'s; _14; …]
-          rewrite ! 7 (λ (m : ℕ). ‵ (fat fullShare shared₂ l₁₄ 0 (sliceVal (l₈, 0) m))) (sym many) refl $ move ! (6 ∷ 4 ∷ 5 ∷ 3 ∷ 0 ∷ 1 ∷ []) $
-          group ! 6 $ use1 W (raw (Inner 𝓤 H A at-mem run .pre (to-inner l₈ ν δ))) (asks l₈ ν δ) $
-          calls-at ! fm (Inner 𝓤 H A at-mem run) known (to-inner l₈ ν δ) (and-then ! (load ! (from ! (stop !)) (look ! 10 refl)) (and-then ! (load ! (from ! (stop !)) (look ! 6 refl)) (and-then ! (load ! (from ! (stop !)) (look ! 23 refl)) (and-then ! (load ! (from ! (stop !)) (look ! 21 refl)) (and-then ! (load ! (from ! (stop !)) (look ! 19 refl)) (and-then ! (load ! (from ! (stop !)) (look ! 2 refl)) (no-more !))))))) (λ u.
-          use1 W (later (some (λ (r : Left). ((‵ (flft κ₀ q₀) ⊛ (‵ (flft κ₁ q₁) ⊛ (‵ (flft (ν ∷ []) fullShare) ⊛ ‵ ftrue))) ⊛ ‵ (Res .own r (u ∷ []))) ⊛ raw (ensured 𝓤 H A inner.ended (inner.clauses 𝓤 H A at-mem run) (κ₀, (κ₁, (ν ∷ [], tt))) (given l₈ ν δ) tt r)))) (id⊢ 𝓤 _) $ await ! tt $ pick ! (λ r.
-          split ! $ move ! (1 ∷ []) $ use1 W (some (λ (ws : Lists). ‵ (lasts inner.ended (κ₀, (κ₁, (ν ∷ [], tt))) (given l₈ ν δ) ws) ⊛ raw (fact 𝓤 (Ended ws r)))) (id⊢ 𝓤 _) $ pick ! (λ ws.
+          -- [κ₁'s token; κ₀'s; what is owned; _15; …]
+          move ! (2 ∷ []) $ fsplit ! $ drop ! $ fsplit ! $ move ! (1 ∷ []) $ fsplit ! $ move ! (1 ∷ []) $ fsplit ! $ drop ! $ fsplit ! $ drop ! $ fsplit ! $ drop ! $ fsplit ! $ move ! (1 ∷ []) $ drop ! $
+          -- [the array; book; frames; κ₁'s token; κ₀'s; _15; …]
+          move ! (17 ∷ 0 ∷ []) $ lend-front R 17 list n l₉ ! tt (named 2) tt room₂ vl (λ ν δ.
+          -- [ν's token; the list; what is kept; book; frames; κ₁'s token; κ₀'s; _15; …]
+          rewrite ! 7 (λ (m : ℕ). ‵ (fat fullShare shared₂ l₁₅ 0 (sliceVal (l₉, 0) m))) (sym many) refl $ move ! (6 ∷ 4 ∷ 5 ∷ 3 ∷ 0 ∷ 1 ∷ []) $
+          group ! 6 $ use1 W (raw (Inner 𝓤 H A at-mem run .pre (to-inner l₉ ν δ))) (asks l₉ ν δ) $
+          calls-at ! fm (Inner 𝓤 H A at-mem run) known (to-inner l₉ ν δ) (and-then ! (load ! (from ! (stop !)) (look ! 29 refl)) (and-then ! (load ! (from ! (stop !)) (look ! 10 refl)) (and-then ! (load ! (from ! (stop !)) (look ! 6 refl)) (and-then ! (load ! (from ! (stop !)) (look ! 23 refl)) (and-then ! (load ! (from ! (stop !)) (look ! 21 refl)) (and-then ! (load ! (from ! (stop !)) (look ! 19 refl)) (and-then ! (load ! (from ! (stop !)) (look ! 2 refl)) (no-more !)))))))) (λ u.
+          use1 W (later (some (λ (r : Left). ((‵ (flft κ₀ q₀) ⊛ (‵ (flft κ₁ q₁) ⊛ (‵ (flft (ν ∷ []) fullShare) ⊛ ‵ ftrue))) ⊛ ‵ (Res .own r (u ∷ []))) ⊛ raw (ensured 𝓤 H A inner.ended (inner.clauses 𝓤 H A at-mem run) (κ₀, (κ₁, (ν ∷ [], tt))) (given l₉ ν δ) tt r)))) (id⊢ 𝓤 _) $ await ! tt $ pick ! (λ r.
+          split ! $ move ! (1 ∷ []) $ use1 W (some (λ (ws : Lists). ‵ (lasts inner.ended (κ₀, (κ₁, (ν ∷ [], tt))) (given l₉ ν δ) ws) ⊛ raw (fact 𝓤 (Ended ws r)))) (id⊢ 𝓤 _) $ pick ! (λ ws.
           split ! $ move ! (1 ∷ []) $ heard ! (Ended ws r) (λ h.
-          fsplit ! $ fsplit ! $ move ! (1 ∷ []) $ feqL ! (λ e₀. move ! (1 ∷ []) $ fsplit ! $ fsplit ! $ move ! (1 ∷ []) $ feqL ! (λ e₁.
+          fsplit ! $ drop ! $ fsplit ! $ fsplit ! $ move ! (1 ∷ []) $ feqL ! (λ e₀. move ! (1 ∷ []) $ fsplit ! $ fsplit ! $ move ! (1 ∷ []) $ feqL ! (λ e₁.
           move ! (3 ∷ []) $ split ! $ move ! (1 ∷ []) $ peeks ! Res (Is Res) (shows 𝓤 H A Res) r (u ∷ []) (λ is.
-          -- [the result; the tokens; book's last list; …; frames' last list; what is kept; _14; …]: the array comes back
-          move ! (1 ∷ []) $ split ! $ move ! (1 ∷ []) $ split ! $ move ! (1 ∷ []) $ split ! $ move ! (0 ∷ 8 ∷ []) $ front-home R 17 list n l₈ ! tt ν long (λ us.
-          -- [_8; …; κ₁'s token; κ₀'s; the result; book's last list; …; frames' last list; _14; …]
-          land ! (from ! (stop !)) (init ! 35 refl (LL.lawful Lf.the-type Lf′.the-laws 𝓤 H A W .typed r _ is .0)) $ returns ! (look ! 35 refl) $
-          forget ! 0 refl $ forget ! 8 refl $ forget ! 10 refl $ forget ! 12 refl $ forget ! 14 refl $ forget ! 16 refl $ forget ! 18 refl $ forget ! 21 refl $ forget ! 23 refl $ forget ! 25 refl $ forget ! 27 refl $ forget ! 29 refl $ forget ! 31 refl $ forget ! 33 refl $ forget ! 35 refl $
-          move ! (35 ∷ 36 ∷ []) $ free1 ! $ move ! (33 ∷ 34 ∷ []) $ free1 ! $ move ! (31 ∷ 32 ∷ []) $ free1 ! $ move ! (29 ∷ 30 ∷ []) $ free1 ! $ move ! (27 ∷ 28 ∷ []) $ free1 ! $ move ! (25 ∷ 26 ∷ []) $ free1 ! $ move ! (23 ∷ 24 ∷ []) $ free1 ! $ move ! (21 ∷ 22 ∷ []) $ free1 ! $ move ! (0 ∷ 20 ∷ []) $ free1 ! $
+          -- [the result; the tokens; book's last list; …; frames' last list; what is kept; _15; …]: the array comes back
+          move ! (1 ∷ []) $ split ! $ move ! (1 ∷ []) $ split ! $ move ! (1 ∷ []) $ split ! $ move ! (0 ∷ 8 ∷ []) $ front-home R 17 list n l₉ ! tt ν long (λ us.
+          -- [_9; …; κ₁'s token; κ₀'s; the result; book's last list; …; frames' last list; _15; …]
+          land ! (from ! (stop !)) (init ! 37 refl (LL.lawful Lf.the-type Lf′.the-laws 𝓤 H A W .typed r _ is .0)) $ returns ! (look ! 37 refl) $
+          forget ! 0 refl $ forget ! 8 refl $ forget ! 10 refl $ forget ! 12 refl $ forget ! 14 refl $ forget ! 16 refl $ forget ! 18 refl $ forget ! 21 refl $ forget ! 23 refl $ forget ! 25 refl $ forget ! 27 refl $ forget ! 29 refl $ forget ! 31 refl $ forget ! 33 refl $ forget ! 35 refl $ forget ! 37 refl $
+          move ! (37 ∷ 38 ∷ []) $ free1 ! $ move ! (35 ∷ 36 ∷ []) $ free1 ! $ move ! (33 ∷ 34 ∷ []) $ free1 ! $ move ! (31 ∷ 32 ∷ []) $ free1 ! $ move ! (29 ∷ 30 ∷ []) $ free1 ! $ move ! (27 ∷ 28 ∷ []) $ free1 ! $ move ! (25 ∷ 26 ∷ []) $ free1 ! $ move ! (23 ∷ 24 ∷ []) $ free1 ! $ move ! (21 ∷ 22 ∷ []) $ free1 ! $ move ! (0 ∷ 20 ∷ []) $ free1 ! $
           move ! (17 ∷ 18 ∷ []) $ free1 ! $ move ! (15 ∷ 16 ∷ []) $ free1 ! $ move ! (13 ∷ 14 ∷ []) $ free1 ! $ move ! (11 ∷ 12 ∷ []) $ free1 ! $ move ! (9 ∷ 10 ∷ []) $ free1 ! $ move ! (7 ∷ 8 ∷ []) $ free1 ! $ free0 ! $
           keep ! (3 ∷ 2 ∷ 1 ∷ 4 ∷ 6 ∷ []) $ by ! (exits ws r u e₀ e₁ h))))))))))
 
-    walk : ent 𝓤 (onEntry 𝓤 H A all.signature (κ₀, (κ₁, tt)) (q₀, (q₁, tt)) a at) (WpFn 𝓤 H C Λ code.function (vf ∷ vb ∷ mps ∷ vint w64 number ∷ vint w64 child ∷ vl ∷ vint w64 n ∷ []) Post)
+    walk : ent 𝓤 (onEntry 𝓤 H A all.signature (κ₀, (κ₁, tt)) (q₀, (q₁, tt)) a at) (WpFn 𝓤 H C Λ code.function (mse ∷ vf ∷ vb ∷ mps ∷ vint w64 number ∷ vint w64 child ∷ vl ∷ vint w64 n ∷ []) Post)
     walk =
-        qed W (raw (onEntry 𝓤 H A all.signature (κ₀, (κ₁, tt)) (q₀, (q₁, tt)) a at) ∷ []) ∵ enter ! C Λ code.function (vf ∷ vb ∷ mps ∷ vint w64 number ∷ vint w64 child ∷ vl ∷ vint w64 n ∷ []) _ $
-        alloc1 ! (λ l₀. alloc1 ! (λ l₁. alloc1 ! (λ l₂. alloc1 ! (λ l₃. alloc1 ! (λ l₄. alloc1 ! (λ l₅. alloc1 ! (λ l₆. alloc1 ! (λ l₇. alloc1 ! (λ l₈. alloc1 ! (λ l₉. alloc1 ! (λ l₁₀. alloc1 ! (λ l₁₁. alloc1 ! (λ l₁₂. alloc1 ! (λ l₁₃. alloc1 ! (λ l₁₄. alloc0 ! $ params1 ! $
-        pass1 ! (init ! 26 refl (tt, (tt, (record { fits = room₀ .0 }, tt)))) $ pass1 ! (init ! 24 refl (tt, (tt, (record { fits = room₁ .0 }, tt)))) $ pass1 ! (init ! 22 refl (LL.lawful Ps.the-type Ps′.the-laws 𝓤 H A W .typed procs _ isPs .0)) $
+        qed W (raw (onEntry 𝓤 H A all.signature (κ₀, (κ₁, tt)) (q₀, (q₁, tt)) a at) ∷ []) ∵ enter ! C Λ code.function (mse ∷ vf ∷ vb ∷ mps ∷ vint w64 number ∷ vint w64 child ∷ vl ∷ vint w64 n ∷ []) _ $
+        alloc1 ! (λ l₀. alloc1 ! (λ l₁. alloc1 ! (λ l₂. alloc1 ! (λ l₃. alloc1 ! (λ l₄. alloc1 ! (λ l₅. alloc1 ! (λ l₆. alloc1 ! (λ l₇. alloc1 ! (λ l₈. alloc1 ! (λ l₉. alloc1 ! (λ l₁₀. alloc1 ! (λ l₁₁. alloc1 ! (λ l₁₂. alloc1 ! (λ l₁₃. alloc1 ! (λ l₁₄. alloc1 ! (λ l₁₅. alloc0 ! $ params1 ! $
+        pass1 ! (init ! 28 refl (LL.lawful Se.the-type Se′.the-laws 𝓤 H A W .typed setup _ isSe .0)) $ pass1 ! (init ! 26 refl (tt, (tt, (record { fits = room₀ .0 }, tt)))) $ pass1 ! (init ! 24 refl (tt, (tt, (record { fits = room₁ .0 }, tt)))) $ pass1 ! (init ! 22 refl (LL.lawful Ps.the-type Ps′.the-laws 𝓤 H A W .typed procs _ isPs .0)) $
         pass1 ! (init ! 20 refl (tt, record { fits = fits-number })) $ pass1 ! (init ! 18 refl (tt, record { fits = fits-child })) $ pass1 ! (init ! 16 refl (array-lawful 𝓤 H A W R (LL.lawful S.the-type S′.the-laws 𝓤 H A W) 17 .typed list _ isL .0)) $ pass1 ! (init ! 14 refl (tt, record { fits = fits-n })) $ pass0 ! $
-        starts l₀ l₁ l₂ l₃ l₄ l₅ l₆ l₇ l₈ l₉ l₁₀ l₁₁ l₁₂ l₁₃ l₁₄)))))))))))))))
+        starts l₀ l₁ l₂ l₃ l₄ l₅ l₆ l₇ l₈ l₉ l₁₀ l₁₁ l₁₂ l₁₃ l₁₄ l₁₅))))))))))))))))
 
 module _ {M : Type 1} (𝓤 : URA M) (H : Heap 𝓤) (A : Atoms 𝓤) (W : Given 𝓤 H A) (at-mem : Memory → SProp 𝓤) (run : Routine → Fun 𝓤) (𝓣 : Tables 𝓤 H) (known : Triple 𝓤 (𝓣 .C #fork-list) (Inner 𝓤 H A at-mem run)) where
   lend-walks : Walks 𝓤 H A all.ended stayed (WpFn 𝓤 H (𝓣 .C) (𝓣 .Λ) code.function) (all.clauses 𝓤 H A at-mem run)
   lend-walks =
       walked 𝓤 H A all.ended stayed (all.clauses 𝓤 H A at-mem run) (WpFn 𝓤 H (𝓣 .C) (𝓣 .Λ) code.function)
-      (λ κs. (slice-vals, (slice-vals, (LL.vals Ps.the-type Ps′.the-laws, (uint-vals w64, (uint-vals w64, (vals, (uint-vals w64, tt))))))))
-      (λ κs. (mut-slice-tells (named 0) (κs .0) u8, (mut-slice-tells (named 1) (κs .1 .0) u64, (LL.tells Ps.the-type Ps′.the-laws, (uint-tells w64, (uint-tells w64, (array-tells R (LL.vals S.the-type S′.the-laws) (LL.tells S.the-type S′.the-laws) 17, (uint-tells w64, tt))))))))
-      (λ κs qs bounds a g are. needs 𝓤 (a .1 .1 .1 .1 .1 .1 .0 ≤ 17) _ (λ within.
-      walk 𝓤 H A W at-mem run (κs .0) (κs .1 .0) (qs .0) (qs .1 .0) (a .0 .ptr .0) (a .0 .ptr .1) (a .0 .name) (a .0 .now) (a .1 .0 .ptr .0) (a .1 .0 .ptr .1) (a .1 .0 .name) (a .1 .0 .now) (a .1 .1 .0) (a .1 .1 .1 .0) (a .1 .1 .1 .1 .0) (a .1 .1 .1 .1 .1 .0) (a .1 .1 .1 .1 .1 .1 .0)
-      (are .0 .0 .1) (are .1 .0 .0 .1) (are .1 .1 .0) (are .1 .1 .1 .0 .1) (are .1 .1 .1 .1 .0 .1) (are .1 .1 .1 .1 .1 .0) (are .1 .1 .1 .1 .1 .1 .0 .1) within (𝓣 .C) (𝓣 .Λ) (fmOf 𝓤 H (W .laws) 𝓣) known))
+      (λ κs. (LL.vals Se.the-type Se′.the-laws, (slice-vals, (slice-vals, (LL.vals Ps.the-type Ps′.the-laws, (uint-vals w64, (uint-vals w64, (vals, (uint-vals w64, tt)))))))))
+      (λ κs. (LL.tells Se.the-type Se′.the-laws, (mut-slice-tells (named 0) (κs .0) u8, (mut-slice-tells (named 1) (κs .1 .0) u64, (LL.tells Ps.the-type Ps′.the-laws, (uint-tells w64, (uint-tells w64, (array-tells R (LL.vals S.the-type S′.the-laws) (LL.tells S.the-type S′.the-laws) 17, (uint-tells w64, tt)))))))))
+      (λ κs qs bounds a g are. needs 𝓤 (a .1 .1 .1 .1 .1 .1 .1 .0 ≤ 17) _ (λ within.
+      walk 𝓤 H A W at-mem run (κs .0) (κs .1 .0) (qs .0) (qs .1 .0) (a .0) (a .1 .0 .ptr .0) (a .1 .0 .ptr .1) (a .1 .0 .name) (a .1 .0 .now) (a .1 .1 .0 .ptr .0) (a .1 .1 .0 .ptr .1) (a .1 .1 .0 .name) (a .1 .1 .0 .now) (a .1 .1 .1 .0) (a .1 .1 .1 .1 .0) (a .1 .1 .1 .1 .1 .0) (a .1 .1 .1 .1 .1 .1 .0) (a .1 .1 .1 .1 .1 .1 .1 .0)
+      (are .0) (are .1 .0 .0 .1) (are .1 .1 .0 .0 .1) (are .1 .1 .1 .0) (are .1 .1 .1 .1 .0 .1) (are .1 .1 .1 .1 .1 .0 .1) (are .1 .1 .1 .1 .1 .1 .0) (are .1 .1 .1 .1 .1 .1 .1 .0 .1) within (𝓣 .C) (𝓣 .Λ) (fmOf 𝓤 H (W .laws) 𝓣) known))
 
   lend-meets : Meets 𝓤 H A all.signature (WpFn 𝓤 H (𝓣 .C) (𝓣 .Λ) code.function) (all.spec 𝓤 H A at-mem run)
   lend-meets =
       walk-meets 𝓤 H A all.ended stayed W
-      (goes-gave-slice 𝓤 H A W 2 0 tt (plain (λ _. u8)), (goes-gave-slice 𝓤 H A W 2 1 tt (plain (λ _. u64)), (goes-none 𝓤 H A W 2 (λ _. Recs) yes (λ κs x f. refl), (goes-none 𝓤 H A W 2 (λ _. u64) yes (λ κs x f. refl), (goes-none 𝓤 H A W 2 (λ _. u64) yes (λ κs x f. refl), (goes-none 𝓤 H A W 2 (λ _. Rows) yes (λ κs x f. refl), (goes-none 𝓤 H A W 2 (λ _. usize) yes (λ κs x f. refl), tt)))))))
+      (goes-none 𝓤 H A W 2 (λ _. Nums) yes (λ κs x f. refl), (goes-gave-slice 𝓤 H A W 2 0 tt (plain (λ _. u8)), (goes-gave-slice 𝓤 H A W 2 1 tt (plain (λ _. u64)), (goes-none 𝓤 H A W 2 (λ _. Recs) yes (λ κs x f. refl), (goes-none 𝓤 H A W 2 (λ _. u64) yes (λ κs x f. refl), (goes-none 𝓤 H A W 2 (λ _. u64) yes (λ κs x f. refl), (goes-none 𝓤 H A W 2 (λ _. Rows) yes (λ κs x f. refl), (goes-none 𝓤 H A W 2 (λ _. usize) yes (λ κs x f. refl), tt))))))))
       (all.clauses 𝓤 H A at-mem run) (WpFn 𝓤 H (𝓣 .C) (𝓣 .Λ) code.function) (WpFn-mono 𝓤 H (W .laws) 𝓣 code.function) lend-walks
 
 pub lend-spec : {M : Type 1} → stated.statement M

@@ -6,7 +6,7 @@ use native.Mathlib.Omega.{arith}
 use denote.Ref.{now}
 use lib.ListN.{length, drop, length-take}
 use borrow.Author.Needs.{needs}
-use Rattle.spec.specs.Numbers.{limit, pageBytes}
+use Rattle.spec.specs.Numbers.{maxTop, pageBytes}
 use Rattle.spec.specs.Frames.{Store, pagesOf, place}
 use Rattle.elf.specs.Reader.{Checked}
 use Rattle.book.specs.Lent.{store}
@@ -19,7 +19,7 @@ use Rattle.load.proofs.load_header.Tie as tie
 held : (c : tie.After-known-told) → Checked (length (now (c .before .before .before .before .before .before .before .args .image))) (c .before .l .given .0 .0)
 held c = checked-of _ _ _ (sym (c .before .before .before .segment-of .ensures) ∙ c .before .l .given .1) (c .before .before .before .before .before .before .before .pre .1 .0 .0)
 
-laid : (c : tie.After-known-told) → c .before .l .given .0 .0 .vaddr + c .before .l .given .0 .0 .memsz ≤ limit
+laid : (c : tie.After-known-told) → c .before .l .given .0 .0 .vaddr + c .before .l .given .0 .0 .memsz ≤ maxTop
 laid c = laid-of _ _ (sym (c .before .before .before .segment-of .ensures) ∙ c .before .l .given .1) (c .before .before .before .before .before .before .before .pre .1 .0 .1)
 
 user-segment-requires : tie.Need-user-segment-requires

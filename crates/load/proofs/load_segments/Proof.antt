@@ -9,6 +9,8 @@ use denote.Ref.{now}
 use lib.ListN.{length}
 use Rattle.spec.specs.Frames.{Store, place}
 use Rattle.spec.specs.Elf.{Segment, phdrAt, segmentsOf}
+use Rattle.spec.specs.Numbers.{SetupOk}
+use Rattle.spec.specs.declared.Setup.{Setup}
 use Rattle.spec.specs.Exec.{layoutOk}
 use Rattle.spec.specs.declared.VirtRange.{VirtRange}
 use Rattle.elf.specs.Reader.{loadOf}
@@ -27,7 +29,7 @@ use Rattle.load.proofs.load_segments.Tie as tie
 abbrev Left : Store → ℕ → List ℕ → VirtRange → Store → ℕ → ℕ → Type 0
 Left m₀ owner image bss m at k =
     Ahead image at k
-    × (layoutOk (segs image at k) ≡ true)
+    × ((setup : Setup) × SetupOk setup × (layoutOk setup (segs image at k) ≡ true))
     × (place m₀ owner (segmentPages bss (segmentsOf image)) ≡ place m owner (segmentPages bss (segs image at k)))
 
 abbrev Inv-loop : tie.InvT-loop
@@ -52,7 +54,7 @@ loop-holds c =
       omega arith,
       at-first (Left m (a .owner) (now (a .image)) (a .bss) m) (a .h .phoff) (a .h .phnum) (
         ahead-all (now (a .image)) (a .h) (p .1 .0),
-        ap layoutOk whole ∙ p .1 .1,
+        (p .1 .1 .0, p .1 .1 .1, ap (layoutOk (p .1 .1 .0)) whole ∙ p .1 .1 .2),
         ap (λ (gs : List Segment). place m (a .owner) (segmentPages (a .bss) gs)) (sym whole),
       ),
       (omega arith, λ k l h. absurd (omega arith)),
@@ -73,7 +75,7 @@ load-header-requires c κs =
     let at = a .h .phoff + 56 * l .i in
     let k = one-left (c .before .before) in
     let v = l .inv .2 in
-    let q = front-laid image (loadOf (phdrAt image at)) _ (ap layoutOk (sym (segs-some image at (a .h .phnum - l .i) _ k refl)) ∙ v .1) in
+    let q = front-laid (v .1 .0) (v .1 .1) image (loadOf (phdrAt image at)) _ (ap (layoutOk (v .1 .0)) (sym (segs-some image at (a .h .phnum - l .i) _ k refl)) ∙ v .1 .2) in
     ((omega (arith, p .0 .0, l .inv .4, l .inv .5), p .0 .1, p .0 .2, omega (arith, l .inv .1, v .0 .room), omega (arith, k), p .0 .3), ((ahead-here image at (a .h .phnum - l .i) k (v .0), q .0), l .inv .3))
 
 add-i : tie.Need-add-i Inv-loop μ-loop
@@ -93,14 +95,14 @@ loop-again c =
     let rest = segs image (at + 56) (a .h .phnum - l .i - 1) in
     let s = segs-some image at (a .h .phnum - l .i) here k refl in
     let v = l .inv .2 in
-    let q = front-laid image here rest (ap layoutOk (sym s) ∙ v .1) in
+    let q = front-laid (v .1 .0) (v .1 .1) image here rest (ap (layoutOk (v .1 .0)) (sym s) ∙ v .1 .2) in
     let m : Store = store (l .frames) (l .book) in
     let r = c .before .before .before .before .load-header in (
       l .inv .0,
       omega (arith, k),
       at-next (Left (store (now (a .frames)) (now (a .book))) (a .owner) image (a .bss) _) (a .h .phoff) (a .h .phnum) (l .i) (
         ahead-next image at (a .h .phnum - l .i) k (v .0),
-        q .1,
+        (v .1 .0, v .1 .1, q .1),
         v .2
             ∙ ap (λ (gs : List Segment). place m (a .owner) (segmentPages (a .bss) gs)) s
             ∙ ap (place m (a .owner)) (front-pages image (a .bss) here rest)

@@ -3,14 +3,10 @@ use Prim.Native.Nat.{ℕ, _-_, _≤_, _<_}
 use native.Mathlib.Omega.{arith}
 use mathlib.Core.Path.{_≡_, sym}
 use lib.ListN.{length}
-use Rattle.spec.specs.Book.{zeroProc}
-use Rattle.spec.proofs.Bools.{all-at}
-use Rattle.laws.proofs.Record.{Whole, WholeProc}
-use Rattle.records.specs.Records.{passes}
+use Rattle.laws.proofs.Record.{Whole}
 use Rattle.plan.specs.Plan.{LaidTo}
-use Rattle.records.proofs.Whole.{noProc, within-array, proc-is, whole-procs}
+use Rattle.records.proofs.Whole.{proc-is, whole-procs}
 use Rattle.plan.proofs.Laying.{laidto-none, laidto-more, laid-all}
-use Rattle.plan.proofs.Passing.{small-parts}
 use Rattle.plan.proofs.lay_all.Statement.{statement}
 use Rattle.plan.proofs.lay_all.Tie as tie
 
@@ -37,7 +33,7 @@ lay-requires c κs =
     let a = c .before .before .before .before .before in
     let h : l .n < length (a .args .t3 .all) = omega (arith, l .inv .1 .records) in (
       omega arith,
-      small-parts _ (rw (within-array (a .args .t3 .all) (l .n) noProc zeroProc h) (l .inv .1 .each (l .n))) (all-at passes noProc (a .args .t3 .all) (a .pre .0) (l .n) h),
+      rw (proc-is (a .args .t3) (l .n) h) (a .pre .0 (l .n) (omega arith)),
       l .inv .2 .bound,
       l .inv .2 .tags-long,
       l .inv .2 .bases-long,

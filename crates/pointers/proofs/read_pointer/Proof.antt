@@ -20,7 +20,7 @@ abbrev memory : tie.Start → Mem
 memory c = memOf (store (now (c .args .frames)) (now (c .args .book))) (c .args .number)
 
 -- the range has been checked
-checked : (c : tie.Else1) → userRangeOk (memory (c .before .before .before .before)) false (c .before .before .before .before .args .at) 8 ≡ true
+checked : (c : tie.Else1) → userRangeOk (c .before .before .before .before .args .setup) (memory (c .before .before .before .before)) false (c .before .before .before .before .args .at) 8 ≡ true
 checked c = sym (c .before .user-range-ok .ensures (now (c .before .before .before .before .args .frames))) ∙ not-false _ (c .if1 .left)
 
 -- and what it holds is the number that was read
@@ -33,13 +33,13 @@ user-range-ok-requires c κs = search needs
 returns : tie.Need-returns
 returns c =
     let a = c .before .before .before .before .args in
-    pointer-bad (memory (c .before .before .before .before)) (a .at) (sym (c .before .user-range-ok .ensures (now (a .frames))) ∙ not-true _ (c .if1 .taken))
+    pointer-bad (a .setup) (memory (c .before .before .before .before)) (a .at) (sym (c .before .user-range-ok .ensures (now (a .frames))) ∙ not-true _ (c .if1 .taken))
 
 slice-aggregate-read-user : tie.Need-slice-aggregate-read-user
 slice-aggregate-read-user c = search needs
 
 read-user-requires : tie.Need-read-user-requires
-read-user-requires c κs = (c .before .before .before .before .before .pre, checked (c .before))
+read-user-requires c κs = let s = c .before .before .before .before .before in (s .pre .0, (s .args .setup, s .pre .1, checked (c .before)))
 
 slice-aggregate-from-le-bytes : tie.Need-slice-aggregate-from-le-bytes
 slice-aggregate-from-le-bytes c = search needs
@@ -50,12 +50,12 @@ from-le-bytes-requires c κs = search needs
 returns-2 : tie.Need-returns-2
 returns-2 c =
     let s = c .before .before .before .before .before .before .before .before .before .before in
-    pointer-null (memory s) (s .args .at) (checked (c .before .before .before .before .before .before)) (is-through _ _ 0 (number (c .before)) (c .if2 .taken))
+    pointer-null (s .args .setup) (memory s) (s .args .at) (checked (c .before .before .before .before .before .before)) (is-through _ _ 0 (number (c .before)) (c .if2 .taken))
 
 returns-3 : tie.Need-returns-3
 returns-3 c =
     let s = c .before .before .before .before .before .before .before .before .before .before in
-    ap At (number (c .before)) ∙ pointer-string (memory s) (s .args .at) (checked (c .before .before .before .before .before .before)) (isnt-through _ _ 0 (number (c .before)) (c .if2 .left))
+    ap At (number (c .before)) ∙ pointer-string (s .args .setup) (memory s) (s .args .at) (checked (c .before .before .before .before .before .before)) (isnt-through _ _ 0 (number (c .before)) (c .if2 .left))
 
 pub read-pointer-spec : {M : Type 1} → statement M
 read-pointer-spec =

@@ -1,13 +1,16 @@
 -- `push` meets its contract: the numbers come in their order, and both ranges are checked before a byte is written.
 use Prim.Native.Nat.{ℕ, _*_}
 use mathlib.Core.Path.{_≡_, refl, sym, ap, _∙_}
+use mathlib.Core.Bool.{true}
 use mathlib.Core.List.{List}
 use denote.Ref.{now}
 use lib.ListN.{length}
 use borrow.Author.Needs.{needs}
 use borrow.Author.Tests.{eqb-true, not-true, not-false}
 use Rattle.spec.specs.Tests.{sum}
+use Rattle.spec.specs.Numbers.{SetupOk}
 use Rattle.spec.specs.Frames.{memOf}
+use Rattle.spec.proofs.Setups.{setup-means}
 use Rattle.spec.specs.Exec.{argsOf, pushOk}
 use Rattle.spec.specs.Machine.{Ask, push, Call, outcomeOf, plainly, Machine, lengthsFit, weighPush}
 use Rattle.spec.specs.World.{State, view, withStore, leave, Does}
@@ -27,7 +30,7 @@ use Rattle.push.proofs.push.Tie as tie
 -- ---- the call
 
 abbrev state : tie.Start → State
-state s = stateOf (now (s .args .frames)) (now (s .args .book)) (s .args .procs)
+state s = stateOf (s .args .setup) (now (s .args .frames)) (now (s .args .book)) (s .args .procs)
 
 abbrev asked : tie.Start → Ask
 asked s = push (s .args .pc) (s .args .top) (now (s .args .bytes)) (now (s .args .lengths))
@@ -73,6 +76,9 @@ module _ (c : tie.Else1) where
   passed : Passed (state start₁) (start₁ .args .number) (lengthsFit (asked start₁))
   passed = plain-none (state start₁) (start₁ .args .number) (lengthsFit (asked start₁)) (sym (first (c .before)) ∙ c .if1 .left) .0
 
+  accepted : SetupOk (start₁ .args .setup)
+  accepted = setup-means (start₁ .args .setup) (passed .setup)
+
   fit : sum (now (start₁ .args .lengths)) ≡ length (now (start₁ .args .bytes))
   fit = eqb-true (sum (now (start₁ .args .lengths))) (length (now (start₁ .args .bytes))) (passed .lengths)
 
@@ -112,7 +118,7 @@ returns-3 c =
     let z = c .before .args-size in
     answers i _ _
     (push-refused (machine s) (s .args .pc) (s .args .top) (arguments s) (c .before .before .if2 .left) (z .result .error)
-    (ap (λ (x : ArgsSize). x .error) (z .ensures) ∙ size-number (now (s .args .bytes)) (now (s .args .lengths)) (fit i)) (c .if3 .taken))
+    (ap (λ (x : ArgsSize). x .error) (z .ensures) ∙ size-number (s .args .setup) (now (s .args .bytes)) (now (s .args .lengths)) (fit i)) (c .if3 .taken))
     refl
 
 -- where the arguments passed
@@ -120,13 +126,13 @@ module _ (c : tie.Else3) where
   abbrev start₃ : tie.Start
   start₃ = start₁ (c .before .before .before)
 
-  argued : Argued (now (start₃ .args .bytes)) (now (start₃ .args .lengths)) (c .before .args-size .result .strings)
-  argued = size-passed (now (start₃ .args .bytes)) (now (start₃ .args .lengths)) (c .before .args-size .result) (c .before .args-size .ensures) (c .if3 .left)
+  argued : Argued (start₃ .args .setup) (now (start₃ .args .bytes)) (now (start₃ .args .lengths)) (c .before .args-size .result .strings)
+  argued = size-passed (start₃ .args .setup) (now (start₃ .args .bytes)) (now (start₃ .args .lengths)) (c .before .args-size .result) (c .before .args-size .ensures) (c .if3 .left)
 
 -- ---- 35
 
 push-ok-requires : tie.Need-push-ok-requires
-push-ok-requires c κs = let i = c .before .before .before .before .before .before .before in i .before .plain-ready .ensures .1 (i .if1 .left)
+push-ok-requires c κs = let i = c .before .before .before .before .before .before .before in (i .before .plain-ready .ensures .1 (i .if1 .left), accepted i)
 
 -- the check of the ranges, over any frame bytes
 module _ (c : tie.After-push-ok) where
@@ -136,7 +142,7 @@ module _ (c : tie.After-push-ok) where
   abbrev start₄ : tie.Start
   start₄ = start₃ after₃
 
-  checked : (f : List ℕ) → c .push-ok .result ≡ pushOk (memOf (store f (now (start₄ .args .book))) (start₄ .args .number)) (start₄ .args .top) (arguments start₄)
+  checked : (f : List ℕ) → c .push-ok .result ≡ pushOk (start₄ .args .setup) (memOf (store f (now (start₄ .args .book))) (start₄ .args .number)) (start₄ .args .top) (arguments start₄)
   checked f = c .push-ok .ensures f (arguments start₄) (sym (argued after₃ .strings-size)) (cut-count (now (start₄ .args .bytes)) (now (start₄ .args .lengths)))
 
 forget-requires : tie.Need-forget-requires
@@ -156,22 +162,23 @@ returns-4 c =
     answers (i .before .before .before) _ _
     (push-ends (machine s) (s .args .pc) (s .args .top) (arguments s) (i .before .before .if2 .left) (argued i .passed)
     (sym (checked (u .before) (now (s .args .frames))) ∙ not-true _ (u .if4 .taken)))
-    (c .before .before .forget .ensures _)
+    (c .before .before .forget .ensures _ _)
 
 -- ---- accepted
+
+-- where both ranges passed
+module _ (c : tie.Else4) where
+  abbrev i : tie.Else3
+  i = after₃ (c .before)
+
+  ok : (f : List ℕ) → pushOk (start₃ i .args .setup) (memOf (store f (now (start₃ i .args .book))) (start₃ i .args .number)) (start₃ i .args .top) (arguments (start₃ i)) ≡ true
+  ok f = sym (checked (c .before) f) ∙ not-false _ (c .if4 .left)
 
 push-args-requires : tie.Need-push-args-requires
 push-args-requires c κs =
     let u = c .before .before .before .before .before in
-    let i = after₃ (u .before) in
-    let z = i .before .args-size in
-    let o = i .before .before .before in (
-      (sizes o, o .before .plain-ready .ensures .1 (o .if1 .left)),
-      (
-        sym (z .ensures) ∙ ap (λ (k : ℕ). record { error = k; strings = z .result .strings }) (i .if3 .left),
-        λ f. sym (checked (u .before) f) ∙ not-false _ (u .if4 .left),
-      ),
-    )
+    let o = i u .before .before .before in
+    ((sizes o, o .before .plain-ready .ensures .1 (o .if1 .left)), (start₃ (i u) .args .setup, accepted o, argued (i u) .sums, argued (i u) .passed, ok u))
 
 same-length-9 : tie.Need-same-length-9
 same-length-9 c = search needs
@@ -181,13 +188,11 @@ same-length-10 c = search needs
 
 returns-5 : tie.Need-returns-5
 returns-5 c =
-    let w = c .before .before .push-args in
     let u = c .before .before .before .before .before .before .before .before in
-    let i = after₃ (u .before) in
-    let s = start₃ i in
-    answers (i .before .before .before) _ _
-    (push-goes (machine s) (s .args .pc) (s .args .top) (arguments s) (i .before .before .if2 .left) (w .result) (w .ensures .1) (argued i .passed)
-    (sym (checked (u .before) (now (s .args .frames))) ∙ not-false _ (u .if4 .left)))
+    let s = start₃ (i u) in
+    let w = c .before .before .push-args in
+    answers (i u .before .before .before) _ _
+    (push-goes (machine s) (s .args .pc) (s .args .top) (arguments s) (i u .before .before .if2 .left) (w .result) (w .ensures .1) (argued (i u) .passed) (ok u (now (s .args .frames))))
     (ap (withStore (state s)) (w .ensures .0))
 
 pub push-spec : {M : Type 1} → statement M

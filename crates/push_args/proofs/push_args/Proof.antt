@@ -1,94 +1,59 @@
--- `push_args::push_args` meets its contract. The check looks at the book alone, so that the pointers' range still passes once the
--- strings are written.
+-- `push_args::push_args` meets its contract: arguments that pass fit a buffer, and are written from it.
+use mathlib.Core.Path.{_≡_, refl}
 use Prim.Native.Nat.{ℕ, _+_, _*_, _-_, _/_, _≤_}
 use native.Mathlib.Omega.{arith}
-use mathlib.Core.Path.{refl, sym, ap, _∙_}
-use mathlib.Core.Bool.{true}
 use mathlib.Core.List.{List}
 use lib.ListN.{length}
 use denote.Ref.{now}
 use borrow.Author.Needs.{needs}
-use Rattle.spec.specs.Frames.{memOf, pokes}
-use Rattle.spec.specs.Access.{userRangeOk}
-use Rattle.spec.specs.declared.UserRegs.{UserRegs}
-use Rattle.book.specs.Lent.{store}
-use Rattle.args.specs.Sizes.{pointersBy}
-use Rattle.args.proofs.Places.{low-room, registers-at}
-use Rattle.args.proofs.Size.{Passed, size-passed}
-use Rattle.push_args.proofs.Ranges.{Allowed, allowed}
-use Rattle.push_args.proofs.Written.{written}
+use Rattle.spec.specs.Exec.{argsOf, strings}
+use Rattle.spec.proofs.Args.{args-means}
+use Rattle.args.proofs.Cut.{cut-count, cut-size}
+use Rattle.args.proofs.Places.{low-room}
+use Rattle.push_args.proofs.Ranges.{allowed}
 use Rattle.push_args.proofs.push_args.Statement.{statement}
 use Rattle.push_args.proofs.push_args.Tie as tie
 
--- what the arguments and the check before tell
-module _ (c : tie.Start) where
-  passed : Passed (now (c .args .bytes)) (now (c .args .lengths)) (c .args .size)
-  passed = size-passed (now (c .args .bytes)) (now (c .args .lengths)) (record { error = 0; strings = c .args .size }) (sym (c .pre .1 .0)) refl
+module _ (s : tie.Start) where
+  abbrev args : List (List ℕ)
+  args = argsOf (now (s .args .bytes)) (now (s .args .lengths))
 
-  ok : (f : List ℕ) → Allowed (memOf (store f (now (c .args .book))) (c .args .number)) (c .args .top) (c .args .size) (length (now (c .args .lengths)))
-  ok f = allowed (now (c .args .bytes)) (now (c .args .lengths)) (c .args .size) passed (c .args .top) (memOf (store f (now (c .args .book))) (c .args .number)) (c .pre .1 .1 f)
+  count : length args ≡ length (now (s .args .lengths))
+  count = cut-count (now (s .args .bytes)) (now (s .args .lengths))
 
-  room : 8 * (length (now (c .args .lengths)) + 1) ≤ (c .args .top - c .args .size) / 8 * 8
-  room = low-room (c .args .top) (c .args .size) (length (now (c .args .lengths))) (ok (now (c .args .frames)) .above-zero)
+  -- there is room above address 0
+  room : 8 * (length args + 1) ≤ (s .args .top - length (strings args)) / 8 * 8
+  room = low-room (s .args .top) (length (strings args)) (length args) (allowed (s .pre .1 .0) _ (s .args .top) _ _ args refl refl (s .pre .1 .4 (now (s .args .frames))) .above-zero)
 
-registers-requires : tie.Need-registers-requires
-registers-requires c κs = let start = c .before .before .before .before in ok start (now (start .args .frames)) .above-zero
+slice-aggregate-args-into : tie.Need-slice-aggregate-args-into
+slice-aggregate-args-into c = search needs
 
-sub-s : tie.Need-sub-s
-sub-s c = omega (arith, room (c .before .before .before .before .before))
+args-into-requires : tie.Need-args-into-requires
+args-into-requires c κs =
+    let s = c .before .before .before .before .before in
+    let n = cut-size (now (s .args .bytes)) (now (s .args .lengths)) (s .pre .1 .2) in
+    let m = args-means (s .pre .1 .0) (args s) (s .pre .1 .3) .1 in
+    (s .pre .1 .2, omega (arith, n, count s, m, s .pre .1 .1), omega (arith, n, room s))
 
-write-strings-requires : tie.Need-write-strings-requires
-write-strings-requires c κs =
-    let start = c .before .before .before .before .before .before in
-    let a = start .args in
-    let p = passed start in (
-      start .pre .0,
-      (
-        (p .sums, omega (arith, p .bytes-size, p .limit)),
-        ap (userRangeOk (memOf (store (now (a .frames)) (now (a .book))) (a .number)) true (a .top - a .size)) (sym (p .strings-size)) ∙ ok start (now (a .frames)) .strings-range,
-      ),
-    )
+slice-aggregate-write-args : tie.Need-slice-aggregate-write-args
+slice-aggregate-write-args c = search needs
 
-write-pointers-requires : tie.Need-write-pointers-requires
-write-pointers-requires c κs =
-    let start = c .before .before .before .before .before .before .before .before .before .before in
-    let a = start .args in
-    let w = c .before .before .before .write-strings in
-    let p = passed start in (
-      (w .kept .0 ∙ start .pre .0 .0, start .pre .0 .1),
-      (
-        (omega (arith, p .limit), omega (arith, p .sums, p .bytes-size, room start)),
-        ap (λ (r : UserRegs). userRangeOk (memOf (store (w .last .0) (now (a .book))) (a .number)) true (r .argv) (8 * (length (now (a .lengths)) + 1)))
-            (c .before .before .before .before .before .registers .ensures)
-            ∙ ok start (w .last .0) .pointers-range,
-      ),
-    )
+write-args-requires : tie.Need-write-args-requires
+write-args-requires c κs =
+    let l = c .before .before .before in
+    let s = l .before .before .before .before .before .before in
+    (s .pre .0, (s .pre .1 .0, args s, s .pre .1 .1, l .args-into .ensures, count s, s .pre .1 .4))
 
 same-length : tie.Need-same-length
 same-length c = search needs
 
 returns : tie.Need-returns
 returns c =
-    let w = c .before .before in
-    let s = w .before .before .before .before in
-    let r = s .before .before .registers in
-    let start = s .before .before .before .before .before .before .before in
-    let a = start .args in
-    let p = passed start in (
-      written (store (now (a .frames)) (now (a .book))) (store (s .write-strings .last .0) (now (a .book))) _ (a .number) (a .top) (a .size) (now (a .bytes)) (now (a .lengths)) p
-          (s .write-strings .ensures)
-          (w .write-pointers .ensures
-          ∙ ap (λ (x : UserRegs). pokes (store (s .write-strings .last .0) (now (a .book))) (a .number) (x .argv) (pointersBy (a .top - a .size) (now (a .lengths)))) (r .ensures)),
-      r .ensures ∙ sym (registers-at (now (a .bytes)) (now (a .lengths)) (a .size) (sym (p .strings-size)) (a .pc) (a .top)),
-    )
+    let l = c .before .before .before .before .before .before in
+    let s = l .before .before .before .before .before .before in
+    c .before .before .write-args .ensures (args s) (l .args-into .ensures) (count s)
 
 pub push-args-spec : {M : Type 1} → statement M
 push-args-spec =
     tie.close
-    (tie.spec
-    registers-requires
-    sub-s
-    write-strings-requires
-    write-pointers-requires
-    same-length
-    returns)
+    (tie.spec slice-aggregate-args-into args-into-requires slice-aggregate-write-args write-args-requires same-length returns)

@@ -21,7 +21,7 @@ below-zero-requires c κs = search needs
 returns : tie.Need-returns
 returns c frames args e f =
     let a = c .before .before .before .args in
-    ok-low _ (a .top) (a .size) (a .nargs) args e f (sym (c .before .below-zero .ensures) ∙ c .if1 .taken)
+    ok-low (a .setup) _ (a .top) (a .size) (a .nargs) args e f (sym (c .before .below-zero .ensures) ∙ c .if1 .taken)
 
 -- there is room above address 0
 module _ (c : tie.Else1) where
@@ -54,8 +54,8 @@ returns-2 c frames args e f =
     let i = c .before .before .before in
     let a = i .before .before .before .args in
     let mem : Mem = memOf (store frames (now (a .book))) (a .number) in
-    ok-ranges mem (a .top) (a .size) (a .nargs) args e f _ _ (above-zero i) (c .before .user-range-ok .ensures frames)
-    (c .user-range-ok2 .ensures frames ∙ ap (λ (r : UserRegs). userRangeOk mem true (r .argv) (8 * (a .nargs + 1))) (c .before .before .registers .ensures))
+    ok-ranges (a .setup) mem (a .top) (a .size) (a .nargs) args e f _ _ (above-zero i) (c .before .user-range-ok .ensures frames)
+    (c .user-range-ok2 .ensures frames ∙ ap (λ (r : UserRegs). userRangeOk (a .setup) mem true (r .argv) (8 * (a .nargs + 1))) (c .before .before .registers .ensures))
 
 pub push-ok-spec : {M : Type 1} → statement M
 push-ok-spec =

@@ -5,17 +5,16 @@ use mathlib.Core.Path.{_≡_, refl, sym, _∙_}
 use lib.ListN.{length, drop}
 use borrow.Author.Needs.{needs}
 use borrow.Author.Tests.{not-true, not-false}
-use Rattle.spec.specs.Numbers.{utzero}
 use Rattle.records.specs.Records.{shaped}
 use Rattle.records.proofs.Walk.{shaped-stack, shaped-stop, shaped-go, shaped-end, length-mapped}
 use Rattle.records.proofs.is_shaped.Statement.{statement}
 use Rattle.records.proofs.is_shaped.Tie as tie
 
 abbrev Inv-loop : tie.InvT-loop
-Inv-loop segments bss low₀ i₀ low i = (i ≤ 16) × (length segments ≡ 16) × (shaped utzero bss segments ≡ shaped low bss (drop i segments))
+Inv-loop setup segments bss low₀ i₀ low i = (i ≤ 16) × (length segments ≡ 16) × (shaped setup (setup .utzero) bss segments ≡ shaped setup low bss (drop i segments))
 
 abbrev μ-loop : tie.MeasureT-loop
-μ-loop segments bss low₀ i₀ low i = 16 - i
+μ-loop setup segments bss low₀ i₀ low i = 16 - i
 
 loop-holds : tie.Need-loop-holds Inv-loop μ-loop
 loop-holds c = (search needs, search (needs, length-mapped), refl)
@@ -42,8 +41,9 @@ returns : tie.Need-returns Inv-loop μ-loop
 returns c =
     let a = c .before .before .before .before .before .before in
     let p = a .before .before .before .args .p in
+    let setup = a .before .before .before .args .setup in
     rw (c .before .rest-unused .ensures, c .bss-ok .ensures)
-    (sym (a .loop .inv .2 ∙ shaped-stack (a .loop .low) (p .bss) (p .segments) (a .loop .i) (omega arith) (sym (c .before .before .before .is-stack .ensures) ∙ c .before .before .if1 .taken)))
+    (sym (a .loop .inv .2 ∙ shaped-stack setup (a .loop .low) (p .bss) (p .segments) (a .loop .i) (omega arith) (sym (c .before .before .before .is-stack .ensures) ∙ c .before .before .if1 .taken)))
 
 image-ok-requires : tie.Need-image-ok-requires Inv-loop μ-loop
 image-ok-requires c κs = search needs
@@ -52,7 +52,8 @@ returns-2 : tie.Need-returns-2 Inv-loop μ-loop
 returns-2 c =
     let a = c .before .before .before .before .before .before in
     let p = a .before .before .before .args .p in
-    sym (a .loop .inv .2 ∙ shaped-stop (a .loop .low) (p .bss) (p .segments) (a .loop .i) (omega arith) (sym (c .before .before .before .is-stack .ensures) ∙ c .before .before .if1 .left)
+    let setup = a .before .before .before .args .setup in
+    sym (a .loop .inv .2 ∙ shaped-stop setup (a .loop .low) (p .bss) (p .segments) (a .loop .i) (omega arith) (sym (c .before .before .before .is-stack .ensures) ∙ c .before .before .if1 .left)
     (sym (c .before .image-ok .ensures) ∙ not-true _ (c .if2 .taken)))
 
 add-i : tie.Need-add-i Inv-loop μ-loop
@@ -67,14 +68,15 @@ loop-again c =
     let p = a .before .before .before .args .p in (
       search needs,
       search needs,
-      a .loop .inv .2 ∙ shaped-go (a .loop .low) (p .bss) (p .segments) (a .loop .i) (omega arith) (sym (c .before .before .before .is-stack .ensures) ∙ c .before .before .if1 .left)
+      a .loop .inv .2 ∙ shaped-go (a .before .before .before .args .setup) (a .loop .low) (p .bss) (p .segments) (a .loop .i) (omega arith) (sym (c .before .before .before .is-stack .ensures) ∙ c .before .before .if1 .left)
           (sym (c .before .image-ok .ensures) ∙ not-false _ (c .if2 .left)),
     )
 
 returns-3 : tie.Need-returns-3 Inv-loop μ-loop
 returns-3 c =
     let p = c .before .before .before .before .args .p in
-    sym (c .before .loop .inv .2 ∙ shaped-end (c .before .loop .low) (p .bss) (p .segments) (c .before .loop .i) (omega arith))
+    let setup = c .before .before .before .before .args .setup in
+    sym (c .before .loop .inv .2 ∙ shaped-end setup (c .before .loop .low) (p .bss) (p .segments) (c .before .loop .i) (omega arith))
 
 pub is-shaped-spec : {M : Type 1} → statement M
 is-shaped-spec =

@@ -13,10 +13,10 @@ use Rattle.records.proofs.records_ok.Statement.{statement}
 use Rattle.records.proofs.records_ok.Tie as tie
 
 abbrev Inv-loop : tie.InvT-loop
-Inv-loop procs i₀ i = (i ≤ 16) × (length (procs .all) ≡ 16) × (all passes (procs .all) ≡ all passes (drop i (procs .all)))
+Inv-loop setup procs i₀ i = (i ≤ 16) × (length (procs .all) ≡ 16) × (all (passes setup) (procs .all) ≡ all (passes setup) (drop i (procs .all)))
 
 abbrev μ-loop : tie.MeasureT-loop
-μ-loop procs i₀ i = 16 - i
+μ-loop setup procs i₀ i = 16 - i
 
 loop-holds : tie.Need-loop-holds Inv-loop μ-loop
 loop-holds c = (search needs, search (needs, length-mapped), refl)
@@ -33,7 +33,7 @@ record-ok-requires c κs = search needs
 returns : tie.Need-returns Inv-loop μ-loop
 returns c =
     let a = c .before .before .before .before in
-    sym (a .loop .inv .2 ∙ all-stop passes (a .before .args .t1 .all) (a .loop .i) noProc (omega arith) (sym (c .before .record-ok .ensures) ∙ not-true _ (c .if1 .taken)))
+    sym (a .loop .inv .2 ∙ all-stop (passes (a .before .args .setup)) (a .before .args .t2 .all) (a .loop .i) noProc (omega arith) (sym (c .before .record-ok .ensures) ∙ not-true _ (c .if1 .taken)))
 
 add-i : tie.Need-add-i Inv-loop μ-loop
 add-i c = omega arith
@@ -44,10 +44,10 @@ loop-less c = omega arith
 loop-again : tie.Need-loop-again Inv-loop μ-loop
 loop-again c =
     let a = c .before .before .before .before in
-    (search needs, search needs, a .loop .inv .2 ∙ all-go passes (a .before .args .t1 .all) (a .loop .i) noProc (omega arith) (sym (c .before .record-ok .ensures) ∙ not-false _ (c .if1 .left)))
+    (search needs, search needs, a .loop .inv .2 ∙ all-go (passes (a .before .args .setup)) (a .before .args .t2 .all) (a .loop .i) noProc (omega arith) (sym (c .before .record-ok .ensures) ∙ not-false _ (c .if1 .left)))
 
 returns-2 : tie.Need-returns-2 Inv-loop μ-loop
-returns-2 c = sym (c .before .loop .inv .2 ∙ all-end passes (c .before .before .args .t1 .all) (c .before .loop .i) (omega arith))
+returns-2 c = sym (c .before .loop .inv .2 ∙ all-end (passes (c .before .before .args .setup)) (c .before .before .args .t2 .all) (c .before .loop .i) (omega arith))
 
 pub records-ok-spec : {M : Type 1} → statement M
 records-ok-spec =

@@ -24,7 +24,7 @@ returns c = rw (c .enum-told .given .1)
 returns-2 : tie.Need-returns-2
 returns-2 c =
     let a = c .before .before .before .before .args in
-    c .moved .ensures ∙ ap (λ (o : Option VirtRange). ibrk o (a .addr) (a .free)) (ap optOf (sym (c .before .before .bss .given .1)))
+    c .moved .ensures ∙ ap (λ (o : Option VirtRange). ibrk (a .setup) o (a .addr) (a .free)) (ap optOf (sym (c .before .before .bss .given .1)))
 
 pub ibrk-spec : {M : Type 1} → statement M
 ibrk-spec = tie.close (tie.spec enum-told enum-known-bss moved-requires returns returns-2)

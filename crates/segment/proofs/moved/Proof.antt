@@ -13,16 +13,19 @@ use Rattle.segment.proofs.Cases.{zero-start, below-start, past-64, abov
 use Rattle.segment.proofs.moved.Statement.{statement}
 use Rattle.segment.proofs.moved.Tie as tie
 
+limit-requires : tie.Need-limit-requires
+limit-requires c κs = search needs
+
 returns : tie.Need-returns
-returns c = sym (zero-start (c .before .args .range) (c .before .args .addr) (c .before .args .free) (c .if1 .taken))
+returns c = sym (zero-start (c .before .before .args .setup) (c .before .before .args .range) (c .before .before .args .addr) (c .before .before .args .free) (c .if1 .taken))
 
 refused-requires : tie.Need-refused-requires
 refused-requires c κs = search needs
 
 returns-2 : tie.Need-returns-2
 returns-2 c =
-    let a = c .before .before .before .args in
-    ap breakOf (c .refused .ensures) ∙ sym (below-start (a .range) (a .addr) (a .free) (c .before .before .if1 .left) (c .before .if2 .taken))
+    let a = c .before .before .before .before .args in
+    ap breakOf (c .refused .ensures) ∙ sym (below-start (a .setup) (a .range) (a .addr) (a .free) (c .before .before .if1 .left) (c .before .if2 .taken))
 
 checked-page-up-requires : tie.Need-checked-page-up-requires
 checked-page-up-requires c κs = search needs
@@ -38,35 +41,35 @@ refused-requires-2 c κs = search needs
 
 returns-3 : tie.Need-returns-3
 returns-3 c =
-    let a = c .before .before .before .before .before .before .args in
+    let a = c .before .before .before .before .before .before .before .args in
     let r = rounded-past (a .addr) (sym (c .before .enum-told .given .1) ∙ c .before .before .before .checked-page-up .ensures) in
     ap breakOf (c .refused2 .ensures)
-    ∙ sym (past-64 (a .range) (a .addr) (a .free) (c .before .before .before .before .before .if1 .left) (c .before .before .before .before .if2 .left) r)
+    ∙ sym (past-64 (a .setup) (a .range) (a .addr) (a .free) (c .before .before .before .before .before .if1 .left) (c .before .before .before .before .if2 .left) r)
 
 refused-requires-3 : tie.Need-refused-requires-3
 refused-requires-3 c κs = search needs
 
 returns-4 : tie.Need-returns-4
 returns-4 c =
-    let a = c .before .before .before .before .before .before .before .before .args in
+    let a = c .before .before .before .before .before .before .before .before .before .args in
     let top = c .before .before .before .newtop .given in
     let r = rounded-to (a .addr) (top .0 .0) (sym (top .1) ∙ c .before .before .before .before .before .checked-page-up .ensures) in
     let to = r .0 in
     ap breakOf (c .refused3 .ensures)
-    ∙ sym (above-limit (a .range) (a .addr) (a .free) (c .before .before .before .before .before .before .before .if1 .left) (c .before .before .before .before .before .before .if2 .left) (r .1) (omega arith))
+    ∙ sym (above-limit (a .setup) (a .range) (a .addr) (a .free) (c .before .before .before .before .before .before .before .if1 .left) (c .before .before .before .before .before .before .if2 .left) (r .1) (omega arith))
 
 accepted-requires : tie.Need-accepted-requires
 accepted-requires c κs = search needs
 
 returns-5 : tie.Need-returns-5
 returns-5 c =
-    let a = c .before .before .before .before .before .before .before .before .before .args in
+    let a = c .before .before .before .before .before .before .before .before .before .before .args in
     let top = c .before .before .before .before .newtop .given in
     let r = rounded-to (a .addr) (top .0 .0) (sym (top .1) ∙ c .before .before .before .before .before .before .checked-page-up .ensures) in
     let to = r .0 in
     ap breakOf (c .accepted .ensures)
     ∙ ap (λ (x : ℕ). record { error = 0; value = 0; bss = some (record { start = a .range .start; end = x }) }) to
-    ∙ sym (shrinks (a .range) (a .addr) (a .free) (c .before .before .before .before .before .before .before .before .if1 .left) (c .before .before .before .before .before .before .before .if2 .left) (r .1) (omega arith) (omega arith))
+    ∙ sym (shrinks (a .setup) (a .range) (a .addr) (a .free) (c .before .before .before .before .before .before .before .before .if1 .left) (c .before .before .before .before .before .before .before .if2 .left) (r .1) (omega arith) (omega arith))
 
 add-if5 : tie.Need-add-if5
 add-if5 c = search needs
@@ -76,30 +79,31 @@ refused-requires-4 c κs = search needs
 
 returns-6 : tie.Need-returns-6
 returns-6 c =
-    let a = c .before .before .before .before .before .before .before .before .before .before .args in
+    let a = c .before .before .before .before .before .before .before .before .before .before .before .args in
     let top = c .before .before .before .before .before .newtop .given in
     let r = rounded-to (a .addr) (top .0 .0) (sym (top .1) ∙ c .before .before .before .before .before .before .before .checked-page-up .ensures) in
     let to = r .0 in
     ap breakOf (c .refused4 .ensures)
-    ∙ sym (short (a .range) (a .addr) (a .free) (c .before .before .before .before .before .before .before .before .before .if1 .left) (c .before .before .before .before .before .before .before .before .if2 .left) (r .1) (omega arith) (omega arith) (omega arith))
+    ∙ sym (short (a .setup) (a .range) (a .addr) (a .free) (c .before .before .before .before .before .before .before .before .before .if1 .left) (c .before .before .before .before .before .before .before .before .if2 .left) (r .1) (omega arith) (omega arith) (omega arith))
 
 accepted-requires-2 : tie.Need-accepted-requires-2
 accepted-requires-2 c κs = search needs
 
 returns-7 : tie.Need-returns-7
 returns-7 c =
-    let a = c .before .before .before .before .before .before .before .before .before .before .args in
+    let a = c .before .before .before .before .before .before .before .before .before .before .before .args in
     let top = c .before .before .before .before .before .newtop .given in
     let r = rounded-to (a .addr) (top .0 .0) (sym (top .1) ∙ c .before .before .before .before .before .before .before .checked-page-up .ensures) in
     let to = r .0 in
     ap breakOf (c .accepted2 .ensures)
     ∙ ap (λ (x : ℕ). record { error = 0; value = 0; bss = some (record { start = a .range .start; end = x }) }) to
-    ∙ sym (grows (a .range) (a .addr) (a .free) (c .before .before .before .before .before .before .before .before .before .if1 .left) (c .before .before .before .before .before .before .before .before .if2 .left) (r .1) (omega arith) (omega arith) (omega arith))
+    ∙ sym (grows (a .setup) (a .range) (a .addr) (a .free) (c .before .before .before .before .before .before .before .before .before .if1 .left) (c .before .before .before .before .before .before .before .before .if2 .left) (r .1) (omega arith) (omega arith) (omega arith))
 
 pub moved-spec : {M : Type 1} → statement M
 moved-spec =
     tie.close
     (tie.spec
+    limit-requires
     returns
     refused-requires
     returns-2

@@ -12,8 +12,11 @@ use Rattle.spec.specs.Tests.{_is_, sum}
 use Rattle.spec.specs.Book.{free, pageCount}
 use Rattle.spec.specs.Exec.{imageError, startPieces, argsOf, argsError}
 use Rattle.spec.specs.Machine.{start, Call, outcome, plainly, weighStart}
-use Rattle.spec.specs.World.{State, taken, leave, Does}
+use Rattle.spec.specs.World.{State, taken, setProc, leave, Does}
+use Rattle.spec.specs.declared.Setup.{Setup}
 use Rattle.spec.specs.declared.Answer.{Answer}
+use Rattle.spec.specs.declared.Answer.the-variants.{Regs}
+use Rattle.spec.proofs.Setups.{setup-means}
 use Rattle.laws.proofs.Record.{Whole}
 use Rattle.records.proofs.Whole.{whole-procs}
 use Rattle.args.specs.declared.ArgsSize.{ArgsSize}
@@ -21,7 +24,10 @@ use Rattle.args.proofs.Size.{size-number}
 use Rattle.exec.specs.declared.Plan.{Plan}
 use Rattle.exec.proofs.Planned.{plan-number, plan-accepted}
 use Rattle.front.specs.Numbers.{stateOf, call, beginError}
+use Rattle.front.proofs.States.{state-is}
 use Rattle.front.proofs.First.{Passed, begin-none, sizes-words}
+use Rattle.install.specs.Installing.{Installable}
+use Rattle.install.proofs.Installed.{plan-record}
 use Rattle.start.proofs.Weighing.{weigh-args, weigh-image, weigh-short, weigh-fits, start-refused, start-goes, free-empty}
 use Rattle.start.proofs.start.Statement.{statement}
 use Rattle.start.proofs.start.Tie as tie
@@ -32,7 +38,10 @@ module _ (c : tie.After-begin-error) where
   begin = c .before .before .before .before .before .before .before .before .before .before
 
   abbrev state : State
-  state = stateOf (now (begin .args .frames)) (now (begin .args .book)) (begin .args .procs)
+  state = stateOf (begin .args .setup) (now (begin .args .frames)) (now (begin .args .book)) (begin .args .procs)
+
+  abbrev setup : Setup
+  setup = begin .args .setup
 
   abbrev number : ℕ
   number = begin .args .number
@@ -74,7 +83,10 @@ args-size-requires : tie.Need-args-size-requires
 args-size-requires c κs = search needs
 
 plan-of-requires : tie.Need-plan-of-requires
-plan-of-requires c κs = search needs
+plan-of-requires c κs =
+    let n = c .before in
+    let d = n .before in
+    setup-means (setup d) (begin-none (state d) (number d) (fits d) (sym (first d) ∙ n .if1 .left) .0 .setup)
 
 free-count-requires : tie.Need-free-count-requires
 free-count-requires c κs = search needs
@@ -91,7 +103,7 @@ module _ (c : tie.After-free-count) where
   free-number = begin-none (state b) (number b) (fits b) (sym (first b) ∙ none .if1 .left)
 
   whole : Whole (begin b .args .procs)
-  whole = let g = begin b .good .1 .1 .0 .1 .1 .0 in whole-procs (begin b .args .procs) (g .0) (g .1 .1) (g .1 .0 .1)
+  whole = let g = begin b .good .1 .1 .1 .0 .1 .1 .0 in whole-procs (begin b .args .procs) (g .0) (g .1 .1) (g .1 .0 .1)
 
   abbrev frames : ℕ
   frames = free (now (begin b .args .book))
@@ -102,22 +114,22 @@ module _ (c : tie.After-free-count) where
   sums : sum (lengths b) ≡ length (bytes b)
   sums = eqb-true _ _ (free-number .0 .lengths)
 
-  args-number : c .before .before .before .args-size .result .error ≡ argsError args
-  args-number = ap (λ (r : ArgsSize). r .error) (c .before .before .before .args-size .ensures) ∙ size-number (bytes b) (lengths b) sums
+  args-number : c .before .before .before .args-size .result .error ≡ argsError (setup b) args
+  args-number = ap (λ (r : ArgsSize). r .error) (c .before .before .before .args-size .ensures) ∙ size-number (setup b) (bytes b) (lengths b) sums
 
   abbrev plan : Plan
   plan = c .before .before .plan-of .result
 
-  image-number : plan .number ≡ imageError (image b)
-  image-number = ap (λ (p : Plan). p .number) (c .before .before .plan-of .ensures) ∙ plan-number (image b)
+  image-number : plan .number ≡ imageError (setup b) (image b)
+  image-number = ap (λ (p : Plan). p .number) (c .before .before .plan-of .ensures) ∙ plan-number (setup b) (image b)
 
-  pages : imageError (image b) ≡ 0 → plan .pages ≡ pageCount (startPieces (image b))
-  pages e = ap (λ (p : Plan). p .pages) (c .before .before .plan-of .ensures ∙ plan-accepted (image b) e)
+  pages : imageError (setup b) (image b) ≡ 0 → plan .pages ≡ pageCount (startPieces (setup b) (image b))
+  pages e = ap (λ (p : Plan). p .pages) (c .before .before .plan-of .ensures ∙ plan-accepted (setup b) (image b) e)
 
   abbrev asked : Call
   asked = call (number b) (start (image b) (name b) (bytes b) (lengths b))
 
-  answers : (t : State) (a : Answer) → weighStart frames (image b) args ≡ a → t ≡ leave (state b) asked (outcome (plainly a)) → Does (state b) asked t (plainly a)
+  answers : (t : State) (a : Answer) → weighStart (setup b) frames (image b) args ≡ a → t ≡ leave (state b) asked (outcome (plainly a)) → Does (state b) asked t (plainly a)
   answers = start-goes (state b) (number b) (image b) (name b) (bytes b) (lengths b) (b .begin-error .result) (first b) (none .if1 .left)
 
 same-length-3 : tie.Need-same-length-3
@@ -127,7 +139,7 @@ same-length-4 : tie.Need-same-length-4
 same-length-4 c = search needs
 
 returns-2 : tie.Need-returns-2
-returns-2 c = let f = c .before .before in answers f (state (b f)) _ (weigh-args (frames f) (image (b f)) (args f) _ (args-number f) (c .if2 .taken)) refl
+returns-2 c = let f = c .before .before in answers f (state (b f)) _ (weigh-args (setup (b f)) (frames f) (image (b f)) (args f) _ (args-number f) (c .if2 .taken)) refl
 
 same-length-5 : tie.Need-same-length-5
 same-length-5 c = search needs
@@ -136,14 +148,14 @@ same-length-6 : tie.Need-same-length-6
 same-length-6 c = search needs
 
 -- where the arguments pass
-passed : (c : tie.Else2) → argsError (args (c .before .before)) ≡ 0
+passed : (c : tie.Else2) → argsError (setup (b (c .before .before))) (args (c .before .before)) ≡ 0
 passed c = sym (args-number (c .before .before)) ∙ c .if2 .left
 
 returns-3 : tie.Need-returns-3
 returns-3 c =
     let k = c .before .before in
     let f = k .before .before in
-    answers f (state (b f)) _ (weigh-image (frames f) (image (b f)) (args f) (passed k) _ (image-number f) (c .if3 .taken)) refl
+    answers f (state (b f)) _ (weigh-image (setup (b f)) (frames f) (image (b f)) (args f) (passed k) _ (image-number f) (c .if3 .taken)) refl
 
 same-length-7 : tie.Need-same-length-7
 same-length-7 c = search needs
@@ -152,7 +164,7 @@ same-length-8 : tie.Need-same-length-8
 same-length-8 c = search needs
 
 -- where the image is accepted
-accepted : (c : tie.Else3) → imageError (image (b (c .before .before .before .before))) ≡ 0
+accepted : (c : tie.Else3) → imageError (setup (b (c .before .before .before .before))) (image (b (c .before .before .before .before))) ≡ 0
 accepted c = sym (image-number (c .before .before .before .before)) ∙ c .if3 .left
 
 returns-4 : tie.Need-returns-4
@@ -161,29 +173,40 @@ returns-4 c =
     let k = u .before .before in
     let f = k .before .before in
     answers f (state (b f)) _
-    (weigh-short (frames f) (image (b f)) (args f) (passed k) (accepted u) (omega (arith, pages f (accepted u), f .free-count .ensures, c .if4 .taken))) refl
+    (weigh-short (setup (b f)) (frames f) (image (b f)) (args f) (passed k) (accepted u) (omega (arith, pages f (accepted u), f .free-count .ensures, c .if4 .taken))) refl
 
 -- where the free frames hold its pages
-room : (c : tie.Else4) → pageCount (startPieces (image (b (c .before .before .before .before .before .before)))) ≤ frames (c .before .before .before .before .before .before)
+room : (c : tie.Else4) → pageCount (startPieces (setup (b (c .before .before .before .before .before .before))) (image (b (c .before .before .before .before .before .before)))) ≤ frames (c .before .before .before .before .before .before)
 room c = let f = c .before .before .before .before .before .before in omega (arith, pages f (accepted (c .before .before)), f .free-count .ensures, c .if4 .left)
 
-install-requires : tie.Need-install-requires
-install-requires c κs =
-    let r = c .before .before in
-    let u = r .before .before in
-    let k = u .before .before in
-    let f = k .before .before in
+-- what may be installed
+installable : (c : tie.Else4) → let f = c .before .before .before .before .before .before in Installable (setup (b f)) (state (b f) .store) (number (b f)) (image (b f)) (plan f)
+installable c =
+    let u = c .before .before in
+    let f = u .before .before .before .before in
     let a = begin (b f) .args in
     let n = free-number f in
     record {
+      setup-ok = setup-means (setup (b f)) (n .0 .setup);
       sizes = sizes-words (now (a .frames)) (now (a .book)) (n .0 .sizes) .0;
       number = n .0 .number;
       empty = free-empty (state (b f)) (a .number) (fits (b f)) (whole f) (n .0) (n .1);
       planned = f .before .before .plan-of .ensures;
       accepted = accepted u;
-      args = record { sums = sums f; passed = passed k };
-      room = room r;
+      room = room c;
     }
+
+install-with-requires : tie.Need-install-with-requires
+install-with-requires c κs =
+    let r = c .before .before in
+    let k = r .before .before .before .before in
+    (installable r, (sums (k .before .before), passed k))
+
+record-of-requires : tie.Need-record-of-requires
+record-of-requires c κs = search needs
+
+with-proc-requires : tie.Need-with-proc-requires
+with-proc-requires c κs = installable (c .before .before .before .before .before .before .before .before) .number
 
 same-length-9 : tie.Need-same-length-9
 same-length-9 c = search needs
@@ -193,14 +216,15 @@ same-length-10 c = search needs
 
 returns-5 : tie.Need-returns-5
 returns-5 c =
-    let w = c .before .before .before .before in
+    let w = c .before .before .before .before .before .before in
     let r = w .before .before .before in
     let u = r .before .before in
     let k = u .before .before in
     let f = k .before .before in
-    answers f _ (w .install .result .answer)
-    (weigh-fits (frames f) (image (b f)) (args f) (passed k) (accepted u) (room r) ∙ sym (w .install .ensures .1))
-    (w .install .ensures .0 ∙ ap (λ (x : Answer). leave (state (b f)) (asked f) (outcome (plainly x))) (sym (w .install .ensures .1)))
+    answers f _ _
+    (weigh-fits (setup (b f)) (frames f) (image (b f)) (args f) (passed k) (accepted u) (room r) ∙ ap Regs (sym (w .install-with .ensures .1)))
+    (state-is _ _ _ _ _ (w .install-with .ensures .0)
+    (c .with-proc .ensures ∙ ap (setProc (begin (b f) .args .procs) (number (b f))) (c .before .record-of .ensures ∙ plan-record _ _ _ _ (installable r) (name (b f)))))
 
 pub start-spec : {M : Type 1} → statement M
 start-spec =
@@ -223,7 +247,9 @@ start-spec =
     same-length-7
     same-length-8
     returns-4
-    install-requires
+    install-with-requires
+    record-of-requires
+    with-proc-requires
     same-length-9
     same-length-10
     returns-5)

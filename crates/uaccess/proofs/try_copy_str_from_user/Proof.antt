@@ -7,7 +7,7 @@ use mathlib.Core.Bool.{true, false}
 use lib.ListN.{length}
 use denote.Ref.{now}
 use borrow.Rule.Slice.PartMut.{putMid, mid-len}
-use Rattle.spec.specs.Numbers.{uaddrtop}
+use Rattle.spec.specs.Numbers.{maxTop}
 use Rattle.spec.specs.Frames.{Mem, memOf}
 use Rattle.spec.specs.Access.{userRangeOk, byteOf, bytesAt, copyStr}
 use Rattle.spec.proofs.Bools.{not-true, un-not}
@@ -24,12 +24,12 @@ use Rattle.uaccess.proofs.try_copy_str_from_user.Statement.{statement}
 use Rattle.uaccess.proofs.try_copy_str_from_user.Tie as tie
 
 abbrev Inv-loop : tie.InvT-loop
-Inv-loop frames book tags bases table number dst₀ src n₀ dst n =
+Inv-loop setup frames book tags bases table number dst₀ src n₀ dst n =
     let mem : Mem = memOf (store frames book) number in
-    (n ≤ length dst) × (length dst ≡ length dst₀) × (src + n < 2 ^ 64) × (dst ≡ mix (bytesAt mem src (length dst₀)) dst₀ n) × (copyStr mem dst₀ src ≡ copyFrom mem dst₀ src n)
+    (n ≤ length dst) × (length dst ≡ length dst₀) × (src + n < 2 ^ 64) × (dst ≡ mix (bytesAt mem src (length dst₀)) dst₀ n) × (copyStr setup mem dst₀ src ≡ copyFrom setup mem dst₀ src n)
 
 abbrev μ-loop : tie.MeasureT-loop
-μ-loop frames book tags bases table number dst₀ src n₀ dst n = length dst - n
+μ-loop setup frames book tags bases table number dst₀ src n₀ dst n = length dst - n
 
 abbrev memory : tie.Start Inv-loop μ-loop → Mem
 memory c = memOf (store (now (c .args .frames)) (now (c .args .book))) (c .args .number)
@@ -42,11 +42,11 @@ module _ (c : tie.Else1 Inv-loop μ-loop) where
   abbrev n : ℕ
   n = c .before .before .before .loop .n
 
-  ok : userRangeOk (memory start) false (start .args .src + n) 1 ≡ true
+  ok : userRangeOk (start .args .setup) (memory start) false (start .args .src + n) 1 ≡ true
   ok = sym (c .before .user-range-ok .ensures (now (start .args .frames))) ∙ un-not _ (c .if1 .left)
 
-  top : start .args .src + n + 1 ≤ uaddrtop
-  top = range-means (memory start) false (start .args .src + n) 1 ok .top
+  top : start .args .src + n + 1 ≤ maxTop
+  top = omega (arith, start .pre .1, range-means (start .args .setup) (memory start) false (start .args .src + n) 1 ok .top)
 
 -- where the part that the page fills is known
 module _ (c : tie.After-in-page Inv-loop μ-loop) where
@@ -80,17 +80,17 @@ module _ (c : tie.After-copy-to-nul Inv-loop μ-loop) where
   left : putMid (n (at .before)) (n (at .before) + chunk at - n (at .before)) (c .before .before .before .before .before .before .before .loop .dst) (c .copy-to-nul .last .0)
       ≡ mix (bytesAt (memory whole) (whole .args .src) (length (now (whole .args .dst)))) (now (whole .args .dst)) (n (at .before) + k)
   left =
-      str-part (memory whole) (now (whole .args .dst)) (whole .args .src) (n (at .before)) (chunk at) (room at) (ok (at .before)) (page at) k count
+      str-part (whole .args .setup) (whole .pre .1) (memory whole) (now (whole .args .dst)) (whole .args .src) (n (at .before)) (chunk at) (room at) (ok (at .before)) (page at) k count
       _ _ _ (c .before .before .before .before .before .before .before .loop .inv .3) (c .before .before .user-bytes .ensures) (c .copy-to-nul .ensures .1)
 
 loop-holds : tie.Need-loop-holds Inv-loop μ-loop
-loop-holds c = let s = c .before .before .before in (omega arith, refl, omega arith, mix-none _ _, str-none (memory s) (now (s .args .dst)) (s .args .src))
+loop-holds c = let s = c .before .before .before in (omega arith, refl, omega arith, mix-none _ _, str-none (s .args .setup) (s .pre .1) (memory s) (now (s .args .dst)) (s .args .src))
 
 add-va : tie.Need-add-va Inv-loop μ-loop
 add-va c = omega (arith, c .before .loop .inv .2)
 
 user-range-ok-requires : tie.Need-user-range-ok-requires Inv-loop μ-loop
-user-range-ok-requires c κs = c .before .before .before .before .before .pre .1
+user-range-ok-requires c κs = (c .before .before .before .before .before .pre .0 .1, c .before .before .before .before .before .pre .1)
 
 same-length : tie.Need-same-length Inv-loop μ-loop
 same-length c = omega arith
@@ -99,7 +99,7 @@ returns : tie.Need-returns Inv-loop μ-loop
 returns c =
     let s = c .before .before .before .before .before .before .before in
     let l = c .before .before .before .loop in
-    sym (l .inv .4 ∙ str-bad (memory s) (now (s .args .dst)) (s .args .src) (l .n) (omega arith) (sym (c .before .user-range-ok .ensures (now (s .args .frames))) ∙ not-true _ (c .if1 .taken))
+    sym (l .inv .4 ∙ str-bad (s .args .setup) (s .pre .1) (memory s) (now (s .args .dst)) (s .args .src) (l .n) (omega arith) (sym (c .before .user-range-ok .ensures (now (s .args .frames))) ∙ not-true _ (c .if1 .taken))
     ∙ ap (copied false (l .n)) (sym (l .inv .3)))
 
 sub-in-page : tie.Need-sub-in-page Inv-loop μ-loop
@@ -116,7 +116,7 @@ user-bytes-requires c κs =
     let s = start (c .before) in
     let a = s .args in
     let va = a .src + n (c .before) in
-    (s .pre, (page c, range-cell (now (a .frames)) (now (a .frames)) (now (a .book)) (a .number) false va 1 va (ok (c .before)) (omega arith) (omega arith)))
+    (s .pre .0, (page c, range-cell (s .args .setup) (now (a .frames)) (now (a .frames)) (now (a .book)) (a .number) false va 1 va (ok (c .before)) (omega arith) (omega arith)))
 
 sub-copy-to-nul : tie.Need-sub-copy-to-nul Inv-loop μ-loop
 sub-copy-to-nul c = omega arith
@@ -147,7 +147,7 @@ returns-2 c =
     let s = whole d in
     let p = at d in
     sym (p .before .before .before .before .loop .inv .4
-    ∙ str-nul (memory s) (now (s .args .dst)) (s .args .src) (n (p .before)) (chunk p) (room p) (ok (p .before)) (page p) (k d) (count d) (c .if2 .taken)
+    ∙ str-nul (s .args .setup) (s .pre .1) (memory s) (now (s .args .dst)) (s .args .src) (n (p .before)) (chunk p) (room p) (ok (p .before)) (page p) (k d) (count d) (c .if2 .taken)
     ∙ ap (copied true (n (p .before) + k d)) (sym (left d)))
 
 loop-less : tie.Need-loop-less Inv-loop μ-loop
@@ -163,7 +163,7 @@ loop-again c =
       omega (arith, most d, page p, top (p .before)),
       left d,
       p .before .before .before .before .loop .inv .4
-          ∙ str-whole (memory s) (now (s .args .dst)) (s .args .src) (n (p .before)) (chunk p) (room p) (ok (p .before)) (page p) (k d) (count d) (c .if2 .left),
+          ∙ str-whole (s .args .setup) (s .pre .1) (memory s) (now (s .args .dst)) (s .args .src) (n (p .before)) (chunk p) (room p) (ok (p .before)) (page p) (k d) (count d) (c .if2 .left),
     )
 
 same-length-3 : tie.Need-same-length-3 Inv-loop μ-loop
@@ -173,7 +173,7 @@ returns-3 : tie.Need-returns-3 Inv-loop μ-loop
 returns-3 c =
     let s = c .before .before .before .before .before in
     let l = c .before .loop in
-    sym (l .inv .4 ∙ str-end (memory s) (now (s .args .dst)) (s .args .src) (l .n) (omega arith) (omega arith) ∙ ap (copied true (l .n)) (sym (l .inv .3)))
+    sym (l .inv .4 ∙ str-end (s .args .setup) (s .pre .1) (memory s) (now (s .args .dst)) (s .args .src) (l .n) (omega arith) (omega arith) ∙ ap (copied true (l .n)) (sym (l .inv .3)))
 
 pub try-copy-str-from-user-spec : {M : Type 1} → statement M
 try-copy-str-from-user-spec =

@@ -6,6 +6,8 @@ use denote.Ref.{now}
 use lib.ListN.{length}
 use borrow.Author.Needs.{needs}
 use borrow.Author.Tests.{not-true, not-false}
+use Rattle.spec.specs.Numbers.{SetupOk}
+use Rattle.spec.proofs.Setups.{setup-means}
 use Rattle.spec.specs.Book.{free}
 use Rattle.spec.specs.Machine.{Ask, try-copy-str-from-user, Reply, outcome, weigh}
 use Rattle.spec.specs.World.{State, view, leave, Does}
@@ -32,10 +34,13 @@ module _ (c : tie.Else1) where
   start = c .before .before .before .before .before .before .before .before
 
   abbrev state : State
-  state = stateOf (now (start .args .frames)) (now (start .args .book)) (start .args .procs)
+  state = stateOf (start .args .setup) (now (start .args .frames)) (now (start .args .book)) (start .args .procs)
 
   passed : Passed state (start .args .number) true
   passed = plain-none state (start .args .number) true (sym (c .before .plain-ready .ensures .0) ∙ c .if1 .left) .0
+
+  accepted : SetupOk (start .args .setup)
+  accepted = setup-means (start .args .setup) (passed .setup)
 
   sizes : length (now (start .args .frames)) ≡ 4096 * length (now (start .args .book))
   sizes = sizes-words (now (start .args .frames)) (now (start .args .book)) (passed .sizes) .0
@@ -48,7 +53,7 @@ module _ (c : tie.Else1) where
   answers = plain-goes state (start .args .number) asked (c .before .plain-ready .result) refl (c .before .plain-ready .ensures .0) (c .if1 .left)
 
 try-copy-str-from-user-requires : tie.Need-try-copy-str-from-user-requires
-try-copy-str-from-user-requires c κs = let i = c .before .before .before .before in (sizes i, i .before .plain-ready .ensures .1 (i .if1 .left))
+try-copy-str-from-user-requires c κs = let i = c .before .before .before .before in ((sizes i, i .before .plain-ready .ensures .1 (i .if1 .left)), accepted i)
 
 same-length : tie.Need-same-length
 same-length c = search needs

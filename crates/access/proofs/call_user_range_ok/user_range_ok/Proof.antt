@@ -1,11 +1,15 @@
 -- `user_range_ok` meets its contract: the range's test is 1 or 0.
+use mathlib.Core.Bool.{true}
 use mathlib.Core.Path.{_≡_, refl, sym, _∙_}
 use denote.Ref.{now}
+use Rattle.spec.specs.Numbers.{SetupOk}
+use Rattle.spec.proofs.Setups.{setup-means}
 use Rattle.spec.specs.Book.{free}
 use Rattle.spec.specs.Machine.{Ask, user-range-ok, Reply, outcome, weigh}
 use Rattle.spec.specs.World.{State, view, leave, Does}
 use Rattle.sound.proofs.Lookup.{blank-zeros}
 use Rattle.front.specs.Numbers.{stateOf, call}
+use Rattle.front.proofs.First.{plain-none}
 use Rattle.front.proofs.Answers.{plain-refused, plain-goes}
 use Rattle.access.proofs.Access.{range-yes, range-no}
 use Rattle.access.proofs.call_user_range_ok.user_range_ok.Statement.{statement}
@@ -26,7 +30,10 @@ module _ (c : tie.Else1) where
   start = c .before .before .before .before .before .before .before
 
   abbrev state : State
-  state = stateOf (now (start .args .frames)) (now (start .args .book)) (start .args .procs)
+  state = stateOf (start .args .setup) (now (start .args .frames)) (now (start .args .book)) (start .args .procs)
+
+  accepted : SetupOk (start .args .setup)
+  accepted = setup-means (start .args .setup) (plain-none state (start .args .number) true (sym (c .before .plain-ready .ensures .0) ∙ c .if1 .left) .0 .setup)
 
   abbrev asked : Ask
   asked = user-range-ok (start .args .addr) (start .args .len) (start .args .write)
@@ -36,7 +43,7 @@ module _ (c : tie.Else1) where
   answers = plain-goes state (start .args .number) asked (c .before .plain-ready .result) refl (c .before .plain-ready .ensures .0) (c .if1 .left)
 
 user-range-ok-requires : tie.Need-user-range-ok-requires
-user-range-ok-requires c κs = let i = c .before .before .before in i .before .plain-ready .ensures .1 (i .if1 .left)
+user-range-ok-requires c κs = let i = c .before .before .before in (i .before .plain-ready .ensures .1 (i .if1 .left), accepted i)
 
 returns-2 : tie.Need-returns-2
 returns-2 c =

@@ -21,10 +21,10 @@ same-length : tie.Need-same-length
 same-length c = search needs
 
 returns : tie.Need-returns
-returns c = λ frames.
+returns c = λ setup frames.
     let r = c .before .before .before .before in
     let a = r .before .before .before in
-    state-is _ _ _ _ (r .release-owner .ensures frames) (c .with-proc .ensures ∙ ap (setProc (a .args .procs) (a .args .number)) (c .before .zero-proc .ensures))
+    state-is _ _ _ _ _ (r .release-owner .ensures frames) (c .with-proc .ensures ∙ ap (setProc (a .args .procs) (a .args .number)) (c .before .zero-proc .ensures))
 
 pub forget-spec : {M : Type 1} → statement M
 forget-spec =

@@ -16,7 +16,7 @@ use Rattle.access.proofs.try_copy_str_from_user as work
 use Rattle.access.proofs.try_copy_str_from_user.Symbol as work-def
 use Rattle.access.proofs.try_copy_str_from_user.Met as work-thm
 use Rattle.holthrimi.proofs.Locals.{ok, enters}
-use Rattle.holthrimi.proofs.Params.{Par, bytes, bytes-mut, number, records, words, spells, all-tell, all-fit}
+use Rattle.holthrimi.proofs.Params.{Par, bytes, bytes-mut, number, records, setup, words, spells, all-tell, all-fit}
 use Rattle.holthrimi.proofs.Telling.{Setting, setting, asked, walks, relent, arg}
 use Rattle.holthrimi.proofs.Looked.{exported}
 use Rattle.holthrimi.proofs.reads.holthrimi_try_copy_str_from_user.Key.{name as #f}
@@ -24,12 +24,12 @@ use Rattle.holthrimi.proofs.reads.holthrimi_try_copy_str_from_user as f
 use Rattle.holthrimi.proofs.reads.holthrimi_try_copy_str_from_user.Statement as stated
 use Rattle.holthrimi.proofs.reads.holthrimi_try_copy_str_from_user.Code as code
 
--- the parameters besides frames, book and records; and all
+-- the parameters besides setup, frames, book and records; and all
 abbrev others : List (Par 4)
 others = number ∷ bytes-mut 3 tt ∷ number ∷ []
 
 abbrev ps : List (Par 4)
-ps = bytes 0 tt ∷ words 1 tt ∷ records 2 tt ∷ others
+ps = setup ∷ bytes 0 tt ∷ words 1 tt ∷ records 2 tt ∷ others
 
 module _ {M : Type 1} (𝓤 : URA M) (H : Heap 𝓤) (Z : Setting 𝓤 H) where
   abbrev Work : Contract 𝓤
@@ -43,11 +43,11 @@ module _ {M : Type 1} (𝓤 : URA M) (H : Heap 𝓤) (Z : Setting 𝓤 H) where
       qed (Z .W) (raw (onEntry 𝓤 H (Z .A) f.signature κs qs a _)
       ∷ []) ∵ enters ! (Z .C) (Z .Λ) code.function _ _ (all-fit κs ps a are) (λ ls.
       exported 𝓤 H Z 1 others κs qs a
-      (call (a .1 .1 .1 .0) (try-copy-str-from-user ((a .1 .1 .1 .1 .0) .now) (a .1 .1 .1 .1 .1 .0))) (λ xs. xs .1 .0)
-      work-def.name Work knows (asked 1 others κs qs a) (id⊢ 𝓤 _) (λ v. id⊢ 𝓤 _) 7 8 ok ok
-      (λ Γ. step (λ z. relent ! 5 9 10 (a .1 .1 .1 .1 .0) (are .1 .1 .1 .1 .0 .0 .1 .0) (ok, ok, ok, ok, ok) $
+      (call (a .1 .1 .1 .1 .0) (try-copy-str-from-user ((a .1 .1 .1 .1 .1 .0) .now) (a .1 .1 .1 .1 .1 .1 .0))) (λ xs. xs .1 .0)
+      work-def.name Work knows (asked 1 others κs qs a) (id⊢ 𝓤 _) (λ v. id⊢ 𝓤 _) 8 9 ok ok
+      (λ Γ. step (λ z. relent ! 6 10 11 (a .1 .1 .1 .1 .1 .0) (are .1 .1 .1 .1 .1 .0 .0 .1 .0) (ok, ok, ok, ok, ok) $
       z))
-      (λ Γ. arg ! 1 ok (arg ! 2 ok (arg ! 7 ok (arg ! 4 ok (arg ! 10 ok (arg ! 6 ok (no-more !)))))))
+      (λ Γ. arg ! 1 ok (arg ! 2 ok (arg ! 3 ok (arg ! 8 ok (arg ! 5 ok (arg ! 11 ok (arg ! 7 ok (no-more !))))))))
       (ok, (λ v. (ok, ok)), (λ v u. (ok, tt)))))
 
 pub holthrimi-try-copy-str-from-user-spec : {M : Type 1} → stated.statement M

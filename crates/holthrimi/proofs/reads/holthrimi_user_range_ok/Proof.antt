@@ -16,7 +16,7 @@ use Rattle.access.proofs.user_range_ok as work
 use Rattle.access.proofs.user_range_ok.Symbol as work-def
 use Rattle.access.proofs.user_range_ok.Met as work-thm
 use Rattle.holthrimi.proofs.Locals.{ok, enters}
-use Rattle.holthrimi.proofs.Params.{Par, bytes, flag, number, records, words, spells, all-tell, all-fit}
+use Rattle.holthrimi.proofs.Params.{Par, bytes, flag, number, records, setup, words, spells, all-tell, all-fit}
 use Rattle.holthrimi.proofs.Telling.{Setting, setting, asked, walks, arg}
 use Rattle.holthrimi.proofs.Looked.{exported}
 use Rattle.holthrimi.proofs.reads.holthrimi_user_range_ok.Key.{name as #f}
@@ -24,12 +24,12 @@ use Rattle.holthrimi.proofs.reads.holthrimi_user_range_ok as f
 use Rattle.holthrimi.proofs.reads.holthrimi_user_range_ok.Statement as stated
 use Rattle.holthrimi.proofs.reads.holthrimi_user_range_ok.Code as code
 
--- the parameters besides frames, book and records; and all
+-- the parameters besides setup, frames, book and records; and all
 abbrev others : List (Par 3)
 others = number ∷ number ∷ number ∷ flag ∷ []
 
 abbrev ps : List (Par 3)
-ps = bytes 0 tt ∷ words 1 tt ∷ records 2 tt ∷ others
+ps = setup ∷ bytes 0 tt ∷ words 1 tt ∷ records 2 tt ∷ others
 
 module _ {M : Type 1} (𝓤 : URA M) (H : Heap 𝓤) (Z : Setting 𝓤 H) where
   abbrev Work : Contract 𝓤
@@ -43,10 +43,10 @@ module _ {M : Type 1} (𝓤 : URA M) (H : Heap 𝓤) (Z : Setting 𝓤 H) where
       qed (Z .W) (raw (onEntry 𝓤 H (Z .A) f.signature κs qs a _)
       ∷ []) ∵ enters ! (Z .C) (Z .Λ) code.function _ _ (all-fit κs ps a are) (λ ls.
       exported 𝓤 H Z 0 others κs qs a
-      (call (a .1 .1 .1 .0) (user-range-ok (a .1 .1 .1 .1 .0) (a .1 .1 .1 .1 .1 .0) (a .1 .1 .1 .1 .1 .1 .0))) (λ xs. [])
-      work-def.name Work knows (asked 0 others κs qs a) (id⊢ 𝓤 _) (λ v. id⊢ 𝓤 _) 8 9 ok ok
+      (call (a .1 .1 .1 .1 .0) (user-range-ok (a .1 .1 .1 .1 .1 .0) (a .1 .1 .1 .1 .1 .1 .0) (a .1 .1 .1 .1 .1 .1 .1 .0))) (λ xs. [])
+      work-def.name Work knows (asked 0 others κs qs a) (id⊢ 𝓤 _) (λ v. id⊢ 𝓤 _) 9 10 ok ok
       (λ Γ. step (λ z. z))
-      (λ Γ. arg ! 1 ok (arg ! 2 ok (arg ! 8 ok (arg ! 4 ok (arg ! 5 ok (arg ! 6 ok (arg ! 7 ok (no-more !))))))))
+      (λ Γ. arg ! 1 ok (arg ! 2 ok (arg ! 3 ok (arg ! 9 ok (arg ! 5 ok (arg ! 6 ok (arg ! 7 ok (arg ! 8 ok (no-more !)))))))))
       (ok, (λ v. (ok, ok)), (λ v u. (ok, tt)))))
 
 pub holthrimi-user-range-ok-spec : {M : Type 1} → stated.statement M

@@ -16,7 +16,7 @@ use Rattle.copy_user.proofs.copy_to_user as work
 use Rattle.copy_user.proofs.copy_to_user.Symbol as work-def
 use Rattle.copy_user.proofs.copy_to_user.Met as work-thm
 use Rattle.holthrimi.proofs.Locals.{ok, enters}
-use Rattle.holthrimi.proofs.Params.{Par, bytes, bytes-mut, number, records-mut, words-mut, spells, all-tell, all-fit}
+use Rattle.holthrimi.proofs.Params.{Par, bytes, bytes-mut, number, records-mut, setup, words-mut, spells, all-tell, all-fit}
 use Rattle.holthrimi.proofs.Telling.{Setting, setting, asked, walks, relent, arg}
 use Rattle.holthrimi.proofs.Kept.{exported}
 use Rattle.holthrimi.proofs.records.holthrimi_copy_to_user.Key.{name as #f}
@@ -24,12 +24,12 @@ use Rattle.holthrimi.proofs.records.holthrimi_copy_to_user as f
 use Rattle.holthrimi.proofs.records.holthrimi_copy_to_user.Statement as stated
 use Rattle.holthrimi.proofs.records.holthrimi_copy_to_user.Code as code
 
--- the parameters besides frames, book and records; and all
+-- the parameters besides setup, frames, book and records; and all
 abbrev others : List (Par 4)
 others = number ∷ number ∷ bytes 3 tt ∷ []
 
 abbrev ps : List (Par 4)
-ps = bytes-mut 0 tt ∷ words-mut 1 tt ∷ records-mut 2 tt ∷ others
+ps = setup ∷ bytes-mut 0 tt ∷ words-mut 1 tt ∷ records-mut 2 tt ∷ others
 
 module _ {M : Type 1} (𝓤 : URA M) (H : Heap 𝓤) (Z : Setting 𝓤 H) where
   abbrev Work : Contract 𝓤
@@ -43,12 +43,12 @@ module _ {M : Type 1} (𝓤 : URA M) (H : Heap 𝓤) (Z : Setting 𝓤 H) where
       qed (Z .W) (raw (onEntry 𝓤 H (Z .A) f.signature κs qs a _)
       ∷ []) ∵ enters ! (Z .C) (Z .Λ) code.function _ _ (all-fit κs ps a are) (λ ls.
       exported 𝓤 H Z 1 others κs qs a
-      (call (a .1 .1 .1 .0) (copy-to-user (a .1 .1 .1 .1 .0) ((a .1 .1 .1 .1 .1 .0) .now))) (λ xs. [])
-      work-def.name Work knows (asked 1 others κs qs a) (id⊢ 𝓤 _) (λ v. id⊢ 𝓤 _) 7 8 ok ok
-      (λ Γ. step (λ z. relent ! 1 9 10 (a .0) (are .0 .0 .1 .0) (ok, ok, ok, ok, ok) $
-      relent ! 2 11 12 (a .1 .0) (are .1 .0 .0 .1 .0) (ok, ok, ok, ok, ok) $
+      (call (a .1 .1 .1 .1 .0) (copy-to-user (a .1 .1 .1 .1 .1 .0) ((a .1 .1 .1 .1 .1 .1 .0) .now))) (λ xs. [])
+      work-def.name Work knows (asked 1 others κs qs a) (id⊢ 𝓤 _) (λ v. id⊢ 𝓤 _) 8 9 ok ok
+      (λ Γ. step (λ z. relent ! 2 10 11 (a .1 .0) (are .1 .0 .0 .1 .0) (ok, ok, ok, ok, ok) $
+      relent ! 3 12 13 (a .1 .1 .0) (are .1 .1 .0 .0 .1 .0) (ok, ok, ok, ok, ok) $
       z))
-      (λ Γ. arg ! 10 ok (arg ! 12 ok (arg ! 7 ok (arg ! 4 ok (arg ! 5 ok (arg ! 6 ok (no-more !)))))))
+      (λ Γ. arg ! 1 ok (arg ! 11 ok (arg ! 13 ok (arg ! 8 ok (arg ! 5 ok (arg ! 6 ok (arg ! 7 ok (no-more !))))))))
       (ok, (λ v. (ok, ok, ok)), (λ v u. (ok, tt)))))
 
 pub holthrimi-copy-to-user-spec : {M : Type 1} → stated.statement M

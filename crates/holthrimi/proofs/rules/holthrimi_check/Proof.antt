@@ -31,13 +31,14 @@ use denote.Triple.Call.{calls-at}
 use denote.Triple.Table.{entered, cited}
 use Rattle.spec.specs.declared.Procs.{Procs}
 use Rattle.spec.proofs.Procs as P
+use Rattle.spec.proofs.Setup as S
 use Rattle.spec.proofs.Procs.Laws as P′
 use Rattle.spec.specs.World.{State}
 use Rattle.front.specs.Numbers.{stateOf}
 use Rattle.holthrimi.specs.Rules.{bookError}
 use Rattle.holthrimi.proofs.Locals.{ok, enters, peek, fill, leaves}
-use Rattle.holthrimi.proofs.Params.{Par, bytes, words, records, spells, all-tell, all-fit}
-use Rattle.holthrimi.proofs.Telling.{asked, framed, walks, arg}
+use Rattle.holthrimi.proofs.Params.{Par, bytes, words, records, setup, spells, all-tell, all-fit}
+use Rattle.holthrimi.proofs.Telling.{of-setup, asked, framed, walks, arg}
 use Rattle.holthrimi.proofs.Looked.{looked}
 use Rattle.holthrimi.proofs.rules.book_error as work
 use Rattle.holthrimi.proofs.rules.book_error.Symbol as work-def
@@ -48,7 +49,7 @@ use Rattle.holthrimi.proofs.rules.holthrimi_check.Statement as stated
 use Rattle.holthrimi.proofs.rules.holthrimi_check.Code as code
 
 abbrev ps : List (Par 3)
-ps = bytes 0 tt ∷ words 1 tt ∷ records 2 tt ∷ []
+ps = setup ∷ bytes 0 tt ∷ words 1 tt ∷ records 2 tt ∷ []
 
 module _ {M : Type 1} (𝓤 : URA M) (H : Heap 𝓤) (A : Atoms 𝓤) (W : Given 𝓤 H A) (at-mem : Memory → SProp 𝓤) (run : Routine → Fun 𝓤)
     (C : Calls 𝓤 H) (Λ : Loops 𝓤 H) (fm : FmC 𝓤 H (W .laws) C) where
@@ -56,37 +57,37 @@ module _ {M : Type 1} (𝓤 : URA M) (H : Heap 𝓤) (A : Atoms 𝓤) (W : Given
   Work = tripleOf 𝓤 H A work.signature (work.spec 𝓤 H A at-mem run)
 
   abbrev Ws : Type 0
-  Ws = Unit {0} × (Unit {0} × (Unit {0} × Unit {0}))
+  Ws = Unit {0} × (Unit {0} × (Unit {0} × (Unit {0} × Unit {0})))
 
   -- what is said of the parameters at exit, and of the result
   abbrev last : State → ℕ → Ws → SProp 𝓤
-  last s r ws = sep 𝓤 (sem 𝓤 H A (fsep ftrue (fsep ftrue (fsep ftrue ftrue)))) (fact 𝓤 (r ≡ bookError s))
+  last s r ws = sep 𝓤 (sem 𝓤 H A (fsep ftrue (fsep ftrue (fsep ftrue (fsep ftrue ftrue))))) (fact 𝓤 (r ≡ bookError s))
 
   meets : Triple 𝓤 (C work-def.name) Work → Meets 𝓤 H A f.signature (WpFn 𝓤 H C Λ code.function) (f.spec 𝓤 H A at-mem run)
   meets knows =
       walks 𝓤 H A f.signature (WpFn 𝓤 H C Λ code.function) (f.spec 𝓤 H A at-mem run) (λ κs. spells κs ps) (λ κs. all-tell κs ps)
       (λ κs qs bounds a g are.
-      let s : State = stateOf (a .0 .now) (a .1 .0 .now) (a .1 .1 .0 .now) in
-      let h : Procs = a .1 .1 .0 .now in
+      let s : State = stateOf (a .0) (a .1 .0 .now) (a .1 .1 .0 .now) (a .1 .1 .1 .0 .now) in
+      let h : Procs = a .1 .1 .1 .0 .now in
       let tf : Fml = flft (κs .0) (qs .0) in
       let tb : Fml = flft (κs .1 .0) (qs .1 .0) in
       let tp : Fml = flft (κs .1 .1 .0) (qs .1 .1 .0) in
       qed W (((‵ tf ⊛ ‵ tb ⊛ ‵ tp ⊛ ‵ ftrue)
-      ⊛ ‵ (fsep (ShrSlice (named 0) (κs .0) u8 .own (a .0) (slice-vals (a .0)))
-      (fsep (ShrSlice (named 1) (κs .1 .0) u64 .own (a .1 .0) (slice-vals (a .1 .0)))
-      (fsep (ShrRef (named 2) (κs .1 .1 .0) P.the-row .own (a .1 .1 .0) (ptr-vals (a .1 .1 .0))) ftrue)))) ∷ []) ∵
+      ⊛ ‵ (fsep (S.the-row .own (a .0) (of-setup (a .0) ∷ [])) (fsep (ShrSlice (named 0) (κs .0) u8 .own (a .1 .0) (slice-vals (a .1 .0)))
+      (fsep (ShrSlice (named 1) (κs .1 .0) u64 .own (a .1 .1 .0) (slice-vals (a .1 .1 .0)))
+      (fsep (ShrRef (named 2) (κs .1 .1 .0) P.the-row .own (a .1 .1 .1 .0) (ptr-vals (a .1 .1 .1 .0))) ftrue))))) ∷ []) ∵
       enters ! C Λ code.function _ _ (all-fit κs ps a are) (λ ls.
       move ! (2 ∷ []) $ split ! $ split ! $ move ! (1 ∷ []) $ split ! $ move ! (1 ∷ []) $ split ! $
       -- [the records' token; true; book's; frames'; what the parameters own; the locals; that they may be freed]
-      move ! (4 ∷ []) $ fsplit ! $ move ! (1 ∷ []) $ fsplit ! $ move ! (1 ∷ []) $ fsplit ! $ fsplit3 ! $ drop ! $ drop ! $
-      -- [the `&`; true; what book owns, frames; the records' token; true; book's; frames'; the locals; ..]
-      move ! (0 ∷ 4 ∷ 8 ∷ []) $ looked ! 3 4 h (a .1 .1 .0 .ptr .0) (a .1 .1 .0 .ptr .1) ok ok (λ is.
+      move ! (4 ∷ []) $ fsplit ! $ move ! (1 ∷ []) $ fsplit ! $ move ! (1 ∷ []) $ fsplit ! $ move ! (1 ∷ []) $ fsplit ! $ fsplit3 ! $ drop ! $ drop ! $
+      -- [the `&`; true; what book owns, frames, the setup; the records' token; true; book's; frames'; the locals; ..]
+      move ! (0 ∷ 5 ∷ 9 ∷ []) $ looked ! 4 5 h (a .1 .1 .1 .0 .ptr .0) (a .1 .1 .1 .0 .ptr .1) ok ok (λ is.
       owned ! P.the-row (Is P.the-row) (LL.makes P.the-type P′.the-plain 𝓤 H A) h _ is $
-      move ! (0 ∷ 3 ∷ []) $ fjoin ! $ move ! (3 ∷ 0 ∷ []) $ fjoin ! $ move ! (3 ∷ 0 ∷ []) $ fjoin ! $
+      move ! (0 ∷ 3 ∷ []) $ fjoin ! $ move ! (3 ∷ 0 ∷ []) $ fjoin ! $ move ! (3 ∷ 0 ∷ []) $ fjoin ! $ move ! (3 ∷ 0 ∷ []) $ fjoin ! $
       move ! (4 ∷ 3 ∷ []) $ join ! $ move ! (4 ∷ 0 ∷ []) $ join ! $ join ! $ nothing ! $ move ! (1 ∷ 0 ∷ []) $ join ! $
       use1 W (raw (Work .pre (asked 0 [] κs qs a))) (id⊢ 𝓤 _) $
       -- [what the call asks; the locals; the records' token; that the locals may be freed]
-      calls-at ! fm Work knows _ (arg ! 1 ok (arg ! 2 ok (arg ! 4 ok (no-more !)))) (λ v.
+      calls-at ! fm Work knows _ (arg ! 1 ok (arg ! 2 ok (arg ! 3 ok (arg ! 5 ok (no-more !))))) (λ v.
       use1 W (later (some (λ (r : ℕ). ((‵ tf ⊛ ‵ tb ⊛ ‵ ftrue) ⊛ ‵ (u64 .own r (v ∷ []))) ⊛ some (λ (ws : Ws). raw (last s r ws))))) (id⊢ 𝓤 _) $
       await ! tt $ pick ! (λ r. split ! $ move ! (1 ∷ []) $ pick ! (λ ws. move ! (1 ∷ []) $ split ! $ move ! (1 ∷ []) $
       peeks ! u64 (Is u64) (shows 𝓤 H A u64) r (v ∷ []) (λ fits.

@@ -5,11 +5,11 @@ use Rattle.holthrimi.specs.Rules.{plannedOf}
 use Rattle.holthrimi.proofs.rules.holthrimi_plan.Statement.{statement}
 use Rattle.holthrimi.proofs.rules.holthrimi_plan.Tie as tie
 
-plan-of-requires : tie.Need-plan-of-requires
-plan-of-requires c κs = search needs
+plan-in-requires : tie.Need-plan-in-requires
+plan-in-requires c κs = search needs
 
 returns : tie.Need-returns
-returns c = let e = ap plannedOf (c .before .before .plan-of .ensures) in cc
+returns c = let e = ap plannedOf (c .before .before .plan-in .ensures) in cc
 
 pub holthrimi-plan-spec : {M : Type 1} → statement M
-holthrimi-plan-spec = tie.close (tie.spec plan-of-requires returns)
+holthrimi-plan-spec = tie.close (tie.spec plan-in-requires returns)

@@ -1,0 +1,2 @@
+-- Arguments in a buffer.
+pub mod Laid

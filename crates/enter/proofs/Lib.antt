@@ -1,2 +1,0 @@
--- What is free once the old pages are.
-pub mod Freed

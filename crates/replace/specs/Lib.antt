@@ -1,0 +1,2 @@
+-- A process that reads its arguments and enters an image.
+pub mod Becoming

@@ -1,0 +1,139 @@
+"""The ten calls, each with its numbers in their order."""
+from .layout import check_args, load, page_count, stack_size
+from .machine import DATA, PAGE, Ended, Refused, down, up
+from .memory import Record
+from .names import elem, kstrcpy
+from .segments import rule
+from .user import User
+
+
+def load30(setup, image):
+    """As load; 11 to 27 become 30."""
+    try:
+        return load(setup, image)
+    except Refused as r:
+        raise Refused(30 if r.args[0] <= 27 else r.args[0])
+
+
+class World(User):
+    """Frames, book and records, and the calls over them."""
+
+    def push_args(self, n, pc, top, args):
+        strings = b''.join(a + b'\0' for a in args)
+        first = top - len(strings)
+        argv = first // 8 * 8 - 8 * (len(args) + 1)
+        if argv < 0:
+            raise Ended(35)
+        pointers, at = b'', first
+        for a in args:
+            pointers += at.to_bytes(8, 'little')
+            at += len(a) + 1
+        pointers += bytes(8)
+        # Both are checked before either is written: an ended call leaves frame bytes as they were.
+        if not (self.range_ok(n, first, len(strings), True) and self.range_ok(n, argv, len(pointers), True)):
+            raise Ended(35)
+        self.write(n, first, strings)
+        self.write(n, argv, pointers)
+        return pc, argv // 16 * 16, len(args), argv
+
+    def install(self, n, name, loaded, args):
+        """Pages of a checked image for which there are frames, and its record."""
+        entry, segments, ranges, bss = loaded
+        for s in segments:
+            for page in range(down(s.vaddr), up(s.end), PAGE):
+                before = max(s.vaddr - page, 0)
+                file = s.file[max(page - s.vaddr, 0):max(page + PAGE - s.vaddr, 0)]
+                self.place(n, page, s.perm, bytes(before) + file + bytes(PAGE - before - len(file)))
+        for page in range(self.setup.low, self.setup.ustktop, PAGE):
+            self.place(n, page, DATA, bytes(PAGE))
+        self.records[n] = Record(ranges + [self.setup.stack], bss, kstrcpy(elem(name)))
+        return self.push_args(n, entry, self.setup.ustktop, args)
+
+    def start(self, n, name, image, args):
+        self.enter()
+        self.vacant(n)
+        check_args(self.setup, args)
+        loaded = load30(self.setup, image)
+        if page_count(self.setup, *loaded[2:]) > self.free():
+            raise Refused(33)
+        return self.install(n, name, loaded, args)
+
+    def replace(self, n, name, image, argv):
+        self.called(n)
+        loaded = load30(self.setup, image)
+        args = self.copy_argv(n, argv)
+        if page_count(self.setup, *loaded[2:]) > len(self.table[n]) + self.free():
+            raise Ended(33)
+        self.finish(n)
+        return self.install(n, name, loaded, args)
+
+    def copy_argv(self, n, argv):
+        args, strings, limit = [], 0, self.setup.arg_limit
+        while True:
+            pointer = int.from_bytes(self.read(n, argv + 8 * len(args), 8), 'little')
+            if pointer == 0:
+                return args
+            buffer = bytearray(limit)
+            k = self.copy_string(n, pointer, buffer)
+            if k is None:
+                raise Ended(35)
+            strings += k + 1
+            if k == limit or stack_size(strings, len(args) + 1) > limit:
+                raise Refused(33)
+            args.append(bytes(buffer[:k]))
+
+    def push(self, n, pc, top, args):
+        self.called(n)
+        if top % 16 != 0:
+            raise Refused(36)
+        check_args(self.setup, args)
+        return self.push_args(n, pc, top, args)
+
+    def brk(self, n, address):
+        self.called(n)
+        r = self.records[n]
+        value, new = rule(self.setup, r.bss, self.free(), address)
+        for page in range(new[1], r.bss[1], PAGE):
+            self.release(n, page)
+        for page in range(r.bss[1], new[1], PAGE):
+            self.place(n, page, DATA, bytes(PAGE))
+        r.bss = new
+        return value
+
+    def fork(self, parent, child, lent=None):
+        self.enter()
+        if lent is not None and 1 <= parent <= 16:
+            r = self.records[parent]
+            if lent != (r.segments if r else []):
+                raise Refused(2)
+        if not (1 <= parent <= 16 and 1 <= child <= 16):
+            raise Refused(3)
+        self.living(parent)
+        self.vacant(child)
+        r = self.records[parent]
+        if r.count() > self.free():
+            raise Refused(33)
+        for start, end, perm in r.parts():
+            for page in range(start, end, PAGE):
+                self.place(child, page, perm, self.content(parent, page))
+        self.records[child] = Record(list(r.segments), r.bss, r.name)
+
+    def end(self, n):
+        self.called(n)
+        self.finish(n)
+
+    def range(self, n, address, length, write):
+        self.called(n)
+        return self.range_ok(n, address, length, write)
+
+    def copy_from(self, n, address, length):
+        self.called(n)
+        return self.read(n, address, length)
+
+    def copy_to(self, n, address, data):
+        self.called(n)
+        self.write(n, address, data)
+
+    def string(self, n, address, buffer):
+        self.called(n)
+        return self.copy_string(n, address, buffer)

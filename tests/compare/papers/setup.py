@@ -1,0 +1,67 @@
+"""The machine's numbers: a set of four, its conditions, and the lines of a file that say one (request 5 of document 02)."""
+import re
+from typing import NamedTuple
+
+from .machine import DATA, PAGE, Refused
+
+NAMES = 'UTZERO', 'USTKTOP', 'USTKSIZE', 'UADDRTOP'
+LINES = re.compile(''.join(name + '=([1-9][0-9]{0,14})\n' for name in NAMES).encode())
+
+
+class Setup(NamedTuple):
+    """A set, in the order of its lines."""
+    utzero: int
+    ustktop: int
+    ustksize: int
+    uaddrtop: int
+
+    def ok(self):
+        """Whether it keeps every condition."""
+        return (all(number % PAGE == 0 for number in self)
+                and self.utzero >= PAGE and PAGE <= self.ustksize <= 65536
+                and self.ustksize < self.ustktop
+                and self.utzero + 8192 <= self.ustktop - self.ustksize
+                and self.ustktop <= self.uaddrtop <= 2**47)
+
+    def check(self):
+        """Refused 38."""
+        if not self.ok():
+            raise Refused(38)
+
+    @property
+    def low(self):
+        """Where the stack begins."""
+        return self.ustktop - self.ustksize
+
+    @property
+    def stack(self):
+        """The stack as a record's last segment."""
+        return self.low, self.ustktop, DATA
+
+    @property
+    def limit(self):
+        """What an image or a bss ends at, at most: one guard page lies above it."""
+        return self.low - PAGE
+
+    @property
+    def arg_limit(self):
+        return self.ustksize // 4
+
+
+# Document 01's own.
+DEPOSIT = Setup(65536, 2**47, 16384, 2**47)
+
+
+def read(text):
+    """The set that a file's bytes say; Refused 37, 38."""
+    said = LINES.fullmatch(text)
+    if not said:
+        raise Refused(37)
+    setup = Setup(*map(int, said.groups()))
+    setup.check()
+    return setup
+
+
+def written(setup):
+    """The bytes of a file that say a set."""
+    return ''.join('%s=%d\n' % line for line in zip(NAMES, setup)).encode()
