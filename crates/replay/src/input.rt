@@ -1,77 +1,45 @@
-// The lines of standard input.
-ghost use Prim.Native.Nat.{_≤_};
-ghost use lib.ListN.{length};
-use script::room;
+// The lines of standard input, in one buffer.
+use buffers::room;
+use script::asked::LINE_MAX;
+use session::Session;
 
-// How far the input is taken: the bytes of the buffer from `at` to `end` aren't yet, and `size` bytes of the line are. `whole`: the
-// line has all its bytes. `ended`: there is no more input.
-pub struct Input {
-    pub at: usize,
-    pub end: usize,
-    pub size: usize,
-    pub whole: bool,
-    pub ended: bool,
-}
+// The input's bytes: those of a line, with one more, by which a longer line is seen to be one, and those that are read at once.
+pub const INPUT_SIZE: usize = LINE_MAX + 1 + 65536;
 
-// With so much in the buffer, and nothing of it taken.
-fn filled(end: usize, size: usize, ended: bool) -> Input {
-    Input {
-        at: 0,
-        end,
-        size,
-        whole: ended,
-        ended,
-    }
-}
-
-// Before any input.
-pub(crate) fn start() -> Input {
-    filled(0, 0, false)
-}
-
-// Behind a line, with no bytes of the next one.
-pub(crate) fn before_line(i: Input) -> Input {
-    let mut next = i;
-    next.size = 0;
-    next.whole = false;
-    next
-}
-
-// Where the first line feed stands, or the length.
-fn feed(bytes: &[u8]) -> usize
-    ensures { λ r. ⌜ r ≤ length (now (bytes .entry)) ⌝ }
-{
-    let mut i = 0;
-    while i < bytes.len() {
-        if bytes[i] == b'\n' {
-            return i;
+// Where the line ends: at its line feed, or where the input that is there does.
+pub(crate) fn line_end(input: &[u8], s: Session) -> usize {
+    let end = room::least(s.end, input.len());
+    let mut at = s.at;
+    while at < end {
+        if input[at] == b'\n' {
+            return at;
         }
-        i += 1;
+        at += 1;
     }
-    i
+    end
 }
 
-// Takes bytes of the buffer up to the end of the line, or all there are. Of a line that is too long, the line keeps as much as it has
-// room for.
-fn take_bytes(buffer: &[u8], line: &mut [u8], i: Input) -> Input {
-    let bytes = room::part(buffer, i.at, i.end);
-    let n = feed(bytes);
-    let mut next = i;
-    next.size = room::put(line, i.size, room::first(bytes, n));
-    next.whole = n < bytes.len();
-    next.at = std::num::wrapping_add_usize(i.at, std::num::wrapping_add_usize(n, 1));
+// Behind the line that ends at `end`.
+pub(crate) fn behind(s: Session, end: usize) -> Session {
+    let mut next = s;
+    next.at = room::least(std::num::wrapping_add_usize(end, 1), s.end);
     next
 }
 
-// Takes bytes of the line from the buffer, which is filled first if nothing is left in it. A last line may lack its line feed.
-pub(crate) fn take(buffer: &mut [u8], line: &mut [u8], i: Input) -> Input {
-    if i.at < i.end {
-        return take_bytes(buffer, line, i);
-    }
-    let got = libc::read(libc::STDIN_FILENO, buffer);
-    let n = io::count(got, buffer);
-    if n == 0 {
-        return filled(0, i.size, true);
-    }
-    take_bytes(buffer, line, filled(n, i.size, false))
+// Reads input behind the first `kept` bytes, and answers where it ends.
+fn read_behind(input: &mut [u8], kept: usize) -> usize {
+    let rest = room::lent(input, kept, INPUT_SIZE);
+    let got = libc::read(libc::STDIN_FILENO, rest);
+    std::num::wrapping_add_usize(kept, io::count(got, rest))
+}
+
+// Reads more of a line, behind what there is of it. Of one that is too long no more is kept than shows it.
+pub(crate) fn read(input: &mut [u8], s: Session) -> Session {
+    let kept = room::least(room::shift(input, s.at, s.end), LINE_MAX + 1);
+    let end = read_behind(input, kept);
+    let mut next = s;
+    next.at = 0;
+    next.end = end;
+    next.ended = end == kept;
+    next
 }

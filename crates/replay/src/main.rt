@@ -1,174 +1,128 @@
 // Replays a script of calls from standard input, one call a line, and answers each line: docs/REPLAY.md has the form. A line is read
-// into what it asks (lines.rt), that is run (run.rt), and its answer is put (reply.rt).
-mod asked;
-mod held;
+// into what it asks (crate script), that is run (crate session), and its answer is written (crate replies).
 mod input;
-mod lines;
-mod reply;
-mod run;
-mod taken;
 
-use asked::Asked;
-use front::left::Left;
-use held::Held;
-use input::Input;
-use script::room;
+use buffers::room;
+use input::INPUT_SIZE;
+use script::asked::Asked;
+use script::asked::FRAMES_MAX;
+use script::asked::Kind;
+use script::taken::ARGS;
+use script::taken::BYTES_AT;
+use script::taken::List;
+use script::taken::SPACE_MAX;
+use session::BOOK_SIZE;
+use session::BOOK_WORDS;
+use session::FRAME_BYTES;
+use session::FRAMES_SIZE;
+use session::Session;
+use session::run;
 use spec::Procs;
-use taken::List;
+use spec::Setup;
 
-// The program's buffers: bytes of frames and words of their book; a file's bytes, with one more, by which a longer file is seen to be
-// one; the longest answer, 65,536 bytes in hex digits and the rest of its line; the bytes that are read at once; and a line's, with one
-// more, by which a longer line is seen to be one.
-type Frames = [u8; held::FRAMES_MAX * held::FRAME_BYTES];
-
-type Book = [u64; held::FRAMES_MAX];
-
-type Space = [u8; script::bytes::FILE_MAX + 1];
-
-type Out = [u8; 131136];
-
-type Texts = [u8; taken::TEXTS_MAX];
-
-type Read = [u8; 65536];
-
-type Line = [u8; script::words::LINE_MAX + 1];
-
-// What the program holds: what the script has made, and how far its input is read.
-struct Session {
-    procs: Procs,
-    held: Held,
-    input: Input,
-}
-
-// Writes an answer of so many bytes, if there is one, and the end of its line.
-fn write(out: &mut [u8], size: usize) {
-    if size == 0 {
-        return;
+// So many frames and no process, under the deposit machine's numbers.
+fn fresh(frames: u64, at: usize, end: usize, ended: bool) -> Session {
+    let n = room::least(frames as usize, FRAMES_MAX);
+    let p = procs::zero_proc();
+    let all = [p; 16];
+    Session {
+        procs: Procs { all },
+        setup: setup::deposit(),
+        bytes: FRAME_BYTES * n,
+        words: BOOK_WORDS * n,
+        lent_bytes: FRAME_BYTES * n,
+        lent_words: BOOK_WORDS * n,
+        at,
+        end,
+        ended,
     }
-    let end = room::put(out, size, b"\n");
-    io::write_all(libc::STDOUT_FILENO, room::first(out, end));
 }
 
-// Runs what a line asks, over as much of frames and book as is lent.
-fn run_lent(
-    frames: &mut [u8],
-    book: &mut [u64],
-    space: &mut Space,
-    texts: &Texts,
-    list: &List,
-    h: Held,
-    procs: Procs,
-    a: Asked,
-) -> Left {
-    let bytes = room::lent(frames, h.lent_bytes);
-    let words = room::lent_words(book, h.lent_words);
-    let setup = h.setup;
-    run::run(setup, bytes, words, space, texts, list, procs, a)
+// What is held for a line and behind it.
+fn after(s: Session, a: Asked) -> Session {
+    let mut next = s;
+    let kind = a.kind;
+    match kind {
+        Kind::Frames => fresh(a.number, s.at, s.end, s.ended),
+        Kind::Lend => {
+            next.lent_bytes = a.number as usize;
+            next.lent_words = a.second as usize;
+            next
+        }
+        Kind::Numbers => {
+            let setup = Setup {
+                utzero: a.number,
+                ustktop: a.second,
+                ustksize: a.third,
+                uaddrtop: a.fourth,
+            };
+            next.setup = setup;
+            next
+        }
+        _ => s,
+    }
 }
 
-// Runs what a line asks, writes its answer, if it has one, and leaves the records.
+// Runs what a line asks, and answers it.
 fn answer(
-    frames: &mut Frames,
-    book: &mut Book,
-    space: &mut Space,
-    out: &mut Out,
-    texts: &Texts,
+    frames: &mut [u8; FRAMES_SIZE],
+    book: &mut [u64; BOOK_SIZE],
+    space: &mut [u8; SPACE_MAX],
     list: &List,
-    h: Held,
-    procs: Procs,
+    s: Session,
     a: Asked,
-) -> Procs {
-    held::set(frames, book, h, a);
-    let left = run_lent(frames, book, space, texts, list, h, procs, a);
-    let next = left.procs;
+) -> Session {
+    run::set(book, a);
+    let left = run::run(frames, book, space, list, s, a);
+    let procs = left.procs;
     let answer = left.answer;
-    let words = room::first_words(book, h.words);
-    let size = reply::put_reply(
-        out,
-        room::first(frames, h.bytes),
-        words,
-        space,
-        next,
+    let mut next = s;
+    next.procs = procs;
+    replies::put_reply(
+        s.setup,
+        room::part(frames, 0, s.bytes),
+        room::first_words(book, s.words),
+        room::part(space, BYTES_AT, a.bytes),
+        procs,
         a,
         answer,
     );
-    write(out, size);
     next
 }
 
-// Takes a turn: reads if there is nothing left to take, takes up to the end of a line, and answers the line if it is whole.
+// Takes a turn: answers the next line, or reads more of it if it isn't whole. The last line may lack its line feed.
 fn turn(
-    frames: &mut Frames,
-    book: &mut Book,
-    space: &mut Space,
-    out: &mut Out,
-    texts: &mut Texts,
+    frames: &mut [u8; FRAMES_SIZE],
+    book: &mut [u64; BOOK_SIZE],
+    space: &mut [u8; SPACE_MAX],
     list: &mut List,
-    read: &mut Read,
-    line: &mut Line,
+    input: &mut [u8; INPUT_SIZE],
     s: Session,
 ) -> Session {
-    let procs = s.procs;
-    let held = s.held;
-    let before = s.input;
-    let input = input::take(read, line, before);
-    if !input.whole {
-        return Session { procs, held, input };
+    let end = input::line_end(input, s);
+    if (end == s.end) & !s.ended {
+        return input::read(input, s);
     }
-    let a = lines::read(held, space, texts, list, room::first(line, input.size));
-    let after = held::after(held, a);
-    let next = answer(frames, book, space, out, texts, list, after, procs, a);
-    Session {
-        procs: next,
-        held: after,
-        input: input::before_line(input),
-    }
-}
-
-// Takes turns until the input ends.
-fn play(
-    frames: &mut Frames,
-    book: &mut Book,
-    space: &mut Space,
-    out: &mut Out,
-    texts: &mut Texts,
-    list: &mut List,
-    read: &mut Read,
-    line: &mut Line,
-) {
-    let mut s = Session {
-        procs: run::no_process(),
-        held: held::fresh(0),
-        input: input::start(),
-    };
-    // A proved loop has to end, and nothing says that the input does: it has fewer bytes than this.
-    let mut left: u64 = u64::MAX;
-    while 0 < left {
-        if s.input.ended {
-            return;
-        }
-        s = turn(frames, book, space, out, texts, list, read, line, s);
-        left -= 1;
-    }
+    let line = room::part(input, s.at, end);
+    let a = script::taken::read(space, list, line, s.bytes, s.words);
+    let next = after(input::behind(s, end), a);
+    answer(frames, book, space, list, next, a)
 }
 
 fn main() {
-    let mut frames = [0u8; held::FRAMES_MAX * held::FRAME_BYTES];
-    let mut book = [0u64; held::FRAMES_MAX];
-    let mut space = [0u8; script::bytes::FILE_MAX + 1];
-    let mut out = [0u8; 131136];
-    let mut texts = [0u8; taken::TEXTS_MAX];
-    let mut list = [0u64; taken::ARGS];
-    let mut read = [0u8; 65536];
-    let mut line = [0u8; script::words::LINE_MAX + 1];
-    play(
-        &mut frames,
-        &mut book,
-        &mut space,
-        &mut out,
-        &mut texts,
-        &mut list,
-        &mut read,
-        &mut line,
-    );
+    let mut frames = [0u8; FRAMES_SIZE];
+    let mut book = [0u64; BOOK_SIZE];
+    let mut space = [0u8; SPACE_MAX];
+    let mut list = [0u64; ARGS];
+    let mut input = [0u8; INPUT_SIZE];
+    let mut s = fresh(0, 0, 0, false);
+    // A proved loop has to end, and nothing says that the input does: it has fewer bytes than this.
+    let mut left: u64 = u64::MAX;
+    while 0 < left {
+        if s.ended & (s.end <= s.at) {
+            return;
+        }
+        s = turn(&mut frames, &mut book, &mut space, &mut list, &mut input, s);
+        left -= 1;
+    }
 }

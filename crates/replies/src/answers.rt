@@ -1,80 +1,91 @@
 // The answers of calls.
-ghost use Prim.Native.Nat.{_≤_};
-ghost use lib.ListN.{length};
+use crate::texts::put;
 use crate::texts::put_bytes;
 use crate::texts::put_named;
-use script::room::put;
+use segment::Bss;
 use spec::Answer;
-use spec::UserRegs;
 
-// Puts the registers that a program is entered with.
-fn put_regs(out: &mut [u8], r: UserRegs) -> usize
-    ensures { λ n. ⌜ n ≤ length (now (out .exit)) ⌝ }
-{
-    let a = put_named(out, 0, b"ok pc=", r.pc);
-    let b = put_named(out, a, b" sp=", r.sp);
-    let c = put_named(out, b, b" argc=", r.argc);
-    put_named(out, c, b" argv=", r.argv)
+// Writes the registers that a program is entered with.
+fn put_regs(r: spec::UserRegs) {
+    put_named(b"ok pc=", r.pc);
+    put_named(b" sp=", r.sp);
+    put_named(b" argc=", r.argc);
+    put_named(b" argv=", r.argv);
 }
 
-// Puts a call's answer.
-pub fn put_answer(out: &mut [u8], a: Answer) -> usize
-    ensures { λ n. ⌜ n ≤ length (now (out .exit)) ⌝ }
-{
+// Writes a call's answer.
+pub(crate) fn put_answer(a: Answer) {
     match a {
-        Answer::Regs(r) => put_regs(out, r),
-        Answer::Value(v) => put_named(out, 0, b"ok ", v),
-        Answer::Done => put(out, 0, b"ok"),
-        Answer::Refused(n) => put_named(out, 0, b"refused ", n),
-        Answer::Ended(n) => put_named(out, 0, b"ended ", n),
+        Answer::Regs(r) => put_regs(r),
+        Answer::Value(v) => put_named(b"ok ", v),
+        Answer::Done => put(b"ok"),
+        Answer::Refused(n) => put_named(b"refused ", n),
+        Answer::Ended(n) => put_named(b"ended ", n),
     }
 }
 
-// Puts the answer of a range: yes or no.
-pub fn put_yes(out: &mut [u8], a: Answer) -> usize
-    ensures { λ n. ⌜ n ≤ length (now (out .exit)) ⌝ }
-{
+// Writes the answer of a range: yes or no.
+pub(crate) fn put_yes(a: Answer) {
     let Answer::Value(v) = a else {
-        return put_answer(out, a);
+        put_answer(a);
+        return;
     };
     if v == 1 {
-        return put(out, 0, b"ok yes");
+        put(b"ok yes");
+    } else {
+        put(b"ok no");
     }
-    put(out, 0, b"ok no")
 }
 
-// Puts the answer of a copy from user memory: its bytes, if they were copied.
-pub fn put_copied(out: &mut [u8], a: Answer, bytes: &[u8]) -> usize
-    ensures { λ n. ⌜ n ≤ length (now (out .exit)) ⌝ }
-{
-    let Answer::Done = a else {
-        return put_answer(out, a);
-    };
-    put_bytes(out, 0, b"ok ", bytes)
+// Writes the answer of a copy from user memory: its bytes, if they were copied.
+pub(crate) fn put_copied(a: Answer, bytes: &[u8]) {
+    put_answer(a);
+    if let Answer::Done = a {
+        put_bytes(bytes);
+    }
 }
 
-// Puts the answer of a string copy: its length, or 35, and the whole buffer as it is left.
-pub fn put_string(out: &mut [u8], a: Answer, bytes: &[u8]) -> usize
-    ensures { λ n. ⌜ n ≤ length (now (out .exit)) ⌝ }
-{
-    let end = put_answer(out, a);
+// Writes the answer of a string copy: its length, or 35, and the whole buffer as it is left.
+pub(crate) fn put_string(a: Answer, bytes: &[u8]) {
+    put_answer(a);
     match a {
-        Answer::Value(_) => put_bytes(out, end, b" ", bytes),
+        Answer::Value(_) => put_bytes(bytes),
         Answer::Refused(n) => {
             if n == spec::BAD_ADDRESS {
-                return put_bytes(out, end, b" ", bytes);
+                put_bytes(bytes);
             }
-            end
         }
-        _ => end,
+        _ => {}
     }
 }
 
-// Puts the answer of the break's rule: its value, and the bss's start and end.
-pub fn put_break(out: &mut [u8], value: u64, start: u64, end: u64) -> usize
-    ensures { λ n. ⌜ n ≤ length (now (out .exit)) ⌝ }
-{
-    let a = put_named(out, 0, b"ok ", value);
-    let b = put_named(out, a, b" ", start);
-    put_named(out, b, b" ", end)
+// Writes the bytes of a name.
+fn put_name(name: &[u8; 28]) {
+    put_copied(Answer::Done, name);
+}
+
+// Writes a name as a record keeps it.
+pub(crate) fn put_kept(bytes: &[u8]) {
+    let mut name = [0u8; 28];
+    kstr::kstrcpy(&mut name, bytes);
+    put_name(&name);
+}
+
+// Writes the answer of the break's rule: its value, and the bss's start and end.
+pub(crate) fn put_rule(setup: spec::Setup, bss: Bss, free: u64, addr: u64) {
+    if !setup::setup_ok(setup) {
+        put_answer(Answer::Refused(spec::SETUP));
+        return;
+    }
+    let b = segment::ibrk(setup, bss, addr, free);
+    if b.error != 0 {
+        put_answer(Answer::Refused(b.error));
+        return;
+    }
+    put_named(b"ok ", b.value);
+    let after = b.bss;
+    if let Bss::Set(r) = after {
+        put_named(b" ", r.start);
+        put_named(b" ", r.end);
+    }
 }

@@ -1,44 +1,21 @@
 // CRC-32, as in gzip, of records, book and frames, summed in parts: from all ones, with all ones added to the last sum. Two programs
 // whose sums agree after each call hold the same memory.
-ghost use Prim.Native.Nat.{_≤_};
-ghost use lib.ListN.{length};
-use script::room::put;
-use spec::Proc;
-use spec::Procs;
-use spec::UserSegment;
+use crate::texts::put;
 
-// The sum of nothing, and what is added to a sum at its end.
-const ONES: u32 = 4294967295;
+// The sum of nothing, and what is added to a sum at its end; and the polynomial.
+const ONES: u32 = 0xffff_ffff;
 
-// What four bits make of each half of a byte.
-const HALVES: [u32; 16] = [
-    0,
-    498536548,
-    997073096,
-    651767980,
-    1994146192,
-    1802195444,
-    1303535960,
-    1342533948,
-    3988292384,
-    4027552580,
-    3604390888,
-    3412177804,
-    2607071920,
-    2262029012,
-    2685067896,
-    3183342108,
-];
+const POLYNOMIAL: u32 = 0xedb8_8320;
 
-// The sum with four bits more, those at its low end added already.
-fn half(sum: u32) -> u32 {
-    let i = (sum % 16) as usize;
-    HALVES[i] ^ (sum / 16)
+// The sum with one bit more, that at its low end added already.
+fn bit(sum: u32) -> u32 {
+    sum / 2 ^ POLYNOMIAL * (sum % 2)
 }
 
 // The sum with one byte more.
 fn step(sum: u32, b: u8) -> u32 {
-    half(half(sum ^ (b as u32)))
+    let half = bit(bit(bit(bit(sum ^ (b as u32)))));
+    bit(bit(bit(bit(half))))
 }
 
 // The sum with more bytes.
@@ -77,7 +54,7 @@ fn words_sum(sum: u32, words: &[u64]) -> u32 {
 }
 
 // The sum with sixteen segments: start, end and permission of each.
-fn segments_sum(sum: u32, segments: [UserSegment; 16]) -> u32 {
+fn segments_sum(sum: u32, segments: [spec::UserSegment; 16]) -> u32 {
     let mut r = sum;
     let mut i = 0;
     while i < 16 {
@@ -91,7 +68,7 @@ fn segments_sum(sum: u32, segments: [UserSegment; 16]) -> u32 {
 }
 
 // The sum with a record: its segments, its name, and its bss.
-fn record_sum(sum: u32, p: Proc) -> u32 {
+fn record_sum(sum: u32, p: spec::Proc) -> u32 {
     let segments = p.segments;
     let name = p.text;
     let a = bytes_sum(segments_sum(sum, segments), &name);
@@ -99,7 +76,7 @@ fn record_sum(sum: u32, p: Proc) -> u32 {
 }
 
 // The sum with all records.
-fn records_sum(sum: u32, procs: Procs) -> u32 {
+fn records_sum(sum: u32, procs: spec::Procs) -> u32 {
     let all = procs.all;
     let mut r = sum;
     let mut i = 0;
@@ -111,25 +88,17 @@ fn records_sum(sum: u32, procs: Procs) -> u32 {
     r
 }
 
-fn wide(x: u32) -> u64 {
-    x as u64
-}
-
-// Puts a name and a sum, at its end, in eight hex digits.
-fn put_sum(out: &mut [u8], at: usize, name: &[u8], sum: u32) -> usize
-    ensures { λ n. ⌜ n ≤ length (now (out .exit)) ⌝ }
-{
+// Writes a name and a sum in eight hex digits.
+fn put_sum(name: &[u8], sum: u32) {
     let mut digits = [0u8; 16];
-    let count = io::hex(wide(sum ^ ONES), 8, &mut digits);
-    let end = put(out, at, name);
-    put(out, end, &digits[..count])
+    let count = io::hex(sum as u64, 8, &mut digits);
+    put(name);
+    put(&digits[..count]);
 }
 
-// Puts the sums of all records, of book words and of the bytes of frames.
-pub fn put_sums(out: &mut [u8], procs: Procs, book: &[u64], frames: &[u8]) -> usize
-    ensures { λ n. ⌜ n ≤ length (now (out .exit)) ⌝ }
-{
-    let a = put_sum(out, 0, b"records=", records_sum(ONES, procs));
-    let b = put_sum(out, a, b" book=", words_sum(ONES, book));
-    put_sum(out, b, b" frames=", bytes_sum(ONES, frames))
+// Writes the sums of all records, of book words and of the bytes of frames.
+pub(crate) fn put_sums(procs: spec::Procs, book: &[u64], frames: &[u8]) {
+    put_sum(b"records=", records_sum(ONES, procs) ^ ONES);
+    put_sum(b" book=", words_sum(ONES, book) ^ ONES);
+    put_sum(b" frames=", bytes_sum(ONES, frames) ^ ONES);
 }

@@ -1,16 +1,17 @@
-// Numbers and bytes as text.
-ghost use Prim.Native.Nat.{_≤_};
-ghost use lib.ListN.{length};
-use script::room::put;
+// Text on standard output: numbers and bytes.
+use buffers::room::part;
 
-// Puts a name and a number in decimal.
-pub fn put_named(out: &mut [u8], at: usize, name: &[u8], n: u64) -> usize
-    ensures { λ r. ⌜ r ≤ length (now (out .exit)) ⌝ }
-{
+// Writes text. What cannot be written is left out.
+pub(crate) fn put(text: &[u8]) {
+    io::write_all(libc::STDOUT_FILENO, text);
+}
+
+// Writes a name and a number in decimal.
+pub(crate) fn put_named(name: &[u8], n: u64) {
     let mut digits = [0u8; 20];
     let count = io::decimal(n, &mut digits);
-    let end = put(out, at, name);
-    put(out, end, &digits[..count])
+    put(name);
+    put(&digits[..count]);
 }
 
 // The last hex digit of a byte, in lower case.
@@ -20,20 +21,25 @@ fn glyph(b: u8) -> u8 {
     glyphs[i]
 }
 
-// Puts a name and bytes: two hex digits each, or `-` for none.
-pub fn put_bytes(out: &mut [u8], at: usize, name: &[u8], bytes: &[u8]) -> usize
-    ensures { λ r. ⌜ r ≤ length (now (out .exit)) ⌝ }
-{
-    let mut end = put(out, at, name);
+// Writes a space and bytes: two hex digits each, or `-` for none.
+pub(crate) fn put_bytes(bytes: &[u8]) {
+    put(b" ");
     if bytes.len() == 0 {
-        return put(out, end, b"-");
+        put(b"-");
     }
+    let mut text = [0u8; 4096];
+    let mut n = 0;
     let mut i = 0;
     while i < bytes.len() {
         let b = bytes[i];
-        let pair = [glyph(b / 16), glyph(b)];
-        end = put(out, end, &pair);
+        text[2 * n] = glyph(b / 16);
+        text[2 * n + 1] = glyph(b);
+        n += 1;
         i += 1;
+        if n == 2048 {
+            put(&text);
+            n = 0;
+        }
     }
-    end
+    put(part(&text, 0, 2 * n));
 }

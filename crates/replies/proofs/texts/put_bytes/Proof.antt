@@ -1,16 +1,16 @@
 -- `replies::texts::put_bytes` is safe and ends.
 use mathlib.Core.Path.{_≡_}
-use Prim.Native.Nat.{_-_, _≤_}
+use Prim.Native.Nat.{_-_, _≤_, _<_}
 use lib.ListN.{length}
 use borrow.Author.Needs.{needs}
 use Rattle.replies.proofs.texts.put_bytes.Statement.{statement}
 use Rattle.replies.proofs.texts.put_bytes.Tie as tie
 
 abbrev Inv-loop : tie.InvT-loop
-Inv-loop out₀ at name bytes end₀ i₀ out end i = (i ≤ length bytes) × (end ≤ length out₀) × (length out ≡ length out₀)
+Inv-loop bytes text₀ n₀ i₀ text n i = (i ≤ length bytes) × (n < 2048) × (length text ≡ 4096)
 
 abbrev μ-loop : tie.MeasureT-loop
-μ-loop out₀ at name bytes end₀ i₀ out end i = length bytes - i
+μ-loop bytes text₀ n₀ i₀ text n i = length bytes - i
 
 pub put-bytes-spec : {M : Type 1} → statement M
 put-bytes-spec =
@@ -18,19 +18,29 @@ put-bytes-spec =
     (tie.spec
     Inv-loop
     μ-loop
-    (λ c κs. search needs)
     (λ c. search needs)
-    (λ c κs. search needs)
-    (λ c. search needs)
-    (λ c. search needs)
-    (λ c. search needs)
-    (λ c. search needs)
-    (λ c κs. search needs)
     (λ c κs. search needs)
     (λ c. search needs)
     (λ c κs. search needs)
     (λ c. search needs)
     (λ c. search needs)
+    (λ c κs. search needs)
     (λ c. search needs)
     (λ c. search needs)
+    (λ c κs. search needs)
+    (λ c. search needs)
+    (λ c. search needs)
+    (λ c. search needs)
+    (λ c. search needs)
+    (λ c. search needs)
+    (λ c. search needs)
+    (λ c κs. search needs)
+    (λ c. search needs)
+    (λ c. search needs)
+    (λ c. search needs)
+    (λ c. search needs)
+    (λ c. search needs)
+    (λ c. search needs)
+    (λ c κs. search needs)
+    (λ c κs. search needs)
     (λ c. search needs))
