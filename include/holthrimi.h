@@ -11,8 +11,8 @@
  *   - what is not const overlaps nothing else that the call is given, and nothing else touches it until the call returns;
  *   - a bool is 0 or 1.
  * The library keeps nothing between calls, allocates nothing, and needs memcpy, memmove and memset. It follows the System V calling
- * convention of x86-64, with its red zone and SSE registers. Of stack, replace was measured to use 62 KiB, push 53, break 50, start 39,
- * fork 30 and the other calls 36 to 43.
+ * convention of x86-64, with its red zone and SSE registers. Of stack, replace was measured to use 47 KiB, start 39, push 38, fork and
+ * break 29 and the other calls 22 to 29 (bench/run "" stack).
  *
  * Numbers. A page is 4,096 bytes. The machine's four numbers are handed to every call, by value (struct holthrimi_setup); limit is one
  * guard page below the stack.

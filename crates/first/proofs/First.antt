@@ -15,6 +15,7 @@ use Rattle.spec.proofs.Bools.{both, clash, not-true, within-means}
 use Rattle.spec.proofs.Chain.{here, past, not-holds, not-fails}
 use Rattle.book.specs.Lent.{store}
 use Rattle.laws.proofs.Checks.{or-else}
+use Rattle.sound.specs.Numbers.{soundError}
 use Rattle.first.specs.Numbers.{numberError, plainError, beginError, forkError}
 
 -- ---- in code: a test b of what the specification calls b′ gives its number, or the next is looked for
@@ -24,6 +25,24 @@ given b b′ k e h t = here (not b′) k e k (not-holds b b′ h t) refl
 
 pub further : (b b′ : Bool) (k e r : ℕ) → b ≡ b′ → not b ≡ false → r ≡ e → r ≡ (not b′ ⇒ k else e)
 further b b′ k e r h t g = past (not b′) k e r (not-fails b b′ h t) g
+
+-- the same of the two numbers that the check of the book gives; e is what it gave
+two-given : (a b : Bool) (e next : ℕ) → e ≡ (not a ⇒ 38 else not b ⇒ 2 else 0) → (e ≡ 0 → ⊥) → e ≡ (not a ⇒ 38 else not b ⇒ 2 else next)
+two-given true true e next h ne = absurd (ne h)
+two-given true false e next h ne = h
+two-given false b e next h ne = h
+
+two-further : (a b : Bool) (e next r : ℕ) → e ≡ (not a ⇒ 38 else not b ⇒ 2 else 0) → e ≡ 0 → r ≡ next → r ≡ (not a ⇒ 38 else not b ⇒ 2 else next)
+two-further true true e next r h z g = g
+two-further true false e next r h z g = absurd (let q : _≡_ {A = ℕ} 2 0 = sym h ∙ z in omega arith)
+two-further false b e next r h z g = absurd (let q : _≡_ {A = ℕ} 38 0 = sym h ∙ z in omega arith)
+
+module _ (s : State) (e : ℕ) (next : ℕ) (found : e ≡ soundError (s .setup) (s .store .book) (s .procs)) where
+  pub sound-given : (e ≡ 0 → ⊥) → e ≡ (not (setupOk (s .setup)) ⇒ 38 else not (sound s) ⇒ 2 else next)
+  sound-given = two-given (setupOk (s .setup)) (sound s) e next found
+
+  pub sound-further : (r : ℕ) → e ≡ 0 → r ≡ next → r ≡ (not (setupOk (s .setup)) ⇒ 38 else not (sound s) ⇒ 2 else next)
+  sound-further r = two-further (setupOk (s .setup)) (sound s) e next r found
 
 -- ---- sizes
 

@@ -43,11 +43,9 @@ pub fn number_ready(
     if !ok {
         return spec::SIZES;
     }
-    if !setup::setup_ok(setup) {
-        return spec::SETUP;
-    }
-    if !sound::prepare(setup, book, procs, tags, bases, table) {
-        return spec::TORN;
+    let e = sound::prepare(setup, book, procs, tags, bases, table);
+    if e != 0 {
+        return e;
     }
     if !is_number(number) {
         return spec::NUMBER;

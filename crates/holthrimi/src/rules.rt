@@ -207,13 +207,7 @@ fn book_error(setup: Setup, frames: &[u8], book: &[u64], procs: Procs) -> u64
     if !front::numbers::sizes_ok(frames, book) {
         return spec::SIZES;
     }
-    if !setup::setup_ok(setup) {
-        return spec::SETUP;
-    }
-    if !sound::sound(setup, book, procs) {
-        return spec::TORN;
-    }
-    0
+    sound::sound_error(setup, book, procs)
 }
 
 #[no_mangle]

@@ -47,7 +47,7 @@ pub extern "C" fn measured_sound(book: &[u64], procs: Procs) -> bool
     if 1024 < book.len() {
         return false;
     }
-    sound::sound(setup::deposit(), book, procs)
+    sound::sound_error(setup::deposit(), book, procs) == 0
 }
 
 // The number that an image is refused with by the ELF reader, or 0.

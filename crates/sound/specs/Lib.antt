@@ -1,2 +1,3 @@
--- What the check leaves for a call's lookups. The specification's definitions stand in crate spec.
+-- What the check leaves for a call's lookups, and the numbers that it gives. The specification's definitions stand in crate spec.
 pub mod Table
+pub mod Numbers

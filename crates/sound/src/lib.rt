@@ -12,13 +12,14 @@ ghost use Rattle.spec.specs.Book.{free};
 ghost use Rattle.spec.specs.Sound.{soundBook};
 ghost use Rattle.table.specs.Table.{Blank};
 ghost use Rattle.lookup.specs.Ready.{Ready};
+ghost use Rattle.sound.specs.Numbers.{soundError};
 pub use lookup::frame_at;
 use spec::Procs;
 use spec::Setup;
 
 // Is the book sound? If so, `tags` and `bases` hold the plan and `table` each page's frame, for the rest of the call; if not, what they
 // hold means nothing. The table comes in empty.
-pub fn prepare(
+fn is_sound(
     setup: Setup,
     book: &[u64],
     procs: Procs,
@@ -44,11 +45,32 @@ pub fn prepare(
     table::all_marked(table, total as usize)
 }
 
-// Is the book sound? For a call that looks up no page.
-pub fn sound(setup: Setup, book: &[u64], procs: Procs) -> bool
+// 38 for the setup, 2 for a book that is not sound, or 0, with the lists for the rest of the call as above.
+pub fn prepare(
+    setup: Setup,
+    book: &[u64],
+    procs: Procs,
+    tags: &mut [u64; 272],
+    bases: &mut [u64; 273],
+    table: &mut [u16; 1024],
+) -> u64
+    requires { ⌜ (length (now book) ≤ 1024) × (length (now tags) ≡ 272) × (length (now bases) ≡ 273) × (length (now table) ≡ 1024) × Blank (now table) ⌝ }
+    ensures { λ r. ⌜ r ≡ soundError setup (now (book .entry)) procs ⌝ }
+    ensures { λ r. ⌜ (r ≡ 0 → Ready (now (book .entry)) (now (tags .exit)) (now (bases .exit)) (now (table .exit))) ⌝ }
+{
+    if !setup::setup_ok(setup) {
+        return spec::SETUP;
+    }
+    if !is_sound(setup, book, procs, tags, bases, table) {
+        return spec::TORN;
+    }
+    0
+}
+
+// The same for a call that looks up no page.
+pub fn sound_error(setup: Setup, book: &[u64], procs: Procs) -> u64
     requires { ⌜ length (now book) ≤ 1024 ⌝ }
-    requires { ⌜ SetupOk setup ⌝ }
-    ensures { λ r. ⌜ r ≡ soundBook setup (now (book .entry)) procs ⌝ }
+    ensures { λ r. ⌜ r ≡ soundError setup (now (book .entry)) procs ⌝ }
 {
     let mut tags = [0u64; 272];
     let mut bases = [0u64; 273];

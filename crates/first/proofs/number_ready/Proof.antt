@@ -6,11 +6,11 @@ use denote.Ref.{now}
 use borrow.Author.Needs.{needs}
 use borrow.Author.Tests.{not-false}
 use Rattle.spec.specs.Frames.{sized}
+use Rattle.spec.specs.World.{State}
 use Rattle.spec.proofs.Bools.{both}
-use Rattle.spec.proofs.Setups.{setup-means}
 use Rattle.book.specs.Lent.{store}
-use Rattle.first.specs.Numbers.{numberError}
-use Rattle.first.proofs.First.{given, further, sizes-words}
+use Rattle.first.specs.Numbers.{stateOf, numberError}
+use Rattle.first.proofs.First.{given, further, sound-given, sound-further, sizes-words}
 use Rattle.first.proofs.number_ready.Statement.{statement}
 use Rattle.first.proofs.number_ready.Tie as tie
 
@@ -20,6 +20,9 @@ sizes-is : (c : tie.After-sizes-ok)
     ≡ (sized (store (now (c .before .before .before .args .frames)) (now (c .before .before .before .args .book))) && c .before .before .before .args .fits)
 sizes-is c = ap (λ (b : Bool). b && c .before .before .before .args .fits) (c .sizes-ok .ensures)
 
+abbrev state : tie.Start → State
+state a = stateOf (a .args .setup) (now (a .args .frames)) (now (a .args .book)) (a .args .procs)
+
 sizes-ok-requires : tie.Need-sizes-ok-requires
 sizes-ok-requires c κs = search needs
 
@@ -27,58 +30,40 @@ returns : tie.Need-returns
 unfolding numberError
 returns c = (given _ _ 1 _ (sizes-is (c .before)) (c .if1 .taken), λ z. absurd (omega arith))
 
-setup-ok-requires : tie.Need-setup-ok-requires
-setup-ok-requires c κs = search needs
+prepare-requires : tie.Need-prepare-requires
+prepare-requires c κs =
+    let d = c .before .before .before in
+    let a = d .before .before .before .before in
+    let s = sym (d .before .sizes-ok .ensures) ∙ both (d .before .sizes-ok .result) (a .args .fits) (not-false _ (d .if1 .left)) .0 in
+    (sizes-words (now (a .args .frames)) (now (a .args .book)) s .2, a .pre .0, a .pre .1, a .pre .2, a .pre .3)
 
 returns-2 : tie.Need-returns-2
 unfolding numberError
 returns-2 c =
-    let d = c .before .before in
-    (further _ _ 1 _ 38 (sizes-is (d .before)) (d .if1 .left) (given _ _ 38 _ (c .before .setup-ok .ensures) (c .if2 .taken)), λ z. absurd (omega arith))
+    let d = c .before .before .before .before .before in
+    (further _ _ 1 _ _ (sizes-is (d .before)) (d .if1 .left) (sound-given (state (d .before .before .before .before)) _ _ (c .before .prepare .ensures .0) (c .if2 .taken)), λ z. absurd (c .if2 .taken z))
 
-prepare-requires : tie.Need-prepare-requires
-prepare-requires c κs =
-    let e = c .before .before .before in
-    let d = e .before .before in
-    let a = d .before .before .before .before in
-    let s = sym (d .before .sizes-ok .ensures) ∙ both (d .before .sizes-ok .result) (a .args .fits) (not-false _ (d .if1 .left)) .0 in
-    ((sizes-words (now (a .args .frames)) (now (a .args .book)) s .2, a .pre .0, a .pre .1, a .pre .2, a .pre .3), setup-means (a .args .setup) (sym (e .before .setup-ok .ensures) ∙ not-false _ (e .if2 .left)))
+is-number-requires : tie.Need-is-number-requires
+is-number-requires c κs = search needs
 
 returns-3 : tie.Need-returns-3
 unfolding numberError
 returns-3 c =
-    let e = c .before .before .before .before .before in
-    let d = e .before .before in (
-      further _ _ 1 _ 2 (sizes-is (d .before)) (d .if1 .left)
-          (further _ _ 38 _ 2 (e .before .setup-ok .ensures) (e .if2 .left) (given _ _ 2 _ (c .before .prepare .ensures .0) (c .if3 .taken))),
+    let p = c .before .before in
+    let d = p .before .before .before .before .before in (
+      further _ _ 1 _ 3 (sizes-is (d .before)) (d .if1 .left)
+          (sound-further (state (d .before .before .before .before)) _ _ (p .before .prepare .ensures .0) 3 (p .if2 .left) (given _ _ 3 0 (c .before .is-number .ensures) (c .if3 .taken))),
       λ z. absurd (omega arith),
     )
-
-is-number-requires : tie.Need-is-number-requires
-is-number-requires c κs = search needs
 
 returns-4 : tie.Need-returns-4
 unfolding numberError
 returns-4 c =
     let p = c .before .before in
-    let e = p .before .before .before .before .before in
-    let d = e .before .before in (
-      further _ _ 1 _ 3 (sizes-is (d .before)) (d .if1 .left)
-          (further _ _ 38 _ 3 (e .before .setup-ok .ensures) (e .if2 .left)
-          (further _ _ 2 _ 3 (p .before .prepare .ensures .0) (p .if3 .left) (given _ _ 3 0 (c .before .is-number .ensures) (c .if4 .taken)))),
-      λ z. absurd (omega arith),
-    )
-
-returns-5 : tie.Need-returns-5
-unfolding numberError
-returns-5 c =
-    let p = c .before .before in
-    let e = p .before .before .before .before .before in
-    let d = e .before .before in (
+    let d = p .before .before .before .before .before in (
       further _ _ 1 _ 0 (sizes-is (d .before)) (d .if1 .left)
-          (further _ _ 38 _ 0 (e .before .setup-ok .ensures) (e .if2 .left)
-          (further _ _ 2 _ 0 (p .before .prepare .ensures .0) (p .if3 .left) (further _ _ 3 0 0 (c .before .is-number .ensures) (c .if4 .left) refl))),
-      λ z. p .before .prepare .ensures .1 (not-false _ (p .if3 .left)),
+          (sound-further (state (d .before .before .before .before)) _ _ (p .before .prepare .ensures .0) 0 (p .if2 .left) (further _ _ 3 0 0 (c .before .is-number .ensures) (c .if3 .left) refl)),
+      λ z. p .before .prepare .ensures .1 (p .if2 .left),
     )
 
 pub number-ready-spec : {M : Type 1} → statement M
@@ -87,10 +72,8 @@ number-ready-spec =
     (tie.spec
     sizes-ok-requires
     returns
-    setup-ok-requires
-    returns-2
     prepare-requires
-    returns-3
+    returns-2
     is-number-requires
-    returns-4
-    returns-5)
+    returns-3
+    returns-4)
