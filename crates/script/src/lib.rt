@@ -3,3 +3,4 @@
 pub mod asked;
 mod lines;
 pub mod taken;
+mod words;

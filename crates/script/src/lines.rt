@@ -5,9 +5,9 @@ use crate::asked::Asked;
 use crate::asked::FRAMES_MAX;
 use crate::asked::Kind;
 use crate::asked::LINE_MAX;
+use crate::words;
 use buffers::bytes::Why;
 use buffers::room;
-use buffers::words;
 
 // The longest buffer that a copy is lent.
 const BUFFER_MAX: u64 = 65536;

@@ -1,9 +1,9 @@
--- `buffers::words::spaces` is safe and ends.
+-- `script::words::spaces` is safe and ends.
 use Prim.Native.Nat.{_-_, _≤_}
 use lib.ListN.{length}
 use borrow.Author.Needs.{needs}
-use Rattle.buffers.proofs.words.spaces.Statement.{statement}
-use Rattle.buffers.proofs.words.spaces.Tie as tie
+use Rattle.script.proofs.words.spaces.Statement.{statement}
+use Rattle.script.proofs.words.spaces.Tie as tie
 
 abbrev Inv-loop : tie.InvT-loop
 Inv-loop line n₀ i₀ n i = (n ≤ i) × (i ≤ length line)

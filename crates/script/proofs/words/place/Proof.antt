@@ -1,8 +1,8 @@
--- `buffers::words::place` is safe and ends.
+-- `script::words::place` is safe and ends.
 use Prim.Native.Nat.{_≤_}
 use borrow.Author.Needs.{needs}
-use Rattle.buffers.proofs.words.place.Statement.{statement}
-use Rattle.buffers.proofs.words.place.Tie as tie
+use Rattle.script.proofs.words.place.Statement.{statement}
+use Rattle.script.proofs.words.place.Tie as tie
 
 abbrev Inv-loop : tie.InvT-loop
 Inv-loop line k at₀ left₀ at left = left ≤ left₀

@@ -1,24 +1,22 @@
--- `buffers::words::same` is safe and ends.
+-- `script::words::end` is safe and ends.
 use Prim.Native.Nat.{_-_, _≤_}
 use lib.ListN.{length}
 use borrow.Author.Needs.{needs}
-use Rattle.buffers.proofs.words.same.Statement.{statement}
-use Rattle.buffers.proofs.words.same.Tie as tie
+use Rattle.script.proofs.words.end.Statement.{statement}
+use Rattle.script.proofs.words.end.Tie as tie
 
 abbrev Inv-loop : tie.InvT-loop
-Inv-loop a b i₀ i = i ≤ length a
+Inv-loop line at i₀ i = at ≤ i
 
 abbrev μ-loop : tie.MeasureT-loop
-μ-loop a b i₀ i = length a - i
+μ-loop line at i₀ i = length line - i
 
-pub same-spec : {M : Type 1} → statement M
-same-spec =
+pub end-spec : {M : Type 1} → statement M
+end-spec =
     tie.close
     (tie.spec
     Inv-loop
     μ-loop
-    (λ c. search needs)
-    (λ c. search needs)
     (λ c. search needs)
     (λ c. search needs)
     (λ c. search needs)

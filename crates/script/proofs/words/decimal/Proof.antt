@@ -1,9 +1,9 @@
--- `buffers::words::decimal` is safe and ends.
+-- `script::words::decimal` is safe and ends.
 use Prim.Native.Nat.{_-_, _≤_}
 use lib.ListN.{length}
 use borrow.Author.Needs.{needs}
-use Rattle.buffers.proofs.words.decimal.Statement.{statement}
-use Rattle.buffers.proofs.words.decimal.Tie as tie
+use Rattle.script.proofs.words.decimal.Statement.{statement}
+use Rattle.script.proofs.words.decimal.Tie as tie
 
 abbrev Inv-loop : tie.InvT-loop
 Inv-loop word n₀ i₀ n i = i ≤ length word

@@ -1,5 +1,5 @@
 // Words of a line and the decimal numbers that they are.
-use crate::room::part;
+use buffers::room::part;
 
 // What a word is as a number: decimal, and at most 2^64 − 1.
 pub enum Number {
@@ -20,17 +20,17 @@ fn end(line: &[u8], at: usize) -> usize {
 }
 
 // The word that starts at place `at`.
-pub fn word_at(line: &[u8], at: usize) -> &[u8] {
+pub(crate) fn word_at(line: &[u8], at: usize) -> &[u8] {
     part(line, at, end(line, at))
 }
 
 // Where the word after the one at place `at` starts.
-pub fn next(line: &[u8], at: usize) -> usize {
+pub(crate) fn next(line: &[u8], at: usize) -> usize {
     std::num::wrapping_add_usize(end(line, at), 1)
 }
 
 // Where word k starts, counted from 0.
-pub fn place(line: &[u8], k: usize) -> usize {
+pub(crate) fn place(line: &[u8], k: usize) -> usize {
     let mut at = 0;
     let mut left = k;
     while 0 < left {
@@ -41,12 +41,12 @@ pub fn place(line: &[u8], k: usize) -> usize {
 }
 
 // Word k, or no bytes where there is none.
-pub fn word(line: &[u8], k: usize) -> &[u8] {
+pub(crate) fn word(line: &[u8], k: usize) -> &[u8] {
     word_at(line, place(line, k))
 }
 
 // How many spaces a line has: one less than its words.
-pub fn spaces(line: &[u8]) -> usize {
+pub(crate) fn spaces(line: &[u8]) -> usize {
     let mut n = 0;
     let mut i = 0;
     while i < line.len() {
@@ -60,7 +60,7 @@ pub fn spaces(line: &[u8]) -> usize {
 }
 
 // Whether two words are equal.
-pub fn same(a: &[u8], b: &[u8]) -> bool {
+pub(crate) fn same(a: &[u8], b: &[u8]) -> bool {
     if a.len() != b.len() {
         return false;
     }
@@ -75,7 +75,7 @@ pub fn same(a: &[u8], b: &[u8]) -> bool {
 }
 
 // A word as a number: digits only, and at least one.
-pub fn decimal(word: &[u8]) -> Number {
+pub(crate) fn decimal(word: &[u8]) -> Number {
     if word.len() == 0 {
         return Number::Bad;
     }

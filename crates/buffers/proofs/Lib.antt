@@ -1,0 +1,2 @@
+-- A part of a list that is cut to what there is.
+pub mod Parts
