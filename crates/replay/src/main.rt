@@ -5,33 +5,22 @@ mod input;
 use buffers::room;
 use input::INPUT_SIZE;
 use script::asked::Asked;
-use script::asked::FRAMES_MAX;
 use script::asked::Kind;
-use script::taken::ARGS;
-use script::taken::BYTES_AT;
-use script::taken::List;
-use script::taken::SPACE_MAX;
-use session::BOOK_SIZE;
-use session::BOOK_WORDS;
-use session::FRAME_BYTES;
-use session::FRAMES_SIZE;
+use script::taken;
 use session::Session;
-use session::run;
-use spec::Procs;
-use spec::Setup;
 
 // So many frames and no process, under the deposit machine's numbers.
 fn fresh(frames: u64, at: usize, end: usize, ended: bool) -> Session {
-    let n = room::least(frames as usize, FRAMES_MAX);
+    let n = room::least(frames as usize, script::asked::FRAMES_MAX);
     let p = procs::zero_proc();
     let all = [p; 16];
     Session {
-        procs: Procs { all },
+        procs: spec::Procs { all },
         setup: setup::deposit(),
-        bytes: FRAME_BYTES * n,
-        words: BOOK_WORDS * n,
-        lent_bytes: FRAME_BYTES * n,
-        lent_words: BOOK_WORDS * n,
+        bytes: session::FRAME_BYTES * n,
+        words: session::BOOK_WORDS * n,
+        lent_bytes: session::FRAME_BYTES * n,
+        lent_words: session::BOOK_WORDS * n,
         at,
         end,
         ended,
@@ -50,7 +39,7 @@ fn after(s: Session, a: Asked) -> Session {
             next
         }
         Kind::Numbers => {
-            let setup = Setup {
+            let setup = spec::Setup {
                 utzero: a.number,
                 ustktop: a.second,
                 ustksize: a.third,
@@ -65,15 +54,15 @@ fn after(s: Session, a: Asked) -> Session {
 
 // Runs what a line asks, and answers it.
 fn answer(
-    frames: &mut [u8; FRAMES_SIZE],
-    book: &mut [u64; BOOK_SIZE],
-    space: &mut [u8; SPACE_MAX],
-    list: &List,
+    frames: &mut [u8; session::FRAMES_SIZE],
+    book: &mut [u64; session::BOOK_SIZE],
+    space: &mut [u8; taken::SPACE_MAX],
+    list: &taken::List,
     s: Session,
     a: Asked,
 ) -> Session {
-    run::set(book, a);
-    let left = run::run(frames, book, space, list, s, a);
+    session::run::set(book, a);
+    let left = session::run::run(frames, book, space, list, s, a);
     let procs = left.procs;
     let answer = left.answer;
     let mut next = s;
@@ -82,7 +71,7 @@ fn answer(
         s.setup,
         room::part(frames, 0, s.bytes),
         room::first_words(book, s.words),
-        room::part(space, BYTES_AT, a.bytes),
+        room::part(space, taken::BYTES_AT, a.bytes),
         procs,
         a,
         answer,
@@ -92,10 +81,10 @@ fn answer(
 
 // Takes a turn: answers the next line, or reads more of it if it isn't whole. The last line may lack its line feed.
 fn turn(
-    frames: &mut [u8; FRAMES_SIZE],
-    book: &mut [u64; BOOK_SIZE],
-    space: &mut [u8; SPACE_MAX],
-    list: &mut List,
+    frames: &mut [u8; session::FRAMES_SIZE],
+    book: &mut [u64; session::BOOK_SIZE],
+    space: &mut [u8; taken::SPACE_MAX],
+    list: &mut taken::List,
     input: &mut [u8; INPUT_SIZE],
     s: Session,
 ) -> Session {
@@ -104,16 +93,16 @@ fn turn(
         return input::read(input, s);
     }
     let line = room::part(input, s.at, end);
-    let a = script::taken::read(space, list, line, s.bytes, s.words);
+    let a = taken::read(space, list, line, s.bytes, s.words);
     let next = after(input::behind(s, end), a);
     answer(frames, book, space, list, next, a)
 }
 
 fn main() {
-    let mut frames = [0u8; FRAMES_SIZE];
-    let mut book = [0u64; BOOK_SIZE];
-    let mut space = [0u8; SPACE_MAX];
-    let mut list = [0u64; ARGS];
+    let mut frames = [0u8; session::FRAMES_SIZE];
+    let mut book = [0u64; session::BOOK_SIZE];
+    let mut space = [0u8; taken::SPACE_MAX];
+    let mut list = [0u64; taken::ARGS];
     let mut input = [0u8; INPUT_SIZE];
     let mut s = fresh(0, 0, 0, false);
     // A proved loop has to end, and nothing says that the input does: it has fewer bytes than this.

@@ -1,7 +1,6 @@
 // What a line asks for: a kind, numbers, and how far the program's buffers are filled for it. It goes by value through every step.
 use crate::words;
 use buffers::bytes::Why;
-use buffers::room::least;
 
 // The most frames that there are: one more than a book may have, to try number 1. The longest file, and the longest line.
 pub const FRAMES_MAX: usize = 1025;
@@ -76,7 +75,7 @@ pub(crate) fn wrong(why: Why) -> Asked {
 pub(crate) fn plain(line: &[u8], kind: Kind, last: usize) -> Asked {
     let mut numbers = [0u64; 4];
     let mut at = words::next(line, 0);
-    let n = least(last, 4);
+    let n = buffers::room::least(last, 4);
     let mut i = 0;
     while i < n {
         let words::Number::Is(x) = words::decimal(words::word_at(line, at)) else {
@@ -100,9 +99,8 @@ pub(crate) fn limited(a: Asked, within: bool) -> Asked {
 // Whether a word was read that says why the line is no call.
 pub(crate) fn fails(a: Asked) -> bool {
     let kind = a.kind;
-    if let Kind::Wrong(_) = kind {
-        true
-    } else {
-        false
+    match kind {
+        Kind::Wrong(_) => true,
+        _ => false,
     }
 }

@@ -4,9 +4,7 @@ use crate::asked;
 use crate::asked::Asked;
 use crate::asked::FRAMES_MAX;
 use crate::asked::Kind;
-use crate::asked::LINE_MAX;
 use crate::words;
-use buffers::bytes::Why;
 use buffers::room;
 
 // The longest buffer that a copy is lent.
@@ -25,13 +23,13 @@ fn form(a: Asked, line: &[u8], key: &[u8], min: usize, max: usize, kind: Kind, n
 
 // Lines of calls that change processes.
 fn call(line: &[u8]) -> Asked {
-    let mut a = asked::wrong(Why::Bad);
-    a = form(a, line, b"start", 3, LINE_MAX, Kind::Start, 1);
+    let mut a = asked::wrong(buffers::bytes::Why::Bad);
+    a = form(a, line, b"start", 3, asked::LINE_MAX, Kind::Start, 1);
     a = form(a, line, b"replace", 4, 4, Kind::Replace, 1);
-    a = form(a, line, b"push", 3, LINE_MAX, Kind::Push, 3);
+    a = form(a, line, b"push", 3, asked::LINE_MAX, Kind::Push, 3);
     a = form(a, line, b"break", 2, 2, Kind::Break, 2);
     a = form(a, line, b"fork", 2, 2, Kind::Fork, 2);
-    a = form(a, line, b"fork", 3, LINE_MAX, Kind::ForkList, 2);
+    a = form(a, line, b"fork", 3, asked::LINE_MAX, Kind::ForkList, 2);
     form(a, line, b"end", 1, 1, Kind::End, 1)
 }
 
@@ -83,8 +81,8 @@ pub(crate) fn asks(line: &[u8], bytes: usize, words: usize) -> Asked {
     if (line.len() == 0) | words::same(room::part(line, 0, 1), b"#") {
         return asked::with(Kind::Nothing, [0; 4]);
     }
-    if LINE_MAX < line.len() {
-        return asked::wrong(Why::LargeLine);
+    if asked::LINE_MAX < line.len() {
+        return asked::wrong(buffers::bytes::Why::LargeLine);
     }
     within(held(line, access(line, call(line))), bytes, words)
 }

@@ -6,8 +6,6 @@ use crate::asked::Kind;
 use crate::lines;
 use crate::words;
 use buffers::bytes;
-use buffers::bytes::Taken;
-use buffers::bytes::Why;
 use buffers::room;
 
 // The space has places for a name, as much of it as a record keeps; for the bytes of arguments, as many as are over the limit of a
@@ -32,8 +30,8 @@ fn take_at(space: &mut [u8], at: usize, word: &[u8], a: Asked) -> Asked {
     }
     let end = std::num::wrapping_add_usize(at, asked::FILE_MAX + 1);
     match bytes::take(room::lent(space, at, end), word) {
-        Taken::Not(why) => asked::wrong(why),
-        Taken::Size(n) => {
+        bytes::Taken::Not(why) => asked::wrong(why),
+        bytes::Taken::Size(n) => {
             let mut next = a;
             next.bytes = std::num::wrapping_add_usize(at, n);
             next
@@ -104,7 +102,7 @@ fn replace(space: &mut [u8], line: &[u8], a: Asked) -> Asked {
         return next;
     }
     let words::Number::Is(n) = words::decimal(words::word(line, 4)) else {
-        return asked::wrong(Why::Bad);
+        return asked::wrong(bytes::Why::Bad);
     };
     next.second = n;
     next
@@ -118,7 +116,7 @@ fn triples(list: &mut List, line: &[u8], a: Asked) -> Asked {
     let within = left % 3 == 2;
     while 2 < left {
         let words::Number::Is(x) = words::decimal(words::word_at(line, at)) else {
-            return asked::wrong(Why::Bad);
+            return asked::wrong(bytes::Why::Bad);
         };
         let i = room::least(next.count, ARGS - 1);
         list[i] = x;

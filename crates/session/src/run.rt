@@ -1,12 +1,10 @@
 // The calls that lines ask for. A new line of a call has an arm here.
 use crate::BOOK_SIZE;
 use crate::Session;
-use crate::listed;
 use buffers::room;
 use front::left::Left;
 use script::asked::Asked;
 use script::asked::Kind;
-use script::taken::ARGS_AT;
 use script::taken::BYTES_AT;
 use spec::Answer;
 
@@ -70,7 +68,7 @@ fn enter(
     a: Asked,
 ) -> Left {
     let name = room::part(space, 0, a.name);
-    let args = room::part(space, ARGS_AT, a.args);
+    let args = room::part(space, script::taken::ARGS_AT, a.args);
     let image = room::part(space, BYTES_AT, a.bytes);
     let m = s.setup;
     let p = s.procs;
@@ -79,7 +77,7 @@ fn enter(
         Kind::Start => calls::start(m, frames, book, p, a.number, image, name, args, list),
         Kind::Replace => calls::replace(m, frames, book, p, a.number, image, name, a.second),
         Kind::Push => calls::push(m, frames, book, p, a.number, a.second, a.third, args, list),
-        _ => listed::fork_triples(m, frames, book, p, a.number, a.second, list),
+        _ => crate::listed::fork_triples(m, frames, book, p, a.number, a.second, list),
     }
 }
 
