@@ -1,6 +1,7 @@
 /*
  * Prints how much stack each of the ten calls uses: a call is made on a thread whose stack was filled with a pattern, and what of the
- * pattern is gone is counted. The calls are those that do the most: the longest arguments, an image with a bss, accepted.
+ * pattern is gone is counted. The calls are those that do the most: the largest book, the longest arguments, an image with a bss, a
+ * process that shares its text, accepted.
  */
 #include <holthrimi.h>
 #include <pthread.h>
@@ -8,11 +9,11 @@
 #include <stdlib.h>
 #include <string.h>
 
-enum { FRAMES = 64, STACK = 1 << 20, PATTERN = 0xa5, IMAGE = 184, ARGS = 1000 };
+enum { FRAMES = HOLTHRIMI_MAX_FRAMES, WORDS = FRAMES * HOLTHRIMI_FRAME_WORDS, STACK = 1 << 20, PATTERN = 0xa5, IMAGE = 184, ARGS = 1636 };
 
 static struct holthrimi_setup setup = {65536, (uint64_t)1 << 47, 65536, (uint64_t)1 << 47};
 static uint8_t frames[FRAMES * HOLTHRIMI_PAGE];
-static uint64_t book[FRAMES];
+static uint64_t book[WORDS];
 static struct holthrimi_procs procs;
 static uint8_t image[IMAGE];
 static uint8_t bytes[ARGS];
@@ -21,7 +22,7 @@ static uint64_t argv;
 static struct holthrimi_answer answer;
 static char stack[STACK] __attribute__((aligned(4096)));
 
-#define LENT setup, frames, sizeof frames, book, FRAMES, &procs
+#define LENT setup, frames, sizeof frames, book, WORDS, &procs
 
 static void put(uint8_t *at, uint64_t value, int count) {
     for (int i = 0; i < count; i++) {
@@ -143,10 +144,10 @@ int main(void) {
     }
     show("start", start);
     argv = answer.regs.argv;
+    show("fork", fork_it);
     show("replace", replace);
     show("push", push);
     show("break", grow);
-    show("fork", fork_it);
     show("end", end);
     show("user_range_ok", range);
     show("copy_from_user", from);

@@ -11,8 +11,9 @@
  *   - what is not const overlaps nothing else that the call is given, and nothing else touches it until the call returns;
  *   - a bool is 0 or 1.
  * The library keeps nothing between calls, allocates nothing, and needs memcpy, memmove and memset. It follows the System V calling
- * convention of x86-64, with its red zone and SSE registers. Of stack, replace was measured to use 47 KiB, start 39, push 38, fork and
- * break 29 and the other calls 22 to 29 (bench/run "" stack).
+ * convention of x86-64, with its red zone and SSE registers. Of stack, replace was measured to use 78 KiB, push 69, fork 66, start, and
+ * copies from and to a process, 60 and the other calls 53 (bench/run "" stack); 32 of these are a table of frames that the check of the
+ * book leaves.
  *
  * Numbers. A page is 4,096 bytes. The machine's four numbers are handed to every call, by value (struct holthrimi_setup); limit is one
  * guard page below the stack.
@@ -31,8 +32,11 @@ extern "C" {
 /* ---- memory that is lent to every call
  *
  * Frames: 4,096 bytes a frame, 1 to 1,024 frames, any contents.
- * Book: a word for each frame. 0 is a free frame; otherwise page address + 16 * owner + permission, the owner a process's number and
- * the permission as below. All zero at first.
+ * Book: seventeen words for each frame, frame after frame (holthrimi_book_words). The first sixteen are the places of processes 1 to 16:
+ * a place is 0, or a mapping, page address + 16 * owner + permission, the owner the place's number and the permission as below. The last
+ * is how many mappings the frame has; at 0 the frame is free. A text or rodata frame may have several, which agree on page and
+ * permission: processes that a fork made share it. A data frame has one. Process n's place in frame k is book[17 * k + n - 1], the count
+ * book[17 * k + 16]. All zero at first.
  * Records: of processes 1 to 16. A process lives unless its record is all zero. All zero at first.
  * Callers may read all three between calls. Every call checks book and records first and refuses those that don't agree (2), so a stray
  * write to them is found, not followed.
@@ -40,6 +44,7 @@ extern "C" {
 enum {
     HOLTHRIMI_PAGE = 4096,
     HOLTHRIMI_MAX_FRAMES = 1024,
+    HOLTHRIMI_FRAME_WORDS = 17,
     HOLTHRIMI_PROCESSES = 16,
     HOLTHRIMI_SEGMENTS = 16,
     HOLTHRIMI_NAME = 28,
@@ -102,7 +107,7 @@ struct holthrimi_regs {
 enum {
     HOLTHRIMI_ACCEPTED = 0,
     HOLTHRIMI_REFUSED = 1, /* nothing changed (but see the string copy's buffer) */
-    HOLTHRIMI_ENDED = 2    /* refused, and the process has ended: its frames are free, its record zero, frame bytes as before */
+    HOLTHRIMI_ENDED = 2    /* refused, and the process has ended: its pages are released, its record zero, frame bytes as before */
 };
 
 /* kind is one of the three; number is 0 if accepted and otherwise the refusal's; value and regs are zeros where the call has none. */
@@ -115,8 +120,8 @@ struct holthrimi_answer {
 
 /* The numbers of refusals. 1, 38 and 2 to 5 come first in every call, in this order; then each call's own, in the order named with it. */
 enum {
-    HOLTHRIMI_SIZES = 1,     /* frame bytes aren't 4,096 * words, words outside 1 to 1,024, or argument lengths don't sum to their bytes */
-    HOLTHRIMI_TORN = 2,      /* the book is not sound: its words and the records don't agree */
+    HOLTHRIMI_SIZES = 1,     /* not 4,096 bytes and 17 words a frame, frames outside 1 to 1,024, or argument lengths don't sum to their bytes */
+    HOLTHRIMI_TORN = 2,      /* the book is not sound: its mappings, counts and the records don't agree */
     HOLTHRIMI_NUMBER = 3,    /* a process's number outside 1 to 16 */
     HOLTHRIMI_DEAD = 4,      /* the process isn't living */
     HOLTHRIMI_TAKEN = 5,     /* the new process's number lives */
@@ -152,9 +157,9 @@ struct holthrimi_answer holthrimi_start(struct holthrimi_setup setup,
 
 /*
  * Replaces a process's program. `argv` is the user address of an array of pointers to its arguments, which a null ends; they are read
- * from its old memory. Its own frames are freed first.
+ * from its old memory. Its old pages are released first: a frame that others hold too stays theirs.
  * Refused, after 1, 38 and 2 to 4: 30, 31, then 35, which ends the process, or 33 (arguments) in reading order, then 33, which ends the
- * process, if own and free frames don't suffice. Accepted: regs.
+ * process, if the frames that it holds alone and the free ones don't suffice. Accepted: regs.
  */
 struct holthrimi_answer holthrimi_replace(struct holthrimi_setup setup,
                                           uint8_t *frames, size_t frame_bytes, uint64_t *book, size_t words,
@@ -172,7 +177,7 @@ struct holthrimi_answer holthrimi_push(struct holthrimi_setup setup,
                                        const uint8_t *bytes, size_t count, const uint64_t *lengths, size_t nargs);
 
 /*
- * Moves the end of a process's bss to `addr` rounded up to a page: new pages are zeroed, pages past it freed, and the bytes between
+ * Moves the end of a process's bss to `addr` rounded up to a page: new pages are zeroed, pages past it released, and the bytes between
  * addr and its page's end kept. Address 0 changes nothing, and value is the bss's start; otherwise value is 0.
  * Refused, after 1, 38 and 2 to 4: 33 below the bss's start, 33 past 64 bits, 34, 33 if there are too few frames.
  */
@@ -181,14 +186,16 @@ struct holthrimi_answer holthrimi_break(struct holthrimi_setup setup,
                                         struct holthrimi_procs *procs, uint64_t number, uint64_t addr);
 
 /*
- * Forks a process as `child`, which must not live: it takes a copy of every page, now, and the record with its name.
+ * Forks a process as `child`, which must not live: it shares the parent's text and rodata frames, takes a copy of every data page, bss
+ * and stack among them, now, and the record with its name. What one of them writes, the other does not see.
  * Refused, after 1, 38 and 2 to 5 (3 judges both numbers, 4 the parent, 5 the child): 33 if the free frames don't hold the copy.
  */
 struct holthrimi_answer holthrimi_fork(struct holthrimi_setup setup,
                                        uint8_t *frames, size_t frame_bytes, uint64_t *book, size_t words,
                                        struct holthrimi_procs *procs, uint64_t number, uint64_t child);
 
-/* Ends a process: its frames are free and keep their bytes, and its record is zero. Refused: 1, 38 and 2 to 4. */
+/* Ends a process: its pages are released, a frame without a holder is free and keeps its bytes, and its record is zero. Refused: 1, 38
+ * and 2 to 4. */
 struct holthrimi_answer holthrimi_end(struct holthrimi_setup setup,
                                       uint8_t *frames, size_t frame_bytes, uint64_t *book, size_t words,
                                       struct holthrimi_procs *procs, uint64_t number);
@@ -226,6 +233,9 @@ struct holthrimi_answer holthrimi_try_copy_str_from_user(struct holthrimi_setup 
                                                          uint8_t *dst, size_t count, uint64_t src);
 
 /* ---- functions that are no calls */
+
+/* The words of the book of so many frames: 17 a frame; 0 for a number outside 1 to 1,024, which no call takes. */
+uint64_t holthrimi_book_words(uint64_t frames);
 
 /* 1, 38 or 2, as every call gives them for frames, book and records, or 0. */
 uint64_t holthrimi_check(struct holthrimi_setup setup,

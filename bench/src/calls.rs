@@ -23,9 +23,9 @@ pub fn start_rust(w: &mut rust::World, n: usize, image: &[u8]) {
     w.start_entered(n, image, &TWO);
 }
 
-/// Memory for frames, which stays until the end.
-pub fn region() -> &'static Region {
-    Box::leak(Box::new(Region::new(1_024 * PAGE)))
+/// Memory for so many frames, which stays until the end.
+pub fn region(frames: usize) -> &'static Region {
+    Box::leak(Box::new(Region::new(frames * PAGE)))
 }
 
 /// Both sides' states must be the same.
@@ -127,7 +127,7 @@ pub fn replace<'a>(name: &str, n: usize, image: &'a [u8], at: usize) -> Call<'a>
     )
 }
 
-/// Process n forks, and the child ends.
+/// Process n forks, and the child ends. The Rust copies every page; ours shares text and rodata.
 pub fn fork<'a>(name: &str, n: usize, child: usize) -> Call<'a> {
     Call::new(
         name.into(),
@@ -138,10 +138,8 @@ pub fn fork<'a>(name: &str, n: usize, child: usize) -> Call<'a> {
             t
         },
         move |w| {
-            w.create(child);
-            w.switch(n);
-            let t = timed(|| w.fork(n, child));
-            w.remove(child);
+            let t = w.fork(n, child);
+            w.end(child);
             t
         },
     )
@@ -231,7 +229,9 @@ pub fn push<'a>(n: usize, count: usize) -> Call<'a> {
     Call::new(
         format!("push, {count} empty arguments"),
         Some(n),
-        move |w| repeated(|| w.push(n as u64, 0, Setup::DEPOSIT.ustktop, black_box(&args.bytes), black_box(&args.lengths)).unwrap()),
+        move |w| {
+            repeated(|| w.push(n as u64, 0, Setup::DEPOSIT.ustktop, black_box(&args.bytes), black_box(&args.lengths)).unwrap())
+        },
         move |_| repeated(|| rust::push(0, Setup::DEPOSIT.ustktop as usize, black_box(&list))),
     )
 }

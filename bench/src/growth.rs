@@ -34,7 +34,7 @@ pub fn growth() {
         ]
     };
     let mut worlds = places.map(|(frames, n)| {
-        let mut w = ours::world(region(), frames);
+        let mut w = ours::world(region(frames), frames);
         for k in 1..=n as u64 {
             calls::start_ours(&mut w, k, &small);
             if k < n as u64 {
@@ -59,7 +59,7 @@ pub fn growth() {
         let mut sides: Vec<&mut dyn FnMut() -> f64> = sides.iter_mut().map(|s| &mut **s as _).collect();
         rows.push(times(&mut sides));
     }
-    let region = region();
+    let region = region(2 * 1_024);
     // For each place, the Rust's times of each call.
     let mut rust: Vec<Vec<Time>> = Vec::new();
     for ((frames, n), ours) in places.into_iter().zip(&worlds) {

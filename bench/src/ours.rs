@@ -1,6 +1,6 @@
 //! Our side: frames, book and records lent to the proved library's calls (the crate holthrimi), and the loops of libmeasured.a.
 use crate::region::Region;
-use holthrimi::{Lent, PAGE, Procs, Setup};
+use holthrimi::{Lent, PAGE, Procs, Setup, book_words};
 
 unsafe extern "C" {
     fn measured_zero(d: *mut u8, n: usize);
@@ -8,6 +8,8 @@ unsafe extern "C" {
     fn measured_free(book: *const u64, n: usize) -> usize;
     fn measured_sound(book: *const u64, n: usize, procs: Procs) -> bool;
     fn measured_parse(image: *const u8, n: usize) -> u64;
+    fn read_words(book: *const u64, n: usize) -> u64;
+    fn read_counts(book: *const u64, n: usize) -> u64;
 }
 
 pub fn zero(d: &mut [u8]) {
@@ -36,13 +38,24 @@ pub fn sound(book: &[u64], procs: &Procs) -> bool {
     unsafe { measured_sound(book.as_ptr(), book.len(), *procs) }
 }
 
+/// The loops of read.c.
+pub fn words_read(book: &[u64]) -> u64 {
+    // SAFETY: they read the slice's words alone.
+    unsafe { read_words(book.as_ptr(), book.len()) }
+}
+
+pub fn counts_read(book: &[u64]) -> u64 {
+    // SAFETY: as above.
+    unsafe { read_counts(book.as_ptr(), book.len()) }
+}
+
 /// What is lent, for as long as the driver runs.
 pub type World = Lent<'static>;
 
 pub fn world(region: &Region, frames: usize) -> World {
     let bytes = &mut region.bytes()[..frames * PAGE];
     bytes.fill(0);
-    Lent { setup: Setup::DEPOSIT, frames: bytes, book: vec![0; frames].leak(), procs: Box::leak(Box::default()) }
+    Lent { setup: Setup::DEPOSIT, frames: bytes, book: vec![0; book_words(frames)].leak(), procs: Box::leak(Box::default()) }
 }
 
 /// What a call finds, for the check that it begins with: of the frames that looks at the length alone.

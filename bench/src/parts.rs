@@ -1,8 +1,8 @@
 //! What calls are made of: the loops over frames and book, the check of the book by itself, and `parse`.
-use crate::clock::{Time, repeated, times};
+use crate::clock::{repeated, times};
 use crate::region::{PAGE, Region};
-use crate::{image, ours, rust};
-use holthrimi::{Procs, Setup, UserSegment, VirtRange};
+use crate::{calls, image, ours, rust};
+use holthrimi::FRAME_WORDS;
 use std::cell::RefCell;
 use std::hint::black_box;
 
@@ -32,43 +32,59 @@ pub fn loops() {
     }
 }
 
-/// A full book of n words, pages placed from the top frame down, and its records: `nproc` processes with as many pages each as go in.
-fn full_book(n: usize, nproc: usize) -> (Vec<u64>, Procs) {
-    let page = PAGE as u64;
-    let mut procs = Procs::default();
-    let mut words = Vec::new();
-    for (k, p) in procs.all[..nproc].iter_mut().enumerate() {
-        let image = n / nproc + usize::from(k < n % nproc) - 4;
-        let Setup { utzero, ustktop, ustksize, .. } = Setup::DEPOSIT;
-        let middle = utzero + page * (image / 2) as u64;
-        let end = utzero + page * image as u64;
-        let segment = |start, end, perm| UserSegment { range: VirtRange { start, end }, perm };
-        let segments = [segment(utzero, middle, 1), segment(middle, end, 3), segment(ustktop - ustksize, ustktop, 3)];
-        p.segments[..3].copy_from_slice(&segments);
-        p.text[..6].copy_from_slice(b"reader");
-        p.bss = VirtRange { start: end, end };
-        for s in segments {
-            words.extend((s.range.start..s.range.end).step_by(PAGE).map(|a| a + 16 * (k as u64 + 1) + s.perm));
-        }
-    }
-    assert!(words.len() == n);
-    words.reverse();
-    (words, procs)
+/// Books, each with what it is called: a small one, then four of 1,024 frames. All are full but for the last, which has 104 frames free.
+fn books() -> [(&'static str, ours::World); 5] {
+    let book = |frames, nproc, image: &[u8]| {
+        let mut w = ours::world(&Region::new(frames * PAGE), frames);
+        (1..=nproc).for_each(|n| calls::start_ours(&mut w, n, image));
+        w
+    };
+    let sixteen = || book(1_024, 16, &image::pages(20, 10, 30, 0));
+    let mixed = sixteen();
+    mix(mixed.book);
+    let mut family = book(1_024, 1, &image::pages(100, 20, 96, 0));
+    (2..=8).for_each(|child| family.fork(1, child).unwrap());
+    let books = [
+        ("64 frames, 1 process", book(64, 1, &image::pages(20, 10, 30, 0))),
+        ("1 process of 1,024 pages", book(1_024, 1, &image::pages(400, 100, 520, 0))),
+        ("16 of 64 pages, in order", sixteen()),
+        ("16 of 64 pages, mixed", mixed),
+        ("8 of 220 pages, 120 shared", family),
+    ];
+    assert!(books.iter().map(|(_, w)| ours::free(w.book)).eq([0, 0, 0, 0, 104]));
+    books
 }
 
-/// The check of a full book, and the count of its free frames.
+/// The frames of a book, each with its words, in an order that looks like chance and is always the same.
+fn mix(book: &mut [u64]) {
+    let mut x = 1u64;
+    for k in (1..book.len() / FRAME_WORDS).rev() {
+        x = x.wrapping_mul(6_364_136_223_846_793_005).wrapping_add(1_442_695_040_888_963_407);
+        let j = (x >> 33) as usize % (k + 1);
+        (0..FRAME_WORDS).for_each(|i| book.swap(FRAME_WORDS * k + i, FRAME_WORDS * j + i));
+    }
+}
+
+/// The check of the book, beside a loop of C that reads each of its words; and the count of its free frames, beside one that reads the frames'
+/// counts.
 pub fn check() {
-    println!("\n{:<40} {:>10} {:>10}   noise %", "full book", "ours ns", "ns a word");
-    for (n, nproc) in [(64, 1), (1_024, 1), (1_024, 16)] {
-        let (book, procs) = full_book(n, nproc);
-        assert!(ours::sound(&book, &procs));
-        let t: Vec<Time> = times(&mut [&mut || repeated(|| ours::sound(black_box(&book), black_box(&procs))), &mut || {
-            repeated(|| ours::free(black_box(&book)))
-        }]);
-        for (name, t) in ["check", "free count"].iter().zip(&t) {
-            let name = format!("{name}, {n} words, {nproc} processes");
-            println!("{name:<40} {:>10.1} {:>10.2}   {:.0}", t.ns(), t.ns() / n as f64, t.noise());
-        }
+    println!("\n{:<40} {:>10} {:>10} {:>10} {:>7}   noise % of both", "book", "ours ns", "ns a word", "read ns", "ratio");
+    let show = |name: &str, words: usize, ours: &mut dyn FnMut() -> f64, read: &mut dyn FnMut() -> f64| {
+        let [a, b] = &times(&mut [ours, read])[..] else { unreachable!() };
+        print!("{name:<40} {:>10.1} {:>10.2}", a.ns(), a.ns() / words as f64);
+        println!(" {:>10.1} {:>7.2}   {:.0} {:.0}", b.ns(), a.ratio(b), a.noise(), b.noise());
+    };
+    let books = books();
+    for (name, w) in &books {
+        let (book, procs) = (&*w.book, &*w.procs);
+        assert!(ours::sound(book, procs), "bench: {name}: not sound");
+        let ours = &mut || repeated(|| ours::sound(black_box(book), black_box(procs)));
+        show(&format!("check, {name}"), book.len(), ours, &mut || repeated(|| ours::words_read(black_box(book))));
+    }
+    for (_, w) in &books[..2] {
+        let (book, frames) = (&*w.book, w.book.len() / FRAME_WORDS);
+        let ours = &mut || repeated(|| ours::free(black_box(book)));
+        show(&format!("free count, {frames} frames"), frames, ours, &mut || repeated(|| ours::counts_read(black_box(book))));
     }
 }
 

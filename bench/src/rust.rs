@@ -9,13 +9,16 @@
 //!   (straight.rs of r9's core has the one exception);
 //! - the page allocator and its lock, which tests one flag, are cheaper than r9's can be.
 //!
-//! Before the clock starts: the process, its address space, and the mapping of user pages.
+//! Before the clock starts: the process, its address space, and the mapping of user pages; for a fork, spare frames above the lent
+//! ones. After it stops: what a fork of the library does and the Rust does not, text and rodata shared.
+use crate::clock::timed;
 use crate::region::{PAGE, Region};
 use r9::dat::{Access, MMU, UserRegs};
 use r9::inside::{self, Exec};
-use r9::machine::{self, Host, MAPPED, STACK, Space, USTKTOP};
-use r9::procs::{Procs, free_frames};
-use r9::{elf, exec, uaccess};
+use r9::machine::{self, Host, MAPPED, SHARED, STACK, Space, USTKTOP};
+use r9::mem::PhysRange;
+use r9::procs::{PROCS, Procs, WORDS, free_frames};
+use r9::{elf, exec, pagealloc, uaccess};
 use std::sync::atomic::Ordering::Relaxed;
 
 /// Pages below 8 MiB, and the stack's four.
@@ -66,7 +69,9 @@ pub struct World {
 }
 
 impl World {
+    /// No process yet. The region has as many spare frames above these.
     pub fn new(region: &'static Region, frames: usize) -> Self {
+        assert!(region.bytes().len() >= 2 * frames * PAGE);
         region.bytes()[..frames * PAGE].fill(0);
         free_frames(frames as u64, std::iter::empty());
         // Where the stack's pages are mapped. A kernel buffer must not lie where the stack's addresses are.
@@ -79,10 +84,6 @@ impl World {
     /// A process with nothing in it, which becomes the current one.
     pub fn create(&mut self, n: usize) {
         self.procs.create(n);
-        self.procs.switch(n);
-    }
-
-    pub fn switch(&mut self, n: usize) {
         self.procs.switch(n);
     }
 
@@ -118,12 +119,48 @@ impl World {
         &self.region.bytes()[..self.frames * PAGE]
     }
 
-    pub fn fork(&mut self, n: usize, child: usize) {
-        self.procs.fork(n, child).unwrap()
+    /// How long the fork of `n` takes, which copies every page. The copies of text and rodata go to as many spare frames, which are free
+    /// for so long; then the child shares the parent's, as the library has it.
+    pub fn fork(&mut self, n: usize, child: usize) -> f64 {
+        let book = self.book();
+        let to_share = book.chunks(WORDS).filter(|f| [1, 2].contains(&(f[n - 1] % 16))).count();
+        self.procs.create(child);
+        self.procs.switch(n);
+        free(&book, to_share);
+        let t = timed(|| self.procs.fork(n, child).unwrap());
+        self.procs.share(n, child, self.frames).unwrap();
+        free(&self.book(), 0);
+        t
+    }
+
+    /// Ends the child of a fork. A page that it shared with one other process is that one's alone.
+    pub fn end(&mut self, child: usize) {
+        self.remove(child);
+        let book = self.book();
+        for n in 1..=PROCS {
+            if self.procs.lives(n) {
+                let space = self.procs.space_mut(n);
+                let alone = |(_, e): &(usize, u64)| book[WORDS * (*e as usize / PAGE) + PROCS] == 1;
+                for (va, e) in space.mapped().filter(alone).collect::<Vec<_>>() {
+                    space.set(va, e & !SHARED);
+                }
+            }
+        }
     }
 
     pub fn brk(&mut self, n: usize, addr: usize) -> u64 {
         self.procs.brk(n, addr).unwrap()
+    }
+}
+
+/// Makes the page allocator anew: the frames that a book has free, and so many spare ones above them.
+fn free(book: &[u64], spare: usize) {
+    let used = book.chunks(WORDS).enumerate().filter(|(_, f)| f[PROCS] > 0);
+    let used = used.map(|(k, _)| PhysRange::with_len((k * PAGE) as u64, PAGE));
+    free_frames((book.len() / WORDS + spare) as u64, used);
+    // It looks for its highest free frame now, not inside the clock.
+    if let Ok(highest) = pagealloc::allocate_physpage() {
+        pagealloc::free_physpage(highest).unwrap();
     }
 }
 

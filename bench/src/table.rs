@@ -23,6 +23,17 @@ impl Pair {
         calls::start_rust(&mut self.rust, n, image);
     }
 
+    /// The fork of process 1, of whose pages ours copies so many. Before it is timed, the sides' states are held to each other while
+    /// the child shares the others.
+    fn show_fork(&mut self, name: &str, copied: usize) {
+        self.ours.fork(1, 2).unwrap();
+        self.rust.fork(1, 2);
+        calls::same(name, &self.ours, &self.rust);
+        self.ours.end(2).unwrap();
+        self.rust.end(2);
+        self.show(fork(name, 1, 2), Moves::Fork(copied));
+    }
+
     /// Times both sides, the limit and the check of what the call finds; shows them; and holds the sides' states to each other.
     fn show(&mut self, mut call: Call, moves: Moves) {
         if let Some(n) = call.enters {
@@ -54,10 +65,12 @@ pub fn table() {
         print!(" {h:>9}");
     }
     println!("   noise % of ours, Rust, limit");
-    let memory = [region(), region(), region()];
+    let memory = [region(1_024), region(2 * 1_024), region(1_024)];
     let small = image::example();
     // 596 pages of the file, 300 of the bss and the stack's four; and 396 of the file and the stack's.
     let (large, middle) = (image::pages(400, 100, 96, 300), image::pages(200, 100, 96, 0));
+    // The same with 380 pages of text and rodata, and of data and stack.
+    let (most_text, most_data) = (image::pages(300, 80, 16, 0), image::pages(10, 10, 376, 0));
     let (data, bss) = (image::UTZERO + 300 * PAGE, image::UTZERO + 396 * PAGE);
 
     Pair::new(&memory).show(start("start of 7 pages", 1, &small), Moves::Image(&[], 7));
@@ -70,8 +83,14 @@ pub fn table() {
     p.show(end("end of 900 pages", 1, &large), Moves::No);
     p.show(replace("replace by 900 pages", 1, &large, image::UTZERO + 895 * PAGE), Moves::Image(&large, 304));
     let mut p = Pair::new(&memory);
+    p.start(1, &most_text);
+    p.show_fork("fork of 400 pages, 380 text", 20);
+    let mut p = Pair::new(&memory);
+    p.start(1, &most_data);
+    p.show_fork("fork of 400 pages, 380 data", 380);
+    let mut p = Pair::new(&memory);
     p.start(1, &middle);
-    p.show(fork("fork of 400 pages", 1, 2), Moves::Fork(400));
+    p.show_fork("fork of 400 pages", 100);
     p.show(brk(1, 100, bss, bss + 100 * PAGE), Moves::Image(&[], 100));
     p.show(brk(1, 100, bss + 100 * PAGE, bss), Moves::No);
     p.show(brk_none(1, bss), Moves::No);

@@ -1,7 +1,7 @@
 //! The exec layer of the r9 kernel, proved, as safe functions over its static library (`include/holthrimi.h` has the whole text of what
 //! each does, in which order it refuses, and what it changes).
 //!
-//! [`Lent`] is what every call is lent: frames, a book with a word for each, and the records of processes 1 to 16. The library keeps
+//! [`Lent`] is what every call is lent: frames, a book with 17 words for each, and the records of processes 1 to 16. The library keeps
 //! nothing between calls and allocates nothing; the header's head says what it needs of the machine, its stack among it. A call that is
 //! refused gives [`Refusal`]: either nothing changed, or the process has ended.
 
@@ -15,6 +15,8 @@ mod sys;
 pub const PAGE: usize = 4096;
 /// The most frames that may be lent.
 pub const MAX_FRAMES: usize = 1024;
+/// Words of the book for each frame: a place for each of the sixteen processes, and the count of those that hold it.
+pub const FRAME_WORDS: usize = 17;
 /// The most bytes of a process's stack.
 pub const MAX_STACK: u64 = 65536;
 
@@ -27,9 +29,9 @@ pub const DATA: u64 = 3;
 
 /// The numbers of refusals; an image's own are 11 to 27 (`holthrimi_parse` in `include/holthrimi.h`).
 pub mod number {
-    /// Frame bytes aren't 4,096 for each word, words outside 1 to 1,024, or argument lengths don't sum to their bytes.
+    /// Not 4,096 bytes and 17 words a frame, frames outside 1 to 1,024, or argument lengths don't sum to their bytes.
     pub const SIZES: u64 = 1;
-    /// The book is not sound: its words and the records don't agree.
+    /// The book is not sound: its mappings, counts and the records don't agree.
     pub const TORN: u64 = 2;
     /// A process's number outside 1 to 16.
     pub const NUMBER: u64 = 3;
@@ -145,7 +147,7 @@ pub struct UserRegs {
 pub enum Refusal {
     /// Nothing changed (but see [`Lent::try_copy_str_from_user`]).
     Refused(u64),
-    /// The process has ended: its frames are free, its record zero, frame bytes as before.
+    /// The process has ended: its pages are released, its record zero, frame bytes as before.
     Ended(u64),
 }
 
@@ -178,8 +180,9 @@ fn told(answer: sys::Answer) -> Result<sys::Answer> {
     }
 }
 
-/// What is lent to every call, with the machine's numbers, which are the same throughout. Frame bytes are 4,096 for each word of the
-/// book, 1 to 1,024 words; book and records are zero at first.
+/// What is lent to every call, with the machine's numbers, which are the same throughout. 1 to 1,024 frames have 4,096 bytes and
+/// [`FRAME_WORDS`] words of the book each ([`book_words`]); book and records are zero at first. The first sixteen words of a frame are the places of
+/// processes 1 to 16, 0 or page address + 16 * owner + permission; the last is how many of them are not 0.
 pub struct Lent<'a> {
     pub setup: Setup,
     pub frames: &'a mut [u8],
@@ -232,7 +235,8 @@ impl Lent<'_> {
     }
 
     /// Replaces a process's program; `argv` is the user address of its array of pointers to arguments.
-    /// Refused with 1, 38, 2 to 4, 30, 31, 33 (arguments); ended with 35, or with 33 if own and free frames don't suffice.
+    /// Refused with 1, 38, 2 to 4, 30, 31, 33 (arguments); ended with 35, or with 33 if the frames that it holds alone and the free ones
+    /// don't suffice.
     pub fn replace(&mut self, number: u64, image: &[u8], name: &[u8], argv: u64) -> Result<UserRegs> {
         let (u, f, fl, b, bl, p) = lent!(self);
         told(unsafe {
@@ -257,13 +261,14 @@ impl Lent<'_> {
         told(unsafe { sys::holthrimi_break(u, f, fl, b, bl, p, number, addr) }).map(|t| t.value)
     }
 
-    /// Forks a process as `child`, which must not live. Refused with 1, 38, 2 to 5, 33.
+    /// Forks a process as `child`, which must not live: it shares the parent's text and rodata frames and takes a copy of every data page,
+    /// bss and stack among them. Refused with 1, 38, 2 to 5, or with 33 if the free frames don't hold the copy.
     pub fn fork(&mut self, number: u64, child: u64) -> Result<()> {
         let (u, f, fl, b, bl, p) = lent!(self);
         told(unsafe { sys::holthrimi_fork(u, f, fl, b, bl, p, number, child) }).map(|_| ())
     }
 
-    /// Ends a process: its frames are free and keep their bytes. Refused with 1, 38, 2 to 4.
+    /// Ends a process: its pages are released, and a frame without a holder is free and keeps its bytes. Refused with 1, 38, 2 to 4.
     pub fn end(&mut self, number: u64) -> Result<()> {
         let (u, f, fl, b, bl, p) = lent!(self);
         told(unsafe { sys::holthrimi_end(u, f, fl, b, bl, p, number) }).map(|_| ())
@@ -303,6 +308,11 @@ impl Lent<'_> {
             number => Err(Refusal::Refused(number)),
         }
     }
+}
+
+/// The words of the book of so many frames, [`FRAME_WORDS`] for each; 0 for a number outside 1 to 1,024, which no call takes.
+pub fn book_words(frames: usize) -> usize {
+    unsafe { sys::holthrimi_book_words(frames as u64) as usize }
 }
 
 /// What a start needs of an image: its entry point; its record's segments, `count` of the image, then the stack; its bss; and the pages

@@ -53,6 +53,7 @@ extern "C" {
         bytes_len: usize) -> Answer;
     pub fn holthrimi_try_copy_str_from_user(u: Setup, f: *const u8, fl: usize, b: *const u64, bl: usize, p: *const Procs, number: u64, dst: *mut u8,
         dst_len: usize, src: u64) -> Answer;
+    pub fn holthrimi_book_words(frames: u64) -> u64;
     pub fn holthrimi_check(u: Setup, f: *const u8, fl: usize, b: *const u64, bl: usize, p: *const Procs) -> u64;
     pub fn holthrimi_parse(image: *const u8, image_len: usize) -> u64;
     pub fn holthrimi_plan(u: Setup, image: *const u8, image_len: usize) -> Planned;

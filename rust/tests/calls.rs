@@ -1,6 +1,7 @@
-// A start, breaks, forks and ends through the safe functions, with the 184-byte image of tests/images.
+// A start, breaks, forks and ends through the safe functions, with the 184-byte image of tests/images: a page of text, two of data and bss,
+// and the stack's four.
 
-use holthrimi::{number, Lent, Proc, Procs, Refusal, Setup, VirtRange, DATA, PAGE, TEXT};
+use holthrimi::{book_words, number, Lent, Proc, Procs, Refusal, Setup, VirtRange, DATA, FRAME_WORDS, PAGE, TEXT};
 
 const IMAGE: &[u8] = include_bytes!("../../tests/images/example.img");
 
@@ -11,21 +12,39 @@ struct Memory {
 }
 
 impl Memory {
-    fn new(words: usize) -> Self {
-        Memory { frames: vec![238; words * PAGE], book: vec![0; words], procs: Procs::default() }
+    fn new(frames: usize) -> Self {
+        Memory { frames: vec![238; frames * PAGE], book: vec![0; frames * FRAME_WORDS], procs: Procs::default() }
     }
 
     fn lent(&mut self) -> Lent<'_> {
         Lent { setup: Setup::DEPOSIT, frames: &mut self.frames, book: &mut self.book, procs: &mut self.procs }
     }
 
-    fn free(&self) -> usize {
-        self.book.iter().filter(|w| **w == 0).count()
+    /// Process n's place in frame k.
+    fn place(&mut self, k: usize, n: usize) -> &mut u64 {
+        &mut self.book[FRAME_WORDS * k + n - 1]
     }
 
-    fn started(words: usize) -> Self {
-        let mut m = Memory::new(words);
+    /// How many mappings frame k has.
+    fn count(&mut self, k: usize) -> &mut u64 {
+        &mut self.book[FRAME_WORDS * k + FRAME_WORDS - 1]
+    }
+
+    fn free(&self) -> usize {
+        self.book.chunks(FRAME_WORDS).filter(|f| f[FRAME_WORDS - 1] == 0).count()
+    }
+
+    /// Process 1, whose text is in the last frame.
+    fn started(frames: usize) -> Self {
+        let mut m = Memory::new(frames);
         m.lent().start(1, IMAGE, b"/bin/lex", b"lexmot", &[3, 3]).unwrap();
+        m
+    }
+
+    /// Process 1, and its child 16.
+    fn forked(frames: usize) -> Self {
+        let mut m = Memory::started(frames);
+        m.lent().fork(1, 16).unwrap();
         m
     }
 
@@ -50,7 +69,7 @@ fn start() {
     let regs = m.lent().start(1, IMAGE, b"/bin/lex", b"lexmot", &[3, 3]).unwrap();
     assert_eq!((regs.pc, regs.sp, regs.argc, regs.argv), (65712, Setup::DEPOSIT.ustktop - 32, 2, Setup::DEPOSIT.ustktop - 32));
     assert_eq!(m.free(), 16 - 7);
-    assert_eq!(m.book[15], 65536 + 16 + TEXT);
+    assert_eq!((*m.place(15, 1), *m.count(15)), (65536 + 16 + TEXT, 1));
     assert_eq!(&m.procs.all[0].text[..4], b"lex\0");
     assert_eq!(m.procs.all[0].bss, VirtRange { start: 69816, end: 77824 });
     assert_eq!((m.byte(1, 65536), m.byte(1, 69816), m.byte(1, 77824)), (Some(127), Some(0), None));
@@ -90,17 +109,75 @@ fn brk() {
     refused(m.lent().brk(2, 0), number::DEAD);
 }
 
+// A fork takes frames for data, bss and stack alone: six of the parent's seven pages.
 #[test]
 fn fork() {
-    let mut m = Memory::started(16);
-    m.lent().fork(1, 16).unwrap();
-    assert_eq!((m.free(), m.procs.all[0]), (2, m.procs.all[15]));
-    m.lent().copy_to_user(16, 69812, b"D").unwrap();
-    assert_eq!((m.byte(1, 69812), m.byte(16, 69812)), (Some(IMAGE[180]), Some(b'D')));
+    let mut m = Memory::forked(16);
+    assert_eq!((m.free(), m.procs.all[0]), (16 - 7 - 6, m.procs.all[15]));
+    assert_eq!((*m.place(15, 1), *m.place(15, 16), *m.count(15)), (65536 + 16 + TEXT, 65536 + 16 * 16 + TEXT, 2));
+    for k in 0..15 {
+        let (parent, child) = (*m.place(k, 1), *m.place(k, 16));
+        assert!(parent == 0 || child == 0);
+        assert_eq!(*m.count(k), (parent != 0 || child != 0) as u64);
+    }
     refused(m.lent().fork(1, 16), number::TAKEN);
     refused(m.lent().fork(1, 17), number::NUMBER);
     refused(m.lent().fork(2, 3), number::DEAD);
     refused(m.lent().fork(1, 2), number::ENOVMEM);
+    // Six free frames are enough, five are not.
+    assert_eq!(Memory::forked(13).free(), 0);
+    refused(Memory::started(12).lent().fork(1, 16), number::ENOVMEM);
+    // A child's child shares with both.
+    let mut m = Memory::forked(19);
+    m.lent().fork(16, 2).unwrap();
+    assert_eq!((*m.place(18, 2), *m.count(18), m.free()), (65536 + 2 * 16 + TEXT, 3, 0));
+}
+
+// What one writes, the other does not see; and text that is shared is written by neither.
+#[test]
+fn fork_writes() {
+    let mut m = Memory::forked(16);
+    m.lent().copy_to_user(16, 69812, b"D").unwrap();
+    assert_eq!((m.byte(1, 69812), m.byte(16, 69812)), (Some(IMAGE[180]), Some(b'D')));
+    m.lent().copy_to_user(1, 73728, b"P").unwrap();
+    assert_eq!((m.byte(1, 73728), m.byte(16, 73728)), (Some(b'P'), Some(0)));
+    let top = Setup::DEPOSIT.ustktop;
+    m.lent().push(16, 65712, top, b"two", &[3]).unwrap();
+    assert_eq!((m.byte(1, top - 4), m.byte(16, top - 4)), (Some(b'm'), Some(b't')));
+    assert_eq!(m.lent().user_range_ok(1, 65536, 1, true), Ok(false));
+    assert_eq!(m.lent().copy_to_user(1, 65536, b"T"), Err(Refusal::Ended(number::EFAULT)));
+    assert_eq!((m.byte(16, 65536), *m.place(15, 1), *m.count(15)), (Some(127), 0, 1));
+}
+
+// A frame is free when its last holder has ended.
+#[test]
+fn fork_ends() {
+    for (first, last) in [(1, 16), (16, 1)] {
+        let mut m = Memory::forked(16);
+        m.lent().end(first).unwrap();
+        let held = 65536 + 16 * last + TEXT;
+        assert_eq!((*m.place(15, first as usize), *m.place(15, last as usize), *m.count(15)), (0, held, 1));
+        assert_eq!((m.byte(last, 65536), m.byte(last, 69812), m.free()), (Some(127), Some(IMAGE[180]), 16 - 7));
+        m.lent().end(last).unwrap();
+        assert_eq!((*m.count(15), m.free(), m.book.iter().all(|w| *w == 0)), (0, 16, true));
+    }
+}
+
+// Of two that share, one is replaced: the other keeps the frame. A replace needs seven frames: six it holds alone, and one free.
+#[test]
+fn fork_replaces() {
+    let argv = Setup::DEPOSIT.ustktop - 32;
+    for n in [1, 16] {
+        let other = 17 - n;
+        let mut m = Memory::forked(14);
+        let regs = m.lent().replace(n, IMAGE, b"mot", argv).unwrap();
+        assert_eq!((regs.pc, regs.argc, m.free(), m.lent().check()), (65712, 2, 0, Ok(())));
+        assert_eq!((*m.place(13, n as usize), *m.place(13, other as usize), *m.count(13)), (0, 65536 + 16 * other + TEXT, 1));
+        assert_eq!((m.byte(n, 65536), m.byte(other, 65536)), (Some(127), Some(127)));
+        let mut m = Memory::forked(13);
+        assert_eq!(m.lent().replace(n, IMAGE, b"mot", argv), Err(Refusal::Ended(number::ENOVMEM)));
+        assert_eq!((m.byte(other, 65536), *m.count(12), m.free(), m.lent().check()), (Some(127), 1, 13 - 7, Ok(())));
+    }
 }
 
 #[test]
@@ -134,15 +211,63 @@ fn what_is_lent() {
     assert_eq!((std::mem::size_of::<Proc>(), std::mem::size_of::<Procs>()), (432, 6912));
     let mut m = Memory::started(16);
     assert_eq!(m.lent().check(), Ok(()));
-    m.book[0] = 65536 + 16 + DATA;
+    *m.place(0, 1) = 65536 + 16 + DATA;
     refused(m.lent().check(), number::TORN);
     refused(m.lent().end(1), number::TORN);
     m.frames.pop();
     refused(m.lent().check(), number::SIZES);
+    // The book has 17 words a frame, no more and no fewer.
+    for words in [0, 1, 16, 16 * 16, 16 * 17 - 17, 16 * 17 - 1, 16 * 17 + 1, 16 * 18, 17 * 17] {
+        let mut m = Memory::started(16);
+        m.book.resize(words, 0);
+        refused(m.lent().check(), number::SIZES);
+        refused(m.lent().fork(1, 2), number::SIZES);
+    }
     let mut none = Memory::new(0);
     refused(none.lent().end(1), number::SIZES);
     let mut many = Memory::new(1025);
     refused(many.lent().end(1), number::SIZES);
+    let mut most = Memory::new(1024);
+    refused(most.lent().end(1), number::DEAD);
+    assert_eq!([0, 1, 1024, 1025, usize::MAX].map(book_words), [0, 17, 17 * 1024, 0, 0]);
+}
+
+// A book whose counts and mappings don't agree, or whose frames are shared otherwise than forks do it, is refused and stays as it is.
+#[test]
+fn torn() {
+    let with = |change: &dyn Fn(&mut Memory)| {
+        let mut m = Memory::forked(16);
+        assert_eq!(m.lent().check(), Ok(()));
+        change(&mut m);
+        let before = (m.frames.clone(), m.book.clone(), m.procs);
+        refused(m.lent().check(), number::TORN);
+        refused(m.lent().fork(1, 2), number::TORN);
+        refused(m.lent().end(16), number::TORN);
+        refused(m.lent().user_range_ok(1, 65536, 1, false), number::TORN);
+        assert!((&m.frames, &m.book, m.procs) == (&before.0, &before.1, before.2));
+    };
+    // The count of a shared frame, of a data frame, and of a free one.
+    for (k, right) in [(15, 2), (14, 1), (0, 0)] {
+        assert_eq!(*Memory::forked(16).count(k), right);
+        for wrong in [0, 1, 2, 3, 17, u64::MAX] {
+            if wrong != right {
+                with(&|m| *m.count(k) = wrong);
+            }
+        }
+    }
+    // The child's mapping of the text: gone, with and without its count; in the place of another; of another page or permission.
+    with(&|m| *m.place(15, 16) = 0);
+    with(&|m| (*m.place(15, 16), *m.count(15)) = (0, 1));
+    with(&|m| *m.place(15, 2) = std::mem::take(m.place(15, 16)));
+    with(&|m| *m.place(15, 16) += 4096);
+    with(&|m| *m.place(15, 16) += 1);
+    // Data in one frame for both.
+    with(&|m| {
+        let page = *m.place(14, 1) - 16;
+        let own = (0..15).find(|k| *m.place(*k, 16) == page + 16 * 16).unwrap();
+        (*m.place(own, 16), *m.count(own)) = (0, 0);
+        (*m.place(14, 16), *m.count(14)) = (page + 16 * 16, 2);
+    });
 }
 
 #[test]

@@ -9,7 +9,7 @@ mod script;
 mod text;
 
 use holthrimi::{Lent, Procs, Refusal, Setup, UserRegs, VirtRange, PAGE};
-use script::{same_list, within, Answer, Calls, Record, Regs, Stop};
+use script::{same_list, within, Answer, Calls, Record, Regs, Stop, WORDS};
 use std::fs;
 
 struct World {
@@ -49,7 +49,7 @@ fn lengths(args: &[&[u8]]) -> Vec<u64> {
 
 impl Calls for World {
     fn new(count: usize, fill: u8) -> Self {
-        let (bytes, words) = (count * PAGE, count);
+        let (bytes, words) = (count * PAGE, count * WORDS);
         World { setup: Setup::DEPOSIT, frames: vec![fill; bytes], book: vec![0; words], procs: Procs::default(), bytes, words }
     }
     fn frames(&self) -> &[u8] {

@@ -3,6 +3,7 @@
 
     compare.py random SEED COUNT A B [--small] [--sets]   COUNT random calls, in histories of 40
     compare.py directed A B [--sets] [FILE ..]            the directed scripts of tests/replay, or the files named
+    compare.py books A B                                  every word of a small book changed (books.py)
     compare.py images SEED COUNT A B                      the listing: every one-byte change and every prefix of the
                                                           184-byte image, the images of tests/replay/images.txt, and
                                                           COUNT random images
@@ -15,9 +16,12 @@ write an answer for each line: `target/oracle/release/oracle`, `target/bin/repla
 
 --sets: other sets of the machine's numbers too, three histories of four and all directed scripts. The
 oracle has document 01's numbers alone, so it is compared without.
+
+Of the oracle's answers it counts those that are its harness's own needs of frames and not the Rust's.
 """
 import os
 import random
+import re
 import shlex
 import subprocess
 import sys
@@ -28,6 +32,7 @@ HERE = os.path.dirname(os.path.abspath(__file__))
 ROOT = os.path.dirname(os.path.dirname(HERE))
 REPLAY = os.path.join(ROOT, 'tests', 'replay')
 sys.path.insert(0, HERE)
+import books  # noqa: E402
 from elf import change  # noqa: E402
 from histories import History  # noqa: E402
 from papers.setup import DEPOSIT, read  # noqa: E402
@@ -40,15 +45,19 @@ HISTORIES_A_RUN = 50
 TIME_LIMIT = 600
 TEN = ['start', 'replace', 'push', 'break', 'fork', 'end', 'range', 'from', 'to', 'string']
 COUNTED = TEN + ['rule', 'name']
+# Forks and replaces that the oracle answered by its harness's needs of frames, with the frames of its book as they were.
+NEEDS = Counter()
 
 
 def run(command, data):
     """What a command writes for this input, and how it failed, if it did."""
     try:
         p = subprocess.run(shlex.split(command), input=data, capture_output=True, cwd=ROOT, timeout=TIME_LIMIT,
-                           close_fds=False)
+                           close_fds=False, env=dict(os.environ, ORACLE_NEEDS='1'))
     except subprocess.TimeoutExpired:
         return b'', '(took over %d s)' % TIME_LIMIT
+    for forks, replaces in re.findall(rb'^needs: (\d+) (\d+)$', p.stderr, re.M):
+        NEEDS.update(forks=int(forks), replaces=int(replaces))
     failed = '' if p.returncode == 0 else '(status %d) %s' % (p.returncode, p.stderr.decode(errors='replace').strip())
     return p.stdout, failed
 
@@ -134,6 +143,7 @@ class Count:
 
     def __init__(self):
         self.calls, self.kinds, self.sums, self.sets = Counter(), Counter(), 0, set()
+        NEEDS.clear()
 
     def add(self, lines, got):
         for line, answer in zip(asked(lines), got):
@@ -157,6 +167,8 @@ class Count:
         print('  calls: ' + ', '.join('%s %d' % (n, self.calls[n]) for n in COUNTED if self.calls[n]))
         order = sorted(self.kinds, key=lambda k: (k.split()[0], int(k.split()[1]) if ' ' in k else 0))
         print('  answers: ' + ', '.join('%s: %d' % (k, self.kinds[k]) for k in order))
+        if NEEDS:
+            print('  by the needs of the harness: %d forks accepted, %d replaces ended' % (NEEDS['forks'], NEEDS['replaces']))
 
 
 def history(seed, k, small, sets):
@@ -219,6 +231,26 @@ def compare_directed(a, b, files, sets=False, explain=True):
     return fine
 
 
+def compare_books(a, b):
+    begin, judged = time.time(), Counter()
+    for first, cases in (books.changes(), books.sizes()):
+        encoded = lambda lines: [line.encode() for line in lines]
+        lines = encoded(first + [line for case in cases for line in case])
+        x, y, at = difference(lines, a, b)
+        if at is not None:
+            # The case that differs, by itself.
+            answer, at = both(x, y, at), at - len(first)
+            for i, case in enumerate(cases):
+                at -= len(case)
+                if at < 0 or i == len(cases) - 1:
+                    report(encoded(first + case), a, b, 'books', answer)
+                    return False
+        judged.update(answer.decode() for line, answer in zip(lines, x) if line.startswith((b'range', b'end')))
+    print('books: no difference in %d books, %.0f s' % (sum(judged.values()), time.time() - begin))
+    print('  answers: ' + ', '.join('%s: %d' % (k, judged[k]) for k in sorted(judged)))
+    return True
+
+
 def images_to_list(seed, count):
     """Every prefix and every one-byte change of the example, the images of the directed script, random images."""
     yield from (EXAMPLE[:n] for n in range(len(EXAMPLE) + 1))
@@ -264,6 +296,8 @@ def main(argv):
         return compare_random(argv[1], int(argv[2]), argv[3], argv[4], small, sets)
     if len(argv) >= 3 and argv[0] == 'directed':
         return compare_directed(argv[1], argv[2], argv[3:], sets)
+    if len(argv) == 3 and argv[0] == 'books':
+        return compare_books(argv[1], argv[2])
     if len(argv) == 5 and argv[0] == 'images':
         return compare_images(argv[1], int(argv[2]), argv[3], argv[4])
     if len(argv) == 3 and argv[0] == 'write':

@@ -8,7 +8,7 @@ and school.numbers.
 import os
 import sys
 
-from boundaries import access, brk, fork, form, frames, images, numbers, push, replace, sets, start, texts
+from boundaries import access, brk, fork, form, frames, images, numbers, push, replace, sets, shared, start, texts
 from papers.setup import written
 from random_images import EXAMPLE
 
@@ -16,7 +16,7 @@ HERE = os.path.dirname(os.path.abspath(__file__))
 REPLAY = os.path.join(os.path.dirname(HERE), 'replay')
 SCRIPTS = [images.images, start.examples, start.args, push.push, brk.brk, frames.frames, access.access, access.strings,
            replace.replace, start.names, fork.fork, numbers.numbers, frames.sizes, brk.rule, frames.history, form.form, form.files,
-           sets.sets, texts.texts]
+           sets.sets, texts.texts, shared.shared, shared.orders, shared.torn]
 
 
 def main(argv):

@@ -1,13 +1,14 @@
 """Random histories of calls, from a generator of random numbers.
 
-A history is a list of script lines. The model runs along while it is made, only to know which processes live and where their
-segments lie, so that addresses are apt; no answer of the model goes into a history. A history may be under another set of the
-machine's numbers than document 01's; the oracle has none of these.
+A history is a list of script lines. The model runs along while it is made, only to know which processes live, where their
+segments lie and what the book holds, so that addresses and words are apt; no answer of the model goes into a history. A history may
+be under another set of the machine's numbers than document 01's; the oracle has none of these.
 """
 import struct
 
 from papers.layout import stack_size
-from papers.machine import DATA, MAX, PAGE, down, up
+from papers.machine import DATA, MAX, PAGE, Refused, down, up
+from papers.memory import WORDS
 from papers.names import elem
 from papers.setup import DEPOSIT, written
 from random_images import any_image, example_at, random_image
@@ -250,7 +251,7 @@ class History:
         a = self.address(n)
         if record and r.random() < 0.8:
             start, end = record.bss
-            free = self.w.free()
+            free = len(self.w.free())
             a = r.choice([0, start, start - 1, start + 1, up(start), end, end - 1, end + 1, end - PAGE,
                 end - PAGE + 1, end + PAGE, end + PAGE * free, end + PAGE * free + 1, end + PAGE * free - 1,
                 end + 2 * PAGE, end + r.randint(0, 4 * PAGE), start + r.randint(0, 3 * PAGE)])
@@ -271,6 +272,14 @@ class History:
                 del lent[r.randrange(len(lent))]
             words += [x for s in lent for x in s]
         self.call('fork', *words)
+
+    def family(self):
+        """Forks and forks of forks."""
+        r = self.r
+        for _ in range(r.randint(2, 4)):
+            dead = [n for n in range(1, 17) if not self.record(n)]
+            if self.alive() and dead:
+                self.call('fork', r.choice(self.alive()), r.choice(dead))
 
     def end(self):
         self.call('end', self.number())
@@ -306,48 +315,99 @@ class History:
         a = self.address(n)
         self.call('string', n, a, self.length(a, 65536))
 
+    # The book
+
+    def write(self, words):
+        """Write book words, each with its place."""
+        for at, word in words.items():
+            if self.w.book[at] != word:
+                self.emit('word %d %d' % (at, word))
+
+    def frame(self):
+        """A frame, mostly one in use."""
+        r, w = self.r, self.w
+        used = [i for i in range(w.n) if w.holders(i)]
+        return r.choice(used) if used and r.random() < 0.8 else r.randrange(w.n)
+
     def tear(self):
-        """Write a book word, try some calls, and write the old one again."""
+        """Write book words, try some calls, and write the old ones again if the book was torn."""
         r, w = self.r, self.w
         if w.n == 0:
             return
-        i = r.randrange(w.n)
-        used = [k for k in range(w.n) if w.book[k]]
-        if used and r.random() < 0.8:
-            i = r.choice(used)
-        old = w.book[i]
-        utzero, end = self.setup.utzero, self.setup.uaddrtop
-        word = old or utzero + 16 + 3
-        new = r.choice([0, word ^ 1, word ^ 3, word + 4, word + 16, word - 16, word + PAGE, down(word) + 3,
-            down(word) + 16 * 17 + 3, word % PAGE, word % PAGE + utzero - PAGE, word % PAGE + end,
-            word % PAGE + end - PAGE, r.getrandbits(64), MAX, r.choice(w.book)])
-        self.emit('word %d %d' % (i, new % 2**64))
+        i = self.frame()
+        words = self.other_count(i) if r.random() < 0.25 else self.other_place(i)
+        old = {at: w.book[at] for at in words}
+        self.write(words)
+        try:
+            w.enter()
+            old = {}
+        except Refused:
+            pass
         for _ in range(r.randint(1, 2)):
             self.step_once()
-        # If the book was sound all the same, the calls may have changed it.
-        if w.book[i] == new % 2**64:
-            self.emit('word %d %d' % (i, old))
+        self.write(old)
+
+    def other_count(self, i):
+        count = self.w.count(i)
+        return {self.w.at_count(i): self.r.choice([0, 1, 2, 3, 16, 17, count + 1, count - 1, count + 2**32, MAX]) % 2**64}
+
+    def other_place(self, i):
+        """Another word in a place of frame i, mostly with the count that it then has."""
+        r, w = self.r, self.w
+        holders = w.holders(i)
+        n = r.choice(holders) if holders and r.random() < 0.6 else r.randint(1, 16)
+        utzero, end = self.setup.utzero, self.setup.uaddrtop
+        near = [w.book[w.at_place(k, m)] for k in (i, self.frame()) for m in w.holders(k)]
+        word = r.choice([w.book[w.at_place(i, n)], *near]) or utzero + 16 * n + 3
+        own = down(word) + 16 * n + word % 16        # as the place wants it
+        new = r.choice([0, own, own, own, word, own ^ 1, own ^ 3, own + 4, own + 16, own - 16, own + PAGE, own - PAGE,
+            down(own) + 3, down(own) + 16 * 17 + 3, own % PAGE, own % PAGE + utzero - PAGE, own % PAGE + end,
+            own % PAGE + end - PAGE, r.getrandbits(64), MAX]) % 2**64
+        words = {w.at_place(i, n): new}
+        if r.random() < 0.7:
+            words[w.at_count(i)] = len(set(holders) - {n}) + (new != 0)
+        return words
 
     def swap(self):
-        """Exchange two book words: the book stays sound, pages change their frames."""
+        """Exchange two frames' words: the book stays sound, pages change their frames."""
         r, w = self.r, self.w
         if w.n:
             i, j = r.randrange(w.n), r.randrange(w.n)
-            a, b = w.book[i], w.book[j]
-            self.emit('word %d %d' % (i, b))
-            self.emit('word %d %d' % (j, a))
+            a, b = (w.book[WORDS * k:WORDS * (k + 1)] for k in (i, j))
+            self.write({WORDS * k + at: word for k, words in ((i, b), (j, a)) for at, word in enumerate(words)})
+
+    def move(self):
+        """Put a process's text or rodata page on another frame that has the same page for others, or on a free one: the book stays
+        sound."""
+        r, w = self.r, self.w
+        held = {}
+        for i in range(w.n):
+            for n in w.holders(i):
+                word = w.book[w.at_place(i, n)]
+                held.setdefault(word - 16 * n, {})[n] = i
+        for common in sorted(held):
+            frames = held[common]
+            n = r.choice(sorted(frames))
+            i = frames[n]
+            others = sorted(set(frames.values()) - {i}) + [k for k in range(w.n) if not w.holders(k)][:1]
+            if common % 16 != DATA and others and w.count(i) > 0 and r.random() < 0.5:
+                j = r.choice(others)
+                self.write({w.at_place(i, n): 0, w.at_count(i): w.count(i) - 1, w.at_place(j, n): common + 16 * n,
+                    w.at_count(j): w.count(j) + 1})
 
     def lend(self):
         """Lend an odd size, try some calls, and lend all again."""
         r, w = self.r, self.w
         n = w.n
-        size, words = r.choice([(PAGE * n - 1, n), (PAGE * n, n - 1), (PAGE * (n - 1), n), (PAGE * (n - 1), n - 1),
-            (0, 0), (PAGE * (n // 2), n // 2), (PAGE, 1), (PAGE * (n // 2) + 1, n // 2), (0, n)])
-        if 0 <= words <= n and 0 <= size <= PAGE * n:
+        size, words = r.choice([(PAGE * n - 1, WORDS * n), (PAGE * n, WORDS * n - 1), (PAGE * n, WORDS * (n - 1)),
+            (PAGE * (n - 1), WORDS * n), (PAGE * (n - 1), WORDS * (n - 1) + 1), (PAGE * (n - 1), WORDS * (n - 1)), (0, 0),
+            (PAGE * (n // 2), WORDS * (n // 2)), (PAGE * n, n), (PAGE, 1), (PAGE, WORDS), (PAGE, WORDS - 1),
+            (PAGE * (n // 2) + 1, WORDS * (n // 2)), (0, WORDS * n)])
+        if 0 <= words <= WORDS * n and 0 <= size <= PAGE * n:
             self.emit('lend %d %d' % (size, words))
             for _ in range(r.randint(1, 3)):
                 self.step_once()
-            self.emit('lend %d %d' % (PAGE * n, n))
+            self.emit('lend %d %d' % (PAGE * n, WORDS * n))
 
     def other_numbers(self):
         """Hand over other numbers, try some calls, and hand the history's own again. Another stack is handed over while a process
@@ -380,5 +440,5 @@ class History:
     def name_call(self):
         self.call('name', shown(elem(self.name())))
 
-    STEPS = [(start, 10), (replace, 8), (push, 7), (brk, 13), (fork, 8), (end, 2), (range, 12), (copy_from, 9),
-             (copy_to, 13), (string, 12), (tear, 2), (swap, 1), (lend, 1), (rule, 4), (name_call, 2)]
+    STEPS = [(start, 8), (replace, 8), (push, 7), (brk, 13), (fork, 10), (family, 3), (end, 4), (range, 12), (copy_from, 9),
+             (copy_to, 13), (string, 12), (tear, 3), (swap, 1), (move, 1), (lend, 1), (rule, 4), (name_call, 2)]

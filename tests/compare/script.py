@@ -93,6 +93,11 @@ def sums(world):
         zlib.crc32(b) for b in (records, words(world.book), world.frames))
 
 
+def on_frame(world, i):
+    """A frame and its holders."""
+    return '%d holders %s' % (i, ' '.join(map(str, world.holders(i))))
+
+
 def held(world, n):
     """What a process holds, for a person."""
     world.living(n)
@@ -102,8 +107,9 @@ def held(world, n):
     for kind, (start, end) in [(KINDS[p], (s, e)) for s, e, p in r.segments] + [('bss', r.bss)]:
         lines.append('  %s %d %d size %d' % (kind, start, end, end - start))
         for page in range(up(start), end, PAGE):
-            frames = [i for i, w in enumerate(world.book) if down(w) == page and w % PAGE // 16 == n]
-            lines.append('    page %d frame %s' % (page, frames[0] if frames else 'none'))
+            words = [world.book[world.at_place(i, n)] for i in range(world.n)]
+            frames = [i for i, w in enumerate(words) if down(w) == page and w % PAGE // 16 == n]
+            lines.append('    page %d frame ' % page + (on_frame(world, frames[0]) if frames else 'none'))
     lines.append('  pages %d' % r.count())
     return '\n'.join(lines)
 
@@ -151,14 +157,14 @@ class Script:
 
     def lend(self, words):
         size, count = take(words, number, number)
-        if size > PAGE * self.w.n or count > self.w.n:
+        if size > PAGE * self.w.n or count > len(self.w.book):
             raise BadLine
         self.w.bytes, self.w.words = size, count
         return 'ok'
 
     def word(self, words):
         i, word = take(words, number, number)
-        if i >= self.w.n:
+        if i >= len(self.w.book):
             raise BadLine
         self.w.book[i] = word
         return 'ok'

@@ -1,6 +1,6 @@
 /*
  * An example of the library, and its test: a program of 184 bytes is started with two arguments, its break moves, it forks, parent and
- * child write to their own memory, and both end. Every answer is checked; the last line says 'N checks, 0 failed'.
+ * children share its text and write to their own memory, and all end. Every answer is checked; the last line says 'N checks, 0 failed'.
  *
  *     cc example.c -I../../include ../../target/staticlib/libholthrimi.a -o example && ./example
  */
@@ -9,8 +9,8 @@
 #include <string.h>
 
 /* The memory that is lent to every call. */
-enum { WORDS = 32 };
-static uint8_t frames[WORDS * HOLTHRIMI_PAGE];
+enum { FRAMES = 32, WORDS = FRAMES * HOLTHRIMI_FRAME_WORDS };
+static uint8_t frames[FRAMES * HOLTHRIMI_PAGE];
 static uint64_t book[WORDS];
 static struct holthrimi_procs procs;
 
@@ -94,10 +94,19 @@ static bool same(const struct holthrimi_proc *a, const struct holthrimi_proc *b)
            memcmp(&a->bss, &b->bss, sizeof a->bss) == 0;
 }
 
+/* Process n's place in a frame, and how many hold the frame. */
+static uint64_t *place(int frame, int n) {
+    return &book[HOLTHRIMI_FRAME_WORDS * frame + n - 1];
+}
+
+static uint64_t *holders(int frame) {
+    return &book[HOLTHRIMI_FRAME_WORDS * frame + HOLTHRIMI_PROCESSES];
+}
+
 static uint64_t free_frames(void) {
     uint64_t n = 0;
-    for (int i = 0; i < WORDS; i++) {
-        n += book[i] == 0;
+    for (int k = 0; k < FRAMES; k++) {
+        n += *holders(k) == 0;
     }
     return n;
 }
@@ -108,6 +117,9 @@ int main(void) {
 
     /* The library and this header agree about the layout of what is lent. */
     CHECK(sizeof(struct holthrimi_proc) == 432 && sizeof procs == 6912 && sizeof a == 56);
+    CHECK(holthrimi_book_words(FRAMES) == WORDS && holthrimi_book_words(1) == HOLTHRIMI_FRAME_WORDS);
+    CHECK(holthrimi_book_words(HOLTHRIMI_MAX_FRAMES) == HOLTHRIMI_MAX_FRAMES * HOLTHRIMI_FRAME_WORDS);
+    CHECK(holthrimi_book_words(0) == 0 && holthrimi_book_words(HOLTHRIMI_MAX_FRAMES + 1) == 0);
 
     write_image();
     struct holthrimi_planned plan = holthrimi_plan(setup, image, IMAGE);
@@ -138,7 +150,7 @@ int main(void) {
     struct holthrimi_regs regs = a.regs;
     CHECK(accepted(a) && regs.pc == 65712 && regs.argc == 2 && regs.argv == top - 32 && regs.sp == top - 32);
     CHECK(memcmp(procs.all[0].text, "lex", 4) == 0);
-    CHECK(free_frames() == WORDS - 7 && book[WORDS - 1] == 65536 + 16 * 1 + HOLTHRIMI_TEXT);
+    CHECK(free_frames() == FRAMES - 7 && *place(FRAMES - 1, 1) == 65536 + 16 * 1 + HOLTHRIMI_TEXT && *holders(FRAMES - 1) == 1);
     CHECK(holthrimi_check(LENT) == 0);
     CHECK(peek(1, 65536) == 127 && peek(1, 69812) == 'd' && peek(1, 69816) == 0 && peek(1, 77824) == -1);
     uint8_t text[8] = "........";
@@ -152,6 +164,8 @@ int main(void) {
     CHECK(refused(holthrimi_start(LENT, 2, image, 63, name, 8, bytes, 6, lengths, 2), HOLTHRIMI_EBADEXEC));
     CHECK(refused(holthrimi_end(LENT, 17), HOLTHRIMI_NUMBER) && refused(holthrimi_end(LENT, 2), HOLTHRIMI_DEAD));
     CHECK(refused(holthrimi_end(setup, frames, sizeof frames - 1, book, WORDS, &procs, 1), HOLTHRIMI_SIZES));
+    CHECK(refused(holthrimi_end(setup, frames, sizeof frames, book, WORDS - 1, &procs, 1), HOLTHRIMI_SIZES));
+    CHECK(refused(holthrimi_end(setup, frames, sizeof frames, book, FRAMES, &procs, 1), HOLTHRIMI_SIZES));
     setup.uaddrtop += 4096;
     CHECK(refused(holthrimi_end(LENT, 1), HOLTHRIMI_SETUP) && holthrimi_check(LENT) == HOLTHRIMI_SETUP);
     CHECK(holthrimi_plan(setup, image, IMAGE).number == HOLTHRIMI_SETUP);
@@ -161,12 +175,12 @@ int main(void) {
     setup.uaddrtop -= 4096;
     CHECK(holthrimi_check(LENT) == 0);
     CHECK(refused(holthrimi_push(LENT, 1, 65712, top - 8, bytes, 6, lengths, 2), HOLTHRIMI_TOP));
-    CHECK(free_frames() == WORDS - 7 && peek(1, 69812) == 'd');
+    CHECK(free_frames() == FRAMES - 7 && peek(1, 69812) == 'd');
 
     /* Break: address 0 tells the bss's start; it grows by a page, and shrinks inside it. */
     a = holthrimi_break(LENT, 1, 0);
     CHECK(accepted(a) && a.value == 69816);
-    CHECK(accepted(holthrimi_break(LENT, 1, 77825)) && peek(1, 77824) == 0 && free_frames() == WORDS - 8);
+    CHECK(accepted(holthrimi_break(LENT, 1, 77825)) && peek(1, 77824) == 0 && free_frames() == FRAMES - 8);
     CHECK(accepted(holthrimi_copy_to_user(LENT, 1, 77830, (const uint8_t *)"kept", 4)));
     CHECK(accepted(holthrimi_break(LENT, 1, 77826)) && peek(1, 77830) == 'k' && procs.all[0].bss.end == 81920);
     CHECK(refused(holthrimi_break(LENT, 1, 69815), HOLTHRIMI_ENOVMEM));
@@ -176,29 +190,39 @@ int main(void) {
     CHECK(holthrimi_ibrk(setup, false, 0, 0, 0, 0).error == HOLTHRIMI_EBADARG);
     printf("break: the bss ends at %llu\n", (unsigned long long)procs.all[0].bss.end);
 
-    /* Fork: the child has its parent's bytes, and its own from then on. */
-    CHECK(accepted(holthrimi_fork(LENT, 1, 2)) && free_frames() == WORDS - 16);
+    /* Fork: the child shares its parent's page of text; it has the bytes of the seven others, and its own from then on. */
+    CHECK(accepted(holthrimi_fork(LENT, 1, 2)) && free_frames() == FRAMES - 8 - 7);
     CHECK(same(&procs.all[0], &procs.all[1]));
+    CHECK(*place(FRAMES - 1, 2) == 65536 + 16 * 2 + HOLTHRIMI_TEXT && *holders(FRAMES - 1) == 2 && *holders(FRAMES - 2) == 1);
     CHECK(accepted(holthrimi_copy_to_user(LENT, 2, 77830, (const uint8_t *)"K", 1)));
     CHECK(peek(1, 77830) == 'k' && peek(2, 77830) == 'K' && peek(2, 77831) == 'e');
     CHECK(refused(holthrimi_fork(LENT, 1, 2), HOLTHRIMI_TAKEN) && accepted(holthrimi_fork(LENT, 1, 3)));
     CHECK(accepted(holthrimi_fork(LENT, 1, 4)) && refused(holthrimi_fork(LENT, 1, 5), HOLTHRIMI_ENOVMEM));
-    printf("forked: %llu frames are free\n", (unsigned long long)free_frames());
+    CHECK(*holders(FRAMES - 1) == 4 && free_frames() == FRAMES - 8 - 3 * 7);
+    printf("forked: four share the text, and %llu frames are free\n", (unsigned long long)free_frames());
 
-    /* Push and replace: the arguments are read from the old memory. */
+    /* A count that isn't the number of mappings is refused by every call. */
+    *holders(FRAMES - 1) = 3;
+    CHECK(holthrimi_check(LENT) == HOLTHRIMI_TORN && refused(holthrimi_end(LENT, 1), HOLTHRIMI_TORN));
+    *holders(FRAMES - 1) = 4;
+    CHECK(holthrimi_check(LENT) == 0);
+
+    /* Push and replace: the arguments are read from the old memory, and the others keep the text. */
     a = holthrimi_push(LENT, 2, 65712, top, bytes, 6, lengths, 2);
     CHECK(accepted(a) && a.regs.argv == top - 32);
     a = holthrimi_replace(LENT, 2, image, IMAGE, (const uint8_t *)"mot", 3, a.regs.argv);
     CHECK(accepted(a) && a.regs.argc == 2 && peek(2, 77830) == -1 && memcmp(procs.all[1].text, "mot", 4) == 0);
+    CHECK(*place(FRAMES - 1, 2) == 0 && *holders(FRAMES - 1) == 3 && peek(1, 65536) == 127 && peek(2, 65536) == 127);
 
     /* A bad address ends the process, with no byte copied; the string copy's doesn't. */
     CHECK(refused(holthrimi_try_copy_str_from_user(LENT, 3, text, 8, 4096), HOLTHRIMI_EFAULT));
     CHECK(ended(holthrimi_copy_to_user(LENT, 3, 65536, bytes, 1), HOLTHRIMI_EFAULT));
     CHECK(refused(holthrimi_end(LENT, 3), HOLTHRIMI_DEAD));
 
-    /* End. */
-    CHECK(accepted(holthrimi_end(LENT, 1)) && accepted(holthrimi_end(LENT, 2)) && accepted(holthrimi_end(LENT, 4)));
-    CHECK(free_frames() == WORDS && holthrimi_check(LENT) == 0);
+    /* End: the text stays with the last that holds it. */
+    CHECK(accepted(holthrimi_end(LENT, 1)) && *holders(FRAMES - 1) == 1 && peek(4, 65536) == 127 && peek(4, 69812) == 'd');
+    CHECK(accepted(holthrimi_end(LENT, 2)) && accepted(holthrimi_end(LENT, 4)));
+    CHECK(free_frames() == FRAMES && holthrimi_check(LENT) == 0);
     static const struct holthrimi_proc none;
     CHECK(same(&procs.all[0], &none) && same(&procs.all[1], &none) && same(&procs.all[2], &none));
     book[0] = 1;
@@ -206,7 +230,7 @@ int main(void) {
     uint8_t short_name[HOLTHRIMI_NAME];
     holthrimi_kstrcpy(short_name, (const uint8_t *)"a name of more than 27 bytes", 28);
     CHECK(memcmp(short_name, "a name of more than 27 b...\0", 28) == 0);
-    printf("ended: all %d frames are free\n", WORDS);
+    printf("ended: all %d frames are free\n", FRAMES);
 
     printf("%d checks, %d failed\n", checks, failed);
     return failed != 0;

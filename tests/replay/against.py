@@ -75,6 +75,12 @@ def made(folder):
         b'to 1 69632 @' + folder.encode(), b'to 1 69632 ' + empty, b'to 1 69632 @', b'to 1 69632 @' + b'x' * 5000,
         b'to 1 ' + low + b' ' + elf, b'to 1 69632 ' + over, b'from 1 ' + low + b' 184', b'name ' + name, b'name ' + most,
         b'replace 1 ' + name + b' ' + elf + b' 140737488355304', b'to 1 69632 ' + most, b'sum'])
+    yield 'book', b'\n'.join([
+        b'frames 1025', b'word 17424 7', b'word 17425 0', b'word 17424 0', b'lend 4198400 17425', b'lend 4198400 17426',
+        b'lend 4198401 17425', b'end 1', b'lend 4194304 17409', b'end 1', b'lend 4194304 17408', b"start 1 'x " + elf,
+        *(b'fork %d %d' % (n, n + 1) for n in range(1, 16)), b'break 16 3874817', b'break 16 3874816', b'map 1', b'map 16',
+        b'sum', b'word 17407 17', b'end 1', b'word 17407 16', b'end 1', b'end 15', b'map 16', b'sum',
+        *(b'word %d 1' % (17 * i + n) for i in range(1024) for n in range(15)), b'map 16', b'end 16'])
     school = written(Setup(4096, 65536, 8192, 65536))
     yield 'numbers', b'\n'.join([
         b'rule 0 0 0 0', b'rule 0 53248 99 53249', b'numbers ' + file('school', school), b'rule 0 53248 99 53249', b'start 1 - -',

@@ -1,19 +1,17 @@
 -- What calls that look at a process's memory answer.
 use Prim.Native.Nat.{ℕ}
-use mathlib.Core.Path.{_≡_, refl, sym, ap, _∙_}
+use mathlib.Core.Path.{_≡_, sym, ap, _∙_}
 use mathlib.Core.Bool.{Bool, true, false, not}
-use Rattle.spec.specs.Tests.{_⇒_else_}
 use Rattle.spec.specs.Access.{userRangeOk, Str}
 use Rattle.spec.specs.Machine.{Reply, plainly, Machine, weigh, weighStr, user-range-ok}
-use Rattle.spec.specs.declared.Answer.{Answer}
 use Rattle.spec.specs.declared.Answer.the-variants.{Value, Refused}
 
 module _ (m : Machine) (free : ℕ) where
   -- a range by itself
-  pub range-yes : (write : Bool) (addr len : ℕ) → userRangeOk (m .setup) (m .mem) write addr len ≡ true → weigh m free (user-range-ok addr len write) ≡ plainly (Value 1)
+  pub range-yes : (write : Bool) (addr len : ℕ) → userRangeOk (m .setup) (m .mem) write addr len ≡ true → weigh m free 0 (user-range-ok addr len write) ≡ plainly (Value 1)
   range-yes write addr len e = rw e
 
-  pub range-no : (write : Bool) (addr len : ℕ) → userRangeOk (m .setup) (m .mem) write addr len ≡ false → weigh m free (user-range-ok addr len write) ≡ plainly (Value 0)
+  pub range-no : (write : Bool) (addr len : ℕ) → userRangeOk (m .setup) (m .mem) write addr len ≡ false → weigh m free 0 (user-range-ok addr len write) ≡ plainly (Value 0)
   range-no write addr len e = rw e
 
 -- a string, from what its copy x came to

@@ -6,6 +6,7 @@ ghost use mathlib.Core.Path.{_≡_};
 ghost use Prim.Native.Nat.{_*_, _≤_};
 ghost use lib.ListN.{length};
 ghost use Rattle.spec.specs.Numbers.{SetupOk, argLimit};
+ghost use Rattle.spec.specs.Book.{frameCount};
 ghost use Rattle.spec.specs.Frames.{memOf};
 ghost use Rattle.spec.specs.Exec.{copyArgv};
 ghost use Rattle.sound.specs.Table.{Ready};
@@ -30,12 +31,12 @@ pub fn copy_argv(
     book: &[u64],
     tags: &[u64; 272],
     bases: &[u64; 273],
-    table: &[u16; 1024],
+    table: &[u16; 16384],
     number: u64,
     argv: u64,
     buf: &mut [u8],
 ) -> Argv
-    requires { ⌜ (length (now frames) ≡ 4096 * length (now book)) × Ready (now book) (now tags) (now bases) (now table) ⌝ }
+    requires { ⌜ (length (now frames) ≡ 4096 * frameCount (now book)) × Ready (now book) (now tags) (now bases) (now table) × (1 ≤ number) × (number ≤ 16) ⌝ }
     requires { ⌜ (argLimit setup ≤ length (now buf)) × SetupOk setup ⌝ }
     ensures { λ r. ⌜ Read (copyArgv setup (memOf (store (now (frames .entry)) (now (book .entry))) number) argv) r (now (buf .exit)) ⌝ }
 {

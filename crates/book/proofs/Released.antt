@@ -1,23 +1,30 @@
--- A loop that releases pages, word after word.
-use Prim.Native.Nat.{ℕ, _+_, _≤_, _<_}
-use mathlib.Core.Path.{_≡_, ap, _∙_}
-use mathlib.Core.Bool.{Bool}
-use mathlib.Core.List.{List, map}
-use lib.ListN.{length, getD, set}
-use Rattle.spec.specs.Tests.{_⇒_else_}
-use Rattle.spec.specs.Frames.{release}
+-- A loop that releases pages, frame after frame.
+use Prim.Native.Nat.{ℕ, _+_, _-_}
+use native.Mathlib.Numerals.{add-one}
+use mathlib.Core.Path.{_≡_, sym, ap, _∙_}
+use mathlib.Core.Bool.{Bool, true, false, _&&_}
+use mathlib.Core.List.{List}
+use Rattle.spec.specs.Tests.{_isnt_, _⇒_else_}
+use Rattle.spec.specs.Book.{pageOf, frameCount, mapping, holders}
+use Rattle.spec.specs.Frames.{enter, sweep, letGo, release}
 use Rattle.book.specs.Lent.{store}
-use Rattle.laws.proofs.Overwrite.{mix, map-turn, map-all}
 
--- the words before i are those after the release of the words that pass t
-abbrev pub released : (ℕ → Bool) → List ℕ → ℕ → List ℕ
-released t book i = mix (map (λ w. t w ⇒ 0 else w) book) book i
+-- the frames before i are those after the release
+abbrev pub released : ℕ → (ℕ → Bool) → List ℕ → ℕ → List ℕ
+released n t book i = sweep (letGo n t) book i
 
-pub release-turn : (t : ℕ → Bool) (book now : List ℕ) (i w : ℕ) → now ≡ released t book i → i < length book → w ≡ (t (getD now i 0) ⇒ 0 else getD now i 0)
-    → set now i w ≡ released t book (i + 1)
-release-turn t book now i w e h v = rw (v, e) (map-turn (λ w. t w ⇒ 0 else w) book i h)
+abbrev pub leaves : ℕ → (ℕ → Bool) → List ℕ → ℕ → Bool
+leaves n t book k = mapping book k n isnt 0 && t (pageOf (mapping book k n))
 
-pub release-all : (t : ℕ → Bool) (book now : List ℕ) (i : ℕ) → now ≡ released t book i → length book ≤ i
-    → (frames : List ℕ) → store frames now ≡ release (store frames book) t
+-- a frame that is let go, and one that stays
+pub release-go : (n : ℕ) (t : ℕ → Bool) (book now later : List ℕ) (i : ℕ) → now ≡ released n t book i → leaves n t now i ≡ true → later ≡ enter now i n 0 (holders now i - 1) → later ≡ released n t book (i + 1)
+release-go n t book now later i e g h =
+    h ∙ sym (rw (add-one i) (ap (λ (b : List ℕ). letGo n t b i) (sym e) ∙ ap (λ (x : Bool). x ⇒ enter now i n 0 (holders now i - 1) else now) g))
+
+pub release-stay : (n : ℕ) (t : ℕ → Bool) (book now : List ℕ) (i : ℕ) → now ≡ released n t book i → leaves n t now i ≡ false → now ≡ released n t book (i + 1)
+release-stay n t book now i e g =
+    sym (rw (add-one i) (ap (λ (b : List ℕ). letGo n t b i) (sym e) ∙ ap (λ (x : Bool). x ⇒ enter now i n 0 (holders now i - 1) else now) g))
+
+pub release-all : (n : ℕ) (t : ℕ → Bool) (book now : List ℕ) (i : ℕ) → now ≡ released n t book i → i ≡ frameCount book → (frames : List ℕ) → store frames now ≡ release (store frames book) n t
 unfolding release
-release-all t book now i e h frames = ap (store frames) (e ∙ map-all (λ w. t w ⇒ 0 else w) book i h)
+release-all n t book now i e h frames = ap (store frames) (e ∙ ap (released n t book) h)

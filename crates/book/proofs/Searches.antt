@@ -1,4 +1,4 @@
--- The turns of loops over the book: free frames counted, and the highest frame that passes a test.
+-- The turns of loops over the book: free frames counted, and those held alone, and the highest frame that passes a test.
 use Prim.Native.Nat.{ℕ, suc, _+_, _-_, _/_, _%_, _≤_, _<_}
 use native.Mathlib.Omega.{arith}
 use native.Mathlib.Numerals.{add-one}
@@ -6,10 +6,8 @@ use mathlib.Core.Path.{_≡_, refl, sym, ap, _∙_}
 use mathlib.Core.Bool.{Bool, true, false}
 use mathlib.Core.Option.{Option, none, some}
 use mathlib.Core.List.{List}
-use lib.ListN.{length, getD, drop, drop-of-length-le}
-use lib.Seq.{drop-cons}
 use borrow.Author.Tests.{eq-eqb, ne-eqb}
-use Rattle.spec.specs.Book.{highest, owns, frameOf, free}
+use Rattle.spec.specs.Book.{frameCount, mapping, holders, highest, countBelow, owns, frameOf, isAlone}
 use Rattle.spec.specs.declared.Found.{Found}
 use Rattle.spec.specs.declared.Found.the-variants.{At, Nothing}
 use Rattle.book.specs.Lent.{foundOf}
@@ -19,14 +17,23 @@ use Rattle.laws.proofs.Frame.{owns-means, owns-test, frame-found}
 -- ---- free frames
 
 -- a frame that is free, and one that isn't
-pub free-hit : (book : List ℕ) (i : ℕ) → i < length book → getD book i 0 ≡ 0 → free (drop i book) ≡ free (drop (i + 1) book) + 1
-free-hit book i h e = rw (add-one i) (ap free (drop-cons book i 0 h) ∙ rw (eq-eqb (getD book i 0) 0 e))
+pub count-hit : (t : ℕ → Bool) (i : ℕ) → t i ≡ true → countBelow t (i + 1) ≡ countBelow t i + 1
+count-hit t i e = rw (add-one i) (rw e)
 
-pub free-miss : (book : List ℕ) (i : ℕ) → i < length book → (getD book i 0 ≡ 0 → ⊥) → free (drop i book) ≡ free (drop (i + 1) book)
-free-miss book i h e = rw (add-one i) (ap free (drop-cons book i 0 h) ∙ rw (ne-eqb (getD book i 0) 0 e))
+pub count-miss : (t : ℕ → Bool) (i : ℕ) → t i ≡ false → countBelow t (i + 1) ≡ countBelow t i
+count-miss t i e = rw (add-one i) (rw e)
 
-pub free-end : (book : List ℕ) (i : ℕ) → length book ≤ i → free (drop i book) ≡ 0
-free-end book i h = ap free (drop-of-length-le book h)
+-- ---- frames held alone
+
+-- a frame that an owner holds alone, one that it shares, and one that it doesn't hold
+pub alone-here : (book : List ℕ) (n k : ℕ) → (mapping book k n ≡ 0 → ⊥) → holders book k ≡ 1 → isAlone book n k ≡ true
+alone-here book n k ne e = rw (ne-eqb (mapping book k n) 0 ne, eq-eqb (holders book k) 1 e)
+
+pub alone-shared : (book : List ℕ) (n k : ℕ) → (mapping book k n ≡ 0 → ⊥) → (holders book k ≡ 1 → ⊥) → isAlone book n k ≡ false
+alone-shared book n k ne ns = rw (ne-eqb (mapping book k n) 0 ne, ne-eqb (holders book k) 1 ns)
+
+pub alone-other : (book : List ℕ) (n k : ℕ) → mapping book k n ≡ 0 → isAlone book n k ≡ false
+alone-other book n k e = rw (eq-eqb (mapping book k n) 0 e)
 
 -- ---- the highest
 
@@ -52,8 +59,8 @@ found-none (some j) e = absurd (let z : _≡_ {A = ℕ} 0 1 = cc in omega arith)
 -- a page's frame lies in the book, and is used
 pub record Framed (book : List ℕ) (n page k : ℕ) : Type 0 where
   pub is : frameOf book n page ≡ some k
-  pub there : k < length book
-  pub used : getD book k 0 ≡ 0 → ⊥
+  pub there : k < frameCount book
+  pub used : mapping book k n ≡ 0 → ⊥
 
 pub page-found : (book : List ℕ) (n page k : ℕ) (r : Found) → r ≡ foundOf (frameOf book n page) → r ≡ At k → Framed book n page k
 page-found book n page k r e f =

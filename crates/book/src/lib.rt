@@ -1,9 +1,10 @@
-// The book, where r9 has its page allocator's list and the MMU's tables: one 64-bit word a frame. A word of 0 is a free frame; otherwise
-// it is page address + 16 × owner + permission.
+// The book, where r9 has its page allocator's list and the MMU's tables: seventeen 64-bit words a frame, a place for each process and
+// then the count of holders. A place is 0, or a mapping: page address + 16 × owner + permission. A frame whose count is 0 is free.
 
 // Book words, and searches of the book.
 mod word;
 
+pub use word::alone_count;
 pub use word::frame_of;
 pub use word::free_count;
 pub use word::owner_of;

@@ -1,15 +1,15 @@
 -- A break: what moves, and its answer.
-use Prim.Native.Nat.{ℕ, _-_, _/_, _≤_}
+use Prim.Native.Nat.{ℕ, zero, suc, _-_, _/_, _≤_}
 use native.Mathlib.Omega.{arith}
 use mathlib.Core.Path.{_≡_, refl, sym, ap, ap₂, _∙_}
 use mathlib.Core.Bool.{Bool, false, _&&_, and-false}
 use mathlib.Core.Option.{some}
-use mathlib.Core.List.{List, [], _∷_, map}
+use mathlib.Core.List.{List, [], _∷_}
 use borrow.Author.Tests.{eq-eqb, ne-eqb}
-use Rattle.spec.specs.Tests.{_is_, within, _⇒_else_}
+use Rattle.spec.specs.Tests.{_is_, _isnt_, within, _⇒_else_}
 use Rattle.spec.specs.Numbers.{pageUp, zeroPage}
-use Rattle.spec.specs.Book.{pageOf, ownerOf, segment, procAt}
-use Rattle.spec.specs.Frames.{Store, pagesOf, place, release}
+use Rattle.spec.specs.Book.{pageOf, frameCount, mapping, holders, segment, procAt}
+use Rattle.spec.specs.Frames.{Store, enter, sweep, pagesOf, place, letGo, release}
 use Rattle.spec.specs.Segment.{Break, ibrk}
 use Rattle.spec.specs.Machine.{weighBreak}
 use Rattle.spec.specs.World.{State, brk}
@@ -21,18 +21,19 @@ use Rattle.spec.proofs.Chain.{isnt-holds, isnt-fails}
 
 -- ---- pages
 
--- words that no test takes stay
-none-taken : (t : ℕ → Bool) → ((w : ℕ) → t w ≡ false) → (book : List ℕ) → map (λ w. t w ⇒ 0 else w) book ≡ book
-none-taken t h [] = refl
-none-taken t h (w ∷ ws) = rw (h w) (ap (_∷_ w) (none-taken t h ws))
+-- mappings of pages that no test takes stay
+none-taken : (n : ℕ) (t : ℕ → Bool) → ((page : ℕ) → t page ≡ false) → (book : List ℕ) (c : ℕ) → sweep (letGo n t) book c ≡ book
+none-taken n t h book zero = refl
+none-taken n t h book (suc c) =
+    ap (λ (b : List ℕ). letGo n t b c) (none-taken n t h book c)
+    ∙ ap (λ (b : Bool). b ⇒ enter book c n 0 (holders book c - 1) else book) (ap (λ (b : Bool). (mapping book c n isnt 0) && b) (h (pageOf (mapping book c n))) ∙ and-false (mapping book c n isnt 0))
 
 -- a bss that grows frees nothing
-pub grows-free : (m : Store) (n old new : ℕ) → old ≤ new → release m (λ w. ownerOf w is n && within new old (pageOf w)) ≡ m
+pub grows-free : (m : Store) (n old new : ℕ) → old ≤ new → release m n (within new old) ≡ m
 unfolding release
 grows-free m n old new h =
-    let t : ℕ → Bool = λ w. ownerOf w is n && within new old (pageOf w) in
     ap (λ (b : List ℕ). record { frames = m .frames; book = b })
-    (none-taken t (λ w. ap (λ (b : Bool). ownerOf w is n && b) (within-not new old (pageOf w) (λ x y. omega arith)) ∙ and-false (ownerOf w is n)) (m .book))
+    (none-taken n (within new old) (λ page. within-not new old page (λ x y. omega arith)) (m .book) (frameCount (m .book)))
 
 -- a bss that shrinks places nothing
 pub shrinks-place : (m : Store) (n old new : ℕ) → new ≤ old → place m n (pagesOf zeroPage (segment old new 3 ∷ [])) ≡ m

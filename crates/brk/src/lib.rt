@@ -2,13 +2,13 @@
 // past the new end are released, new ones are placed and zeroed.
 
 ghost use mathlib.Core.Path.{_≡_};
-ghost use mathlib.Core.Bool.{true, _&&_};
+ghost use mathlib.Core.Bool.{true};
 ghost use mathlib.Core.List.{[], _∷_};
 ghost use Prim.Native.Nat.{_*_, _%_, _^_, _≤_, _<_};
 ghost use lib.ListN.{length};
-ghost use Rattle.spec.specs.Tests.{_is_, within};
+ghost use Rattle.spec.specs.Tests.{within};
 ghost use Rattle.spec.specs.Numbers.{zeroPage};
-ghost use Rattle.spec.specs.Book.{pageOf, ownerOf, valid, segment, procAt};
+ghost use Rattle.spec.specs.Book.{valid, frameCount, segment, procAt};
 ghost use Rattle.spec.specs.Frames.{pagesOf, place, release};
 ghost use Rattle.spec.specs.Machine.{break, plainly};
 ghost use Rattle.spec.specs.World.{brk, Does};
@@ -22,21 +22,21 @@ use spec::Setup;
 
 // The pages of a bss whose end moves from `old` to `new`: those past the new end are freed, and new ones are zeroed.
 fn move_pages(frames: &mut [u8], book: &mut [u64], number: u64, old: u64, new: u64)
-    requires { ⌜ (length (now frames) ≡ 4096 * length (now book)) × (1 ≤ number) × (number < 256) ⌝ }
+    requires { ⌜ (length (now frames) ≡ 4096 * frameCount (now book)) × (1 ≤ number) × (number ≤ 16) ⌝ }
     requires { ⌜ (old % 4096 ≡ 0) × (new % 4096 ≡ 0) × (new < 2 ^ 63) ⌝ }
-    ensures { λ _. ⌜ store (now (frames .exit)) (now (book .exit)) ≡ place (release (store (now (frames .entry)) (now (book .entry))) (λ w. ownerOf w is number && within new old (pageOf w))) number (pagesOf zeroPage (segment old new 3 ∷ [])) ⌝ }
+    ensures { λ _. ⌜ store (now (frames .exit)) (now (book .exit)) ≡ place (release (store (now (frames .entry)) (now (book .entry))) number (within new old)) number (pagesOf zeroPage (segment old new 3 ∷ [])) ⌝ }
 {
     if new < old {
-        book::unmap_and_free(book, number, new, old);
+        book::unmap_and_free(book, number as usize, new, old);
         return;
     }
-    let top = book.len();
+    let top = book.len() / 17;
     pagealloc::place::map_zeroed(frames, book, top, number, mem::range(old, new));
 }
 
 // The bss of process `number` ends at `top`: its pages and its record.
 fn move_break(frames: &mut [u8], book: &mut [u64], procs: Procs, number: u64, top: u64) -> Procs
-    requires { ⌜ (length (now frames) ≡ 4096 * length (now book)) × (valid number ≡ true) ⌝ }
+    requires { ⌜ (length (now frames) ≡ 4096 * frameCount (now book)) × (valid number ≡ true) ⌝ }
     requires { ⌜ (procAt procs number .bss .end % 4096 ≡ 0) × (top % 4096 ≡ 0) × (top < 2 ^ 63) ⌝ }
     ensures { λ r. ⌜ ((setup : Setup) → stateOf setup (now (frames .exit)) (now (book .exit)) r ≡ brk (stateOf setup (now (frames .entry)) (now (book .entry)) procs) number (procAt procs number) top) ⌝ }
 {
@@ -60,20 +60,7 @@ pub fn brk(
 ) -> Left
     ensures { λ r. ⌜ Does (stateOf setup (now (frames .entry)) (now (book .entry)) procs) (call number (break addr)) (stateOf setup (now (frames .exit)) (now (book .exit)) (r .procs)) (plainly (r .answer)) ⌝ }
 {
-    let mut tags = [0u64; 272];
-    let mut bases = [0u64; 273];
-    let mut table = [0u16; 1024];
-    let e = front::numbers::plain_ready(
-        setup,
-        frames,
-        book,
-        procs,
-        number,
-        true,
-        &mut tags,
-        &mut bases,
-        &mut table,
-    );
+    let e = front::numbers::plain_error(setup, frames, book, procs, number, true);
     if e != 0 {
         return Left {
             procs: procs,
@@ -82,7 +69,7 @@ pub fn brk(
     }
     let p = front::record::proc_at(procs, number);
     let bss = p.bss;
-    let free = sound::free_frames(book, &bases) as u64;
+    let free = book::free_count(book) as u64;
     let b = segment::ibrk(setup, segment::Bss::Set(bss), addr, free);
     let error = b.error;
     let value = b.value;

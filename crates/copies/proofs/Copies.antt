@@ -10,7 +10,7 @@ use lib.ListN.{length, getD, take, drop, length-drop}
 use lib.Seq.{length-take-le, getD-take, getD-drop, ext-getD, take-add}
 use borrow.Rule.Slice.PartMut.{putMid}
 use Rattle.spec.specs.Numbers.{pageDown, bytesFrom}
-use Rattle.spec.specs.Book.{frameOf}
+use Rattle.spec.specs.Book.{frameCount, frameOf}
 use Rattle.spec.specs.Frames.{Store, Mem, cellIn, memOf, put, pokes}
 use Rattle.spec.specs.Access.{cellOk, byteOf, bytesAt}
 use Rattle.spec.proofs.Bools.{clash}
@@ -29,7 +29,7 @@ unmapped write frames book n va e h = clash _ h (sym (page-none write frames boo
 -- ---- reads
 
 -- the bytes of an address in its page's frame are those that the process sees
-pub bytes-page : (frames book : List ℕ) (n va k len : ℕ) → length frames ≡ 4096 * length book → frameOf book n (pageDown va) ≡ some k → va % 4096 + len ≤ 4096
+pub bytes-page : (frames book : List ℕ) (n va k len : ℕ) → length frames ≡ 4096 * frameCount book → frameOf book n (pageDown va) ≡ some k → va % 4096 + len ≤ 4096
     → take len (drop (4096 * k + va % 4096) frames) ≡ bytesAt (memOf (store frames book) n) va len
 bytes-page frames book n va k len fits e h =
     let at : ℕ = 4096 * k + va % 4096 in
@@ -43,7 +43,7 @@ bytes-page frames book n va k len fits e h =
     let q : 4096 * k + (va + i) % 4096 ≡ at + i = omega arith in
     let cell : frameOf book n (pageDown (va + i)) ≡ some k = ap (frameOf book n) p ∙ e in
     getD-take len (drop at frames) i 0 (omega arith) ∙ getD-drop at frames i 0 ∙ ap (λ (j : ℕ). getD frames j 0) (sym q)
-    ∙ sym (get-bytes f va len i (omega arith) ∙ ap (λ (o : _). byteOf (cellIn (store frames book) (va + i) o)) cell))
+    ∙ sym (get-bytes f va len i (omega arith) ∙ ap (λ (o : _). byteOf (cellIn (store frames book) n (va + i) o)) cell))
 
 -- bytes further on are a part of all of them
 pub bytes-part : (f : ℕ → ℕ) (a i n all : ℕ) → i + n ≤ all → bytesFrom f (a + i) n ≡ take n (drop i (bytesFrom f a all))
@@ -67,7 +67,7 @@ read-turn mem a i n d x h e =
 -- ---- writes
 
 -- bytes that are put into a page's frame are written
-pub write-page : (frames book bs x : List ℕ) (n va k at : ℕ) → length frames ≡ 4096 * length book → frameOf book n (pageDown va) ≡ some k → va % 4096 + length bs ≤ 4096
+pub write-page : (frames book bs x : List ℕ) (n va k at : ℕ) → length frames ≡ 4096 * frameCount book → frameOf book n (pageDown va) ≡ some k → va % 4096 + length bs ≤ 4096
     → at ≡ 4096 * k + va % 4096 → x ≡ bs → store (putMid at (at + length bs - at) frames x) book ≡ pokes (store frames book) n va bs
 write-page frames book bs x n va k at fits e h ea ex =
     let l : at + length bs - at ≡ length bs = omega arith in

@@ -5,6 +5,7 @@ ghost use mathlib.Core.Path.{_≡_};
 ghost use Prim.Native.Nat.{_*_, _≤_, _<_};
 ghost use lib.ListN.{length};
 ghost use Rattle.spec.specs.Numbers.{SetupOk, argLimit};
+ghost use Rattle.spec.specs.Book.{frameCount};
 ghost use Rattle.spec.specs.Frames.{memOf};
 ghost use Rattle.spec.specs.Access.{copyStr};
 ghost use Rattle.spec.specs.Exec.{argBuffer, stackSize};
@@ -28,13 +29,13 @@ fn read_string(
     book: &[u64],
     tags: &[u64; 272],
     bases: &[u64; 273],
-    table: &[u16; 1024],
+    table: &[u16; 16384],
     number: u64,
     s: u64,
     buf: &mut [u8],
     used: usize,
 ) -> Str
-    requires { ⌜ (length (now frames) ≡ 4096 * length (now book)) × Ready (now book) (now tags) (now bases) (now table) ⌝ }
+    requires { ⌜ (length (now frames) ≡ 4096 * frameCount (now book)) × Ready (now book) (now tags) (now bases) (now table) × (1 ≤ number) × (number ≤ 16) ⌝ }
     requires { ⌜ (argLimit setup ≤ length (now buf)) × (used < argLimit setup) × SetupOk setup ⌝ }
     ensures { λ r. ⌜ Told (argLimit setup) (copyStr setup (memOf (store (now (frames .entry)) (now (book .entry))) number) (argBuffer setup) s) used (now (buf .entry)) r (now (buf .exit)) ⌝ }
 {
@@ -81,14 +82,14 @@ pub fn copy_arg(
     book: &[u64],
     tags: &[u64; 272],
     bases: &[u64; 273],
-    table: &[u16; 1024],
+    table: &[u16; 16384],
     number: u64,
     s: u64,
     buf: &mut [u8],
     used: usize,
     count: usize,
 ) -> More
-    requires { ⌜ (length (now frames) ≡ 4096 * length (now book)) × Ready (now book) (now tags) (now bases) (now table) ⌝ }
+    requires { ⌜ (length (now frames) ≡ 4096 * frameCount (now book)) × Ready (now book) (now tags) (now bases) (now table) × (1 ≤ number) × (number ≤ 16) ⌝ }
     requires { ⌜ (argLimit setup ≤ length (now buf)) × (stackSize used count ≤ argLimit setup) × SetupOk setup ⌝ }
     ensures { λ r. ⌜ Added setup (copyStr setup (memOf (store (now (frames .entry)) (now (book .entry))) number) (argBuffer setup) s) used count (now (buf .entry)) r (now (buf .exit)) ⌝ }
 {

@@ -19,12 +19,11 @@ pub struct Entered {
 }
 
 // Past the point of no return: the old pages are freed, as `replace_pmmu` does, and the image is installed, as `exec` does. If the
-// process's own and the free frames don't hold its pages, it ends with 33. `p` is the process's record.
+// frames that the process holds alone and the free ones don't hold its pages, it ends with 33.
 pub fn enter(
     setup: Setup,
     frames: &mut [u8],
     book: &mut [u64],
-    p: Proc,
     number: u64,
     image: &[u8],
     plan: Plan,
@@ -33,14 +32,15 @@ pub fn enter(
     size: usize,
     nargs: usize,
 ) -> Entered
-    requires { ⌜ Enterable setup (store (now frames) (now book)) p number (now image) plan ⌝ }
+    requires { ⌜ Enterable setup (store (now frames) (now book)) number (now image) plan ⌝ }
     requires { ⌜ ((args : List (List ℕ)) × Fitting setup args (now buf) size nargs) ⌝ }
-    ensures { λ r. ⌜ r .proc ≡ next setup (store (now (frames .entry)) (now (book .entry))) p (now (image .entry)) (now (name .entry)) ⌝ }
-    ensures { λ r. ⌜ ((args : List (List ℕ)) → Fitting setup args (now (buf .entry)) size nargs → (store (now (frames .exit)) (now (book .exit)) ≡ entered setup (store (now (frames .entry)) (now (book .entry))) p number (now (image .entry)) args) × (r .answer ≡ entering setup (store (now (frames .entry)) (now (book .entry))) p (now (image .entry)) args)) ⌝ }
+    ensures { λ r. ⌜ r .proc ≡ next setup (store (now (frames .entry)) (now (book .entry))) number (now (image .entry)) (now (name .entry)) ⌝ }
+    ensures { λ r. ⌜ ((args : List (List ℕ)) → Fitting setup args (now (buf .entry)) size nargs → (store (now (frames .exit)) (now (book .exit)) ≡ entered setup (store (now (frames .entry)) (now (book .entry))) number (now (image .entry)) args) × (r .answer ≡ entering setup (store (now (frames .entry)) (now (book .entry))) number (now (image .entry)) args)) ⌝ }
 {
+    let own = book::alone_count(book, number) as u64;
     let free = book::free_count(book) as u64;
-    let room = front::pages::own_pages(p) + free;
-    book::release_owner(book, number);
+    let room = own + free;
+    book::release_owner(book, number as usize);
     if plan.pages > room {
         return Entered {
             proc: front::record::zero_proc(),

@@ -1,25 +1,26 @@
--- A short history on the 184-byte image, computed: a process starts, writes, breaks and forks, and parent and child differ afterwards.
+-- Short histories on the 184-byte image, computed: a process starts, writes, breaks and forks, and parent and child differ afterwards;
+-- the same under a smaller setup, where frames are few and text is shared; and a setup that is turned away.
 use mathlib.Core.Path.{_≡_, refl}
-use mathlib.Core.Bool.{Bool, true, false, _&&_}
-use mathlib.Core.List.{List, [], _∷_, _++_, map}
-use Prim.Native.Nat.{ℕ, _+_, _-_, _*_}
+use mathlib.Core.Bool.{true, false}
+use mathlib.Core.List.{List, [], _∷_, map}
+use Prim.Native.Nat.{ℕ, _-_, _*_}
 use lib.ListN.{replicate}
 use Rattle.spec.specs.Tests.{_is_, all, same, ascii}
 use Rattle.spec.specs.Numbers.{deposit, setupOk, pageBytes, zeroPage}
 use Rattle.spec.specs.Book.{zeroProc, segment, stack}
-use Rattle.spec.specs.Frames.{place, release, pokes}
+use Rattle.spec.specs.Frames.{place, share, release, pokes}
 use Rattle.spec.specs.Sound.{soundBook}
 use Rattle.spec.specs.Elf.{ehdrError, phdrs, phdrError, segmentsOf, elfError}
 use Rattle.spec.specs.Exec.{argBuffer, copyArgv}
 use Rattle.spec.specs.Segment.{ibrk}
-use Rattle.spec.specs.Machine.{Ask, start, replace, push, break, fork, end, user-range-ok, copy-from-user, copy-to-user, try-copy-str-from-user, Call, Reply, numberOf, valueOf, judge}
+use Rattle.spec.specs.Machine.{Ask, start, replace, break, fork, end, user-range-ok, copy-from-user, copy-to-user, try-copy-str-from-user, Call, Reply, numberOf, valueOf, judge}
 use Rattle.spec.specs.World.{State, answer, after}
 use Rattle.spec.specs.declared.Setup.{Setup}
 use Rattle.spec.proofs.Examples.{image184}
 
 -- frames and book with no process
 abbrev fresh : Setup → ℕ → State
-fresh setup n = record { setup = setup; store = record { frames = replicate (4096 * n) 0; book = replicate n 0 }; procs = record { all = replicate 16 zeroProc } }
+fresh setup n = record { setup = setup; store = record { frames = replicate (4096 * n) 0; book = replicate (17 * n) 0 }; procs = record { all = replicate 16 zeroProc } }
 
 abbrev call : ℕ → Ask → Call
 call n q = record { number = n; ask = q }
@@ -61,10 +62,10 @@ pub played : map told (play (fresh deposit 16) calls)
     ≡ (0 ∷ 0 ∷ []) ∷ (0 ∷ 0 ∷ 1 ∷ 2 ∷ 3 ∷ 4 ∷ 0 ∷ 0 ∷ []) ∷ (0 ∷ 0 ∷ []) ∷ (0 ∷ 0 ∷ []) ∷ (0 ∷ 0 ∷ 0 ∷ 0 ∷ 0 ∷ []) ∷ (0 ∷ 0 ∷ []) ∷ (0 ∷ 0 ∷ [])
     ∷ (0 ∷ 0 ∷ 5 ∷ 6 ∷ []) ∷ (0 ∷ 0 ∷ 7 ∷ 6 ∷ []) ∷ (0 ∷ 0 ∷ []) ∷ (0 ∷ 0 ∷ 5 ∷ 6 ∷ []) ∷ (0 ∷ 1 ∷ []) ∷ (0 ∷ 3 ∷ 108 ∷ 101 ∷ 120 ∷ 9 ∷ 9 ∷ [])
     ∷ (35 ∷ 0 ∷ []) ∷ (4 ∷ 0 ∷ []) ∷ (0 ∷ 0 ∷ []) ∷ []
-unfolding setupOk ehdrError phdrs phdrError segmentsOf elfError ibrk argBuffer copyArgv place release pokes soundBook pageBytes zeroPage judge answer after
+unfolding setupOk ehdrError phdrs phdrError segmentsOf elfError ibrk argBuffer copyArgv place share release pokes soundBook pageBytes zeroPage judge answer after
 played = refl
 
--- ---- other setups
+-- ---- another setup
 
 -- a school's: 1 MB of addresses, one page of stack
 abbrev school : Setup
@@ -80,10 +81,39 @@ pub at-school : map told (play (fresh school 4)
     ∷ call 1 (user-range-ok 1048577 0 true)
     ∷ []))
     ≡ (33 ∷ 0 ∷ []) ∷ (0 ∷ 0 ∷ []) ∷ (34 ∷ 0 ∷ []) ∷ (33 ∷ 0 ∷ []) ∷ (0 ∷ 1 ∷ []) ∷ (0 ∷ 0 ∷ []) ∷ []
-unfolding setupOk ehdrError phdrs phdrError segmentsOf elfError ibrk argBuffer copyArgv place release pokes soundBook pageBytes zeroPage judge answer after
+unfolding setupOk ehdrError phdrs phdrError segmentsOf elfError ibrk argBuffer copyArgv place share release pokes soundBook pageBytes zeroPage judge answer after
 at-school = refl
 
--- a bad one: 1 comes before 38, and 38 before all else
+-- ---- shared text
+
+abbrev forked : Call
+forked = call 1 (fork 2 (segment 65536 69632 1 ∷ segment 69632 73728 3 ∷ stack school ∷ []))
+
+-- the image's text as its process reads it, and a replace with no arguments
+abbrev text : ℕ → Call
+text n = call n (copy-from-user (replicate 4 9) 65536)
+
+abbrev again : Call
+again = call 2 (replace image184 (ascii "bin/lex") (school .ustktop - 8))
+
+abbrev begin : Call
+begin = call 1 (start image184 (ascii "bin/lex") [] [])
+
+-- a start takes four frames, a fork three more
+pub too-few : map told (play (fresh school 6) (begin ∷ forked ∷ [])) ≡ (0 ∷ 0 ∷ []) ∷ (33 ∷ 0 ∷ []) ∷ []
+unfolding setupOk ehdrError phdrs phdrError segmentsOf elfError ibrk argBuffer copyArgv place share release pokes soundBook pageBytes zeroPage judge answer after
+too-few = refl
+
+-- a child that replaces its image wants four, and holds three alone: it ends. Once its parent has ended, a child has the text alone
+pub shared : map told (play (fresh school 7) (begin ∷ forked ∷ text 1 ∷ text 2 ∷ again ∷ text 2 ∷ forked ∷ call 1 end ∷ text 2 ∷ again ∷ text 2 ∷ []))
+    ≡ (0 ∷ 0 ∷ []) ∷ (0 ∷ 0 ∷ []) ∷ (0 ∷ 0 ∷ 127 ∷ 69 ∷ 76 ∷ 70 ∷ []) ∷ (0 ∷ 0 ∷ 127 ∷ 69 ∷ 76 ∷ 70 ∷ []) ∷ (33 ∷ 0 ∷ []) ∷ (4 ∷ 0 ∷ 9 ∷ 9 ∷ 9 ∷ 9 ∷ [])
+    ∷ (0 ∷ 0 ∷ []) ∷ (0 ∷ 0 ∷ []) ∷ (0 ∷ 0 ∷ 127 ∷ 69 ∷ 76 ∷ 70 ∷ []) ∷ (0 ∷ 0 ∷ []) ∷ (0 ∷ 0 ∷ 127 ∷ 69 ∷ 76 ∷ 70 ∷ []) ∷ []
+unfolding setupOk ehdrError phdrs phdrError segmentsOf elfError ibrk argBuffer copyArgv place share release pokes soundBook pageBytes zeroPage judge answer after
+shared = refl
+
+-- ---- a bad setup
+
+-- 1 comes before 38, and 38 before all else
 abbrev bad : Setup
 bad = record { utzero = 65536; ustktop = 1048576; ustksize = 4095; uaddrtop = 1048576 }
 

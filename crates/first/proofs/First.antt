@@ -6,9 +6,9 @@ use mathlib.Core.Bool.{Bool, true, false, not, _&&_}
 use mathlib.Core.List.{List}
 use lib.ListN.{length}
 use borrow.Author.Tests.{eqb-true, le-ltb}
-use Rattle.spec.specs.Tests.{_is_, _below_, _⇒_else_}
+use Rattle.spec.specs.Tests.{_is_, _below_, within, _⇒_else_}
 use Rattle.spec.specs.Numbers.{setupOk}
-use Rattle.spec.specs.Book.{valid}
+use Rattle.spec.specs.Book.{valid, frameCount}
 use Rattle.spec.specs.Frames.{sized}
 use Rattle.spec.specs.World.{State, sound, taken}
 use Rattle.spec.proofs.Bools.{both, clash, not-true, within-means}
@@ -52,14 +52,15 @@ last-false true false = refl
 last-false false b = refl
 
 module _ (frames book : List ℕ) where
-  pub sizes-many : 1024 < length book → sized (store frames book) ≡ false
-  sizes-many h = rw (le-ltb (length book) 1025 h) (last-false (length frames is 4096 * length book) (not (length book below 1)))
+  pub sizes-many : 1024 < frameCount book → sized (store frames book) ≡ false
+  sizes-many h = rw (le-ltb (frameCount book) 1025 h) (last-false (length frames is 4096 * frameCount book && length book is 17 * frameCount book) (not (frameCount book below 1)))
 
-  pub sizes-words : sized (store frames book) ≡ true → (length frames ≡ 4096 * length book) × (1 ≤ length book) × (length book ≤ 1024)
+  pub sizes-words : sized (store frames book) ≡ true → (length frames ≡ 4096 * frameCount book) × (1 ≤ frameCount book) × (frameCount book ≤ 1024) × (length book ≡ 17 * frameCount book)
   sizes-words e =
-      let p = both (length frames is 4096 * length book) _ e in
-      let w = within-means 1 1025 (length book) (p .1) in
-      (eqb-true _ _ (p .0), w .0, omega arith)
+      let p = both (length frames is 4096 * frameCount book && length book is 17 * frameCount book) (within 1 1025 (frameCount book)) e in
+      let q = both (length frames is 4096 * frameCount book) (length book is 17 * frameCount book) (p .0) in
+      let w = within-means 1 1025 (frameCount book) (p .1) in
+      (eqb-true _ _ (q .0), w .0, omega (arith, w .1), eqb-true _ _ (q .1))
 
 -- ---- where no number is given
 

@@ -11,15 +11,16 @@ use procs::is_number;
 use spec::Procs;
 use spec::Setup;
 
-// Frame bytes are 4,096 × words, words 1 to 1,024.
+// Frame bytes are 4,096 a frame, book words seventeen, frames 1 to 1,024.
 pub fn sizes_ok(frames: &[u8], book: &[u64]) -> bool
     ensures { λ r. ⌜ r ≡ sized (store (now (frames .entry)) (now (book .entry))) ⌝ }
 {
     let words = book.len();
-    if 1024 < words {
+    let count = words / 17;
+    if 1024 < count {
         return false;
     }
-    (frames.len() == 4096 * words) & (!(words < 1) & (words < 1025))
+    ((frames.len() == 4096 * count) & (words == 17 * count)) & (!(count < 1) & (count < 1025))
 }
 
 // 1, 38, 2 and 3 of a call: the first that is given, or 0. `fits`: its argument lengths sum to their bytes. Where none is given, the three
@@ -33,9 +34,9 @@ pub fn number_ready(
     fits: bool,
     tags: &mut [u64; 272],
     bases: &mut [u64; 273],
-    table: &mut [u16; 1024],
+    table: &mut [u16; 16384],
 ) -> u64
-    requires { ⌜ (length (now tags) ≡ 272) × (length (now bases) ≡ 273) × (length (now table) ≡ 1024) × Blank (now table) ⌝ }
+    requires { ⌜ (length (now tags) ≡ 272) × (length (now bases) ≡ 273) × (length (now table) ≡ 16384) × Blank (now table) ⌝ }
     ensures { λ r. ⌜ r ≡ numberError (stateOf setup (now (frames .entry)) (now (book .entry)) procs) number fits ⌝ }
     ensures { λ r. ⌜ (r ≡ 0 → Ready (now (book .entry)) (now (tags .exit)) (now (bases .exit)) (now (table .exit))) ⌝ }
 {
@@ -66,7 +67,7 @@ pub fn number_error(
 {
     let mut tags = [0u64; 272];
     let mut bases = [0u64; 273];
-    let mut table = [0u16; 1024];
+    let mut table = [0u16; 16384];
     number_ready(
         setup,
         frames,

@@ -1,2 +1,2 @@
-pub mod Forked
 pub mod Told
+pub mod Forked

@@ -1,54 +1,59 @@
-// Fork: a child takes a copy of every page of its parent's, and its record and name. The parent's frames come from the table that
-// the check of the book leaves, the child's are the highest free ones.
+// Fork: a child shares its parent's text and rodata, takes a copy of every other page, and its record and name. The parent's frames
+// come from the table that the check of the book leaves, the child's own are the highest free ones.
 
 pub mod copy;
+pub mod count;
 
 ghost use mathlib.Core.Path.{_≡_};
-ghost use Rattle.spec.specs.Book.{frameOf, used, procAt, piecesOf};
-ghost use Rattle.spec.specs.Frames.{pagesOf, place, frameBytes};
+ghost use mathlib.Core.List.{List};
+ghost use Prim.Native.Nat.{ℕ};
+ghost use Rattle.spec.specs.Book.{frameOf, used, procAt, piecesOf, dataOnly};
+ghost use Rattle.spec.specs.Frames.{pagesOf, place, share, frameBytes};
 ghost use Rattle.spec.specs.Machine.{fork, plainly};
 ghost use Rattle.spec.specs.World.{Does};
-ghost use Rattle.sound.specs.Table.{Ready};
 ghost use Rattle.book.specs.Lent.{store};
-ghost use Rattle.spec.specs.declared.Setup.{Setup};
-ghost use Rattle.front.specs.Numbers.{stateOf, call, forkError};
+ghost use Rattle.front.specs.Numbers.{stateOf, call};
+ghost use Rattle.fork.specs.Lent.{Shares};
 use front::left::Left;
 use spec::Answer;
+use spec::Proc;
 use spec::Procs;
 use spec::Setup;
 
-// Copies the pages of process `number` for `child`, as `copy_segments`: every page now, segments in record order, then the bss.
-// Callers have counted the free frames. An unused place has no pages.
+// Copies the data pages of process `number`, whose record is `p`, for `child`, as `copy_segments`: every page now, segments in record order, then the bss.
+// Callers have counted the free frames, and shared text and rodata. An unused place has no pages.
 fn copy_segments(
     frames: &mut [u8],
     book: &mut [u64],
     tags: &[u64; 272],
     bases: &[u64; 273],
-    table: &[u16; 1024],
-    procs: Procs,
+    table: &[u16; 16384],
+    p: Proc,
     number: u64,
     child: u64,
 )
-    requires { ⌜ ((setup : Setup) × (forkError (stateOf setup (now frames) (now book) procs) number child ≡ 0)) ⌝ }
-    requires { ⌜ Ready (now book) (now tags) (now bases) (now table) ⌝ }
-    ensures { λ _. ⌜ store (now (frames .exit)) (now (book .exit)) ≡ place (store (now (frames .entry)) (now (book .entry))) child (pagesOf (λ a. frameBytes (now (frames .entry)) (frameOf (now (book .entry)) number a)) (piecesOf (procAt procs number))) ⌝ }
+    requires { ⌜ Shares (now frames) (now book) (now tags) (now bases) (now table) p number child ⌝ }
+    ensures { λ _. ⌜ store (now (frames .exit)) (now (book .exit)) ≡ place (store (now (frames .entry)) (now (book .entry))) child (pagesOf (λ a. frameBytes (now (frames .entry)) (frameOf (now (book .entry)) number a)) (dataOnly (piecesOf p))) ⌝ }
 {
-    let p = front::record::proc_at(procs, number);
     let segments = p.segments;
     let bss = p.bss;
-    let mut top = book.len();
+    let mut top = book.len() / 17;
     let mut i = 0;
     while i < 16 {
         let s = segments[i];
-        top = copy::copy_segment(frames, book, tags, bases, table, top, number, child, s);
+        let perm = s.perm;
         i += 1;
+        if perm == spec::DATA {
+            top = copy::copy_segment(frames, book, tags, bases, table, top, number, child, s);
+        }
     }
     let s = front::pages::bss_segment(bss);
     copy::copy_segment(frames, book, tags, bases, table, top, number, child, s);
 }
 
-// Forks process `number` as `child`, whose memory and record are its parent's from now on its own. Refused with 1 to 5 or, if the
-// free frames don't hold a copy, with 33, it changes nothing. The call's list of segments is the parent's record's.
+// Forks process `number` as `child`, whose record is its parent's from now on its own, and which sees what its parent sees: text and
+// rodata in its parent's frames, data in frames of its own. Refused with 1 to 5 or 38 or, if the free frames don't hold a copy of the
+// data, with 33, it changes nothing. The call's list of segments is the parent's record's.
 pub fn fork(
     setup: Setup,
     frames: &mut [u8],
@@ -61,7 +66,7 @@ pub fn fork(
 {
     let mut tags = [0u64; 272];
     let mut bases = [0u64; 273];
-    let mut table = [0u16; 1024];
+    let mut table = [0u16; 16384];
     let e = front::numbers::fork_ready(
         setup,
         frames,
@@ -80,17 +85,17 @@ pub fn fork(
         };
     }
     let p = front::record::proc_at(procs, number);
-    let free = sound::free_frames(book, &bases) as u64;
-    if front::pages::own_pages(p) > free {
+    let free = book::free_count(book) as u64;
+    if count::data_pages(p) > free {
         return Left {
             procs: procs,
             answer: Answer::Refused(spec::ENOVMEM),
         };
     }
-    copy_segments(frames, book, &tags, &bases, &table, procs, number, child);
-    let after = front::record::with_proc(procs, child, p);
+    share::share_pages(book, number as usize, child as usize);
+    copy_segments(frames, book, &tags, &bases, &table, p, number, child);
     Left {
-        procs: after,
+        procs: front::record::with_proc(procs, child, p),
         answer: Answer::Done,
     }
 }

@@ -1,17 +1,17 @@
 -- The answer of a fork with any list, once its number is known.
-use Prim.Native.Nat.{ℕ}
+use Prim.Native.Nat.{ℕ, _≤_}
 use mathlib.Core.Path.{_≡_, refl, sym, ap, subst, _∙_}
 use mathlib.Core.Bool.{Bool, true, false, not, _&&_, _||_}
 use mathlib.Core.List.{List}
 use lib.Dec.{eqb}
 use native.Mathlib.Omega.{arith}
-use borrow.Author.Tests.{eqb-true}
+use borrow.Author.Tests.{eqb-true, ltb-false}
 use Rattle.spec.specs.Tests.{_isnt_, _above_, _⇒_else_, _orElse_, same}
 use Rattle.spec.specs.Numbers.{setupOk}
 use Rattle.spec.specs.Book.{valid, free, sameSegment, used, procAt, zeroProc}
 use Rattle.spec.specs.Frames.{sized}
-use Rattle.spec.specs.Machine.{Ask, fork, Reply, plainly, refuse, judge, weigh, own}
-use Rattle.spec.specs.World.{State, sound, taken, view, copy, answer, Does}
+use Rattle.spec.specs.Machine.{Ask, fork, Reply, plainly, refuse, judge, weigh, copied}
+use Rattle.spec.specs.World.{State, sound, taken, view, aloneFor, copy, answer, Does}
 use Rattle.spec.specs.declared.UserSegment.{UserSegment}
 use Rattle.spec.specs.declared.Answer.{Answer}
 use Rattle.spec.specs.declared.Answer.the-variants.{Done, Refused}
@@ -82,6 +82,21 @@ unasked x y b c e = none ((x && b) && c) ∙ sym (none ((y && b) && c))
     none true = refl
     none false = refl
 
+-- where there is no number, none came first, and the free frames hold a copy
+pub number-error : (s : State) (n child : ℕ) (alike : Bool) → forkNumber s n child alike ≡ 0 → forkError s n child ≡ 0
+unfolding listError forkNumber
+number-error s n child alike e = list-zero alike (valid n) (forkError s n child) (or-else (listError s n child alike) _ e .0) .0
+
+pub number-fits : (s : State) (n child : ℕ) (alike : Bool) → forkNumber s n child alike ≡ 0 → copied (view s n) ≤ free (s .store .book)
+unfolding forkNumber
+number-fits s n child alike e = enough (copied (view s n)) (free (s .store .book)) (or-else (listError s n child alike) _ e .1)
+  where
+    thirty-three : _≡_ {A = ℕ} 33 0 → ⊥
+    thirty-three z = omega (arith, z)
+
+    enough : (a b : ℕ) → _≡_ {A = ℕ} (a above b ⇒ 33 else 0) 0 → a ≤ b
+    enough a b h = split (a above b) (λ q. absurd (thirty-three (rw q at h))) (λ q. ltb-false b a q)
+
 module _ (s : State) (n child : ℕ) (gs : List UserSegment) where
   abbrev asked : Ask
   asked = fork child gs
@@ -92,7 +107,7 @@ module _ (s : State) (n child : ℕ) (gs : List UserSegment) where
   abbrev pub alikeOf : Bool
   alikeOf = same sameSegment gs (used (recordOf (s .procs) n .segments))
 
-  answer-chain : answer s (call n asked) ≡ orRefuse (listError s n child alikeAt) asked (weigh (view s n) (free (s .store .book)) asked)
+  answer-chain : answer s (call n asked) ≡ orRefuse (listError s n child alikeAt) asked (weigh (view s n) (free (s .store .book)) (aloneFor s (call n asked)) asked)
   unfolding answer judge numberError forkError listError
   answer-chain = chain-is (sized (s .store)) (setupOk (s .setup)) (sound s) (valid n) (valid child) (taken s n) (taken s child) alikeAt asked _
 
@@ -108,9 +123,9 @@ module _ (s : State) (n child : ℕ) (gs : List UserSegment) where
   pub answer-number : answer s (call n asked) ≡ orRefuse (forkNumber s n child alikeOf) asked (plainly Done)
   unfolding forkNumber
   answer-number =
-      answer-chain ∙ ap (λ (e : ℕ). orRefuse e asked (weigh (view s n) (free (s .store .book)) asked)) list-either
-      ∙ ap (orRefuse (listError s n child alikeOf) asked) (weighed (own (view s n) above free (s .store .book)))
-      ∙ in-order (listError s n child alikeOf) (own (view s n) above free (s .store .book) ⇒ 33 else 0) asked (plainly Done)
+      answer-chain ∙ ap (λ (e : ℕ). orRefuse e asked (weigh (view s n) (free (s .store .book)) (aloneFor s (call n asked)) asked)) list-either
+      ∙ ap (orRefuse (listError s n child alikeOf) asked) (weighed (copied (view s n) above free (s .store .book)))
+      ∙ in-order (listError s n child alikeOf) (copied (view s n) above free (s .store .book) ⇒ 33 else 0) asked (plainly Done)
 
   -- where there is no number, the list is the record's
   pub number-none : forkNumber s n child alikeOf ≡ 0 → (forkError s n child ≡ 0) × (alikeAt ≡ true)

@@ -6,7 +6,7 @@ use lib.Dec.{eqb}
 use borrow.Author.Tests.{lt-ltb, le-ltb}
 use Rattle.spec.specs.Tests.{_isnt_}
 use Rattle.spec.specs.Book.{valid, free, zeroProc, procAt}
-use Rattle.spec.specs.Machine.{own}
+use Rattle.spec.specs.Machine.{copied}
 use Rattle.spec.specs.World.{State, view}
 use Rattle.spec.specs.declared.Proc.{Proc}
 use Rattle.spec.specs.declared.Procs.{Procs}
@@ -44,10 +44,10 @@ module _ (s : State) (n child : ℕ) (alike : Bool) (e : ℕ) (v : Bool) (first 
   unfolding forkNumber
   first-number t ne = number-first e (listError s n child alike) _ (first ∙ sym (listed t)) ne
 
-  pub too-few : test ≡ false → e ≡ 0 → free (s .store .book) < own (view s n) → 33 ≡ forkNumber s n child alike
+  pub too-few : test ≡ false → e ≡ 0 → free (s .store .book) < copied (view s n) → 33 ≡ forkNumber s n child alike
   unfolding forkNumber
-  too-few t z h = number-next e (listError s n child alike) _ 33 (first ∙ sym (listed t)) z (rw (lt-ltb (free (s .store .book)) (own (view s n)) h))
+  too-few t z h = number-next e (listError s n child alike) _ 33 (first ∙ sym (listed t)) z (rw (lt-ltb (free (s .store .book)) (copied (view s n)) h))
 
-  pub enough : test ≡ false → e ≡ 0 → own (view s n) ≤ free (s .store .book) → 0 ≡ forkNumber s n child alike
+  pub enough : test ≡ false → e ≡ 0 → copied (view s n) ≤ free (s .store .book) → 0 ≡ forkNumber s n child alike
   unfolding forkNumber
-  enough t z h = number-next e (listError s n child alike) _ 0 (first ∙ sym (listed t)) z (rw (le-ltb (free (s .store .book)) (own (view s n)) h))
+  enough t z h = number-next e (listError s n child alike) _ 0 (first ∙ sym (listed t)) z (rw (le-ltb (free (s .store .book)) (copied (view s n)) h))

@@ -7,4 +7,5 @@ pub mod Finished
 pub mod Judged
 pub mod Listed
 pub mod Loans
+pub mod Noted
 pub mod Rows

@@ -2,7 +2,7 @@
 --     lend-slice     a lifetime ν is made, and the slice is lent again for it under a name δ
 --     slice-home     the call has said the last list under δ: ν ends, and the slice is back at that list
 --     share-slice, slice-unshared      the same as `&`: the slice comes back as it was
---     says-all       a goal P ∗ Q, where Q needs nothing: P is left.        facts-2, facts-4     facts under ∗.        needs-2     two facts as a hypothesis
+--     says-all       a goal P ∗ Q, where Q needs nothing: P is left.        facts-2     two facts under ∗.        needs-2     two facts as a hypothesis
 -- Assumes `Given`.
 use mathlib.Core.Path.{_≡_, refl}
 use Prim.Native.Nat.{ℕ}
@@ -74,10 +74,6 @@ module _ {M : Type 1} {𝓤 : URA M} {H : Heap 𝓤} {A : Atoms 𝓤} {K : Type 
 module _ {M : Type 1} (𝓤 : URA M) (H : Heap 𝓤) (A : Atoms 𝓤) (W : Given 𝓤 H A) where
   pub facts-2 : {φ ψ : Type 0} → φ → ψ → ent 𝓤 (emp 𝓤) (sep 𝓤 (fact 𝓤 φ) (fact 𝓤 ψ))
   facts-2 {φ} {ψ} x y = qed W [] ∵ use0 W (raw (fact 𝓤 ψ)) (factI 𝓤 ψ (emp 𝓤) y) $ use0 W (raw (fact 𝓤 φ)) (factI 𝓤 φ (emp 𝓤) x) $ done !
-
-  pub facts-4 : {φ ψ χ ω : Type 0} → φ → ψ → χ → ω → ent 𝓤 (emp 𝓤) (sep 𝓤 (fact 𝓤 φ) (sep 𝓤 (fact 𝓤 ψ) (sep 𝓤 (fact 𝓤 χ) (fact 𝓤 ω))))
-  facts-4 {φ} {ψ} {χ} {ω} x y z w =
-      qed W [] ∵ use0 W (raw (fact 𝓤 ω)) (factI 𝓤 ω (emp 𝓤) w) $ use0 W (raw (fact 𝓤 χ)) (factI 𝓤 χ (emp 𝓤) z) $ use0 W (raw (fact 𝓤 ψ)) (factI 𝓤 ψ (emp 𝓤) y) $ use0 W (raw (fact 𝓤 φ)) (factI 𝓤 φ (emp 𝓤) x) $ done !
 
 -- two facts of a `requires` are learned
 pub needs-2 : {M : Type 1} (𝓤 : URA M) (φ ψ : Type 0) (P : SProp 𝓤) {Q : SProp 𝓤} → (φ → ψ → ent 𝓤 P Q) → ent 𝓤 (sep 𝓤 P (sep 𝓤 (fact 𝓤 φ) (fact 𝓤 ψ))) Q

@@ -8,9 +8,8 @@ use Rattle.spec.proofs.UserSegment as S
 use Rattle.spec.proofs.Proc as P
 use Rattle.spec.proofs.Procs as Ps
 use Rattle.front.proofs.left.Left as Lf
-use Rattle.forks.proofs.parent.Parent as Pa
 
--- of the setup, of a segment, of a record, of the records, of the parent, and of what a call leaves
+-- of the setup, of a segment, of a record, of the records, and of what a call leaves
 abbrev pub Nums : RattleType
 Nums = Se.the-row
 
@@ -22,9 +21,6 @@ Rec = P.the-row
 
 abbrev pub Recs : RattleType
 Recs = Ps.the-row
-
-abbrev pub Par : RattleType
-Par = Pa.the-row
 
 abbrev pub Res : RattleType
 Res = Lf.the-row
@@ -42,18 +38,12 @@ slice₁ = sliceTy (tyRef (named 1) mut (tyInt w64))
 abbrev pub slice₂ : Ty
 slice₂ = sliceTy (tyRef (named 2) imm (pointee (R .written)))
 
--- frames and book shared
+-- frames shared
 abbrev pub seen₀ : Ty
 seen₀ = tyRef erased imm (tyInt w8)
 
-abbrev pub seen₁ : Ty
-seen₁ = tyRef erased imm (tyInt w64)
-
 abbrev pub shared₀ : Ty
 shared₀ = sliceTy seen₀
-
-abbrev pub shared₁ : Ty
-shared₁ = sliceTy seen₁
 
 -- frames and book lent again
 abbrev pub ref₀ : Ty

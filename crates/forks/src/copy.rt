@@ -1,69 +1,128 @@
-// Fork's page copy, over a lent list. The parent's frames come from the lists that the check of the book leaves.
+// Fork's page copy, over a lent list. The page table that the check of the book leaves is too large to go through by value: the frames
+// of a segment's pages are noted by a pass over the book before they are copied.
 
 ghost use mathlib.Core.Path.{_≡_};
+ghost use mathlib.Core.Option.{some};
 ghost use mathlib.Core.List.{[], _∷_};
-ghost use Prim.Native.Nat.{ℕ, _*_, _%_, _^_, _≤_, _<_};
+ghost use Prim.Native.Nat.{ℕ, _+_, _*_, _%_, _≤_, _<_};
 ghost use lib.ListN.{length, getD};
-ghost use Rattle.spec.specs.Book.{frameOf, zeroSegment};
+ghost use Rattle.spec.specs.Tests.{_is_};
+ghost use Rattle.spec.specs.Book.{frameCount, owns, frameOf, dataOnly, zeroSegment};
 ghost use Rattle.spec.specs.Frames.{pagesOf, place, frameBytes};
 ghost use Rattle.book.specs.Lent.{store};
-ghost use Rattle.pagealloc.specs.Lent.{Passed, Mapped};
-ghost use Rattle.fork.specs.Lent.{Copyable, Tells};
-use crate::parent::Parent;
+ghost use Rattle.pagealloc.specs.Lent.{Passed};
+ghost use Rattle.fork.specs.Lent.{Held, Kept};
+ghost use Rattle.forks.specs.Lent.{Bounded};
 use spec::UserSegment;
 
-// `fork::copy::copy_segment`, with the lists by value.
-pub fn copy_segment(
+// How many pages above `start` the page of a word lies, or 1,024 if the word isn't of process `number` or its page lies below.
+fn pages_above(w: u64, number: u64, start: u64) -> u64
+    requires { ⌜ (1 ≤ number) × (start % 4096 ≡ 0) ⌝ }
+    ensures { λ r. ⌜ ((i : ℕ) → i < 1024 → owns number (start + 4096 * i) w ≡ (r is i)) ⌝ }
+{
+    let page = w / 4096;
+    let first = start / 4096;
+    if (w % 4096 / 16 != number) | (page < first) {
+        return 1024;
+    }
+    page - first
+}
+
+// The frames of process `number`'s pages: in place i that of the page i pages above `start`, if the process has it.
+fn frames_from(book: &[u64], number: u64, start: u64) -> [u16; 1024]
+    requires { ⌜ (1 ≤ number) × (number ≤ 16) × (start % 4096 ≡ 0) × (frameCount (now book) ≤ 1024) ⌝ }
+    ensures { λ r. ⌜ (length r ≡ 1024) × ((i k : ℕ) → i < 1024 → frameOf (now (book .entry)) number (start + 4096 * i) ≡ some k → getD r i 0 ≡ k) ⌝ }
+{
+    let frames = book.len() / 17;
+    let place = (number - 1) as usize;
+    let mut own = [0u16; 1024];
+    let mut k = 0;
+    while k < frames {
+        let i = pages_above(book[17 * k + place], number, start);
+        let at = k;
+        k += 1;
+        if i < 1024 {
+            own[i as usize] = at as u16;
+        }
+    }
+    own
+}
+
+// Places copies of the pages of a data segment of the parent's for the child. `top` and the answer are as in `pagealloc::place`. The
+// parent's pages stay in their frames, and these keep their bytes.
+pub fn copy_data(
     frames: &mut [u8],
     book: &mut [u64],
     top: usize,
-    parent: Parent,
+    number: u64,
     child: u64,
     recorded: UserSegment,
 ) -> usize
-    requires { ⌜ (length (now frames) ≡ 4096 * length (now book)) × (1 ≤ parent .number) × (parent .number < 256) × (1 ≤ child) × (child < 256) × (parent .number ≡ child → ⊥) ⌝ }
-    requires { ⌜ (recorded .range .start % 4096 ≡ 0) × (recorded .range .end % 4096 ≡ 0) × (recorded .range .end < 2 ^ 63) × (recorded .perm < 16) ⌝ }
-    requires { ⌜ Mapped (now book) (parent .number) (recorded .range .start) (recorded .range .end) × Tells (now book) (parent .tags) (parent .bases) (parent .table) (parent .number) ⌝ }
-    requires { ⌜ Passed top (now book) ⌝ }
-    ensures { λ _. ⌜ store (now (frames .exit)) (now (book .exit)) ≡ place (store (now (frames .entry)) (now (book .entry))) child (pagesOf (λ a. frameBytes (now (frames .entry)) (frameOf (now (book .entry)) (parent .number) a)) (recorded ∷ [])) ⌝ }
-    ensures { λ r. ⌜ Passed r (now (book .exit)) × Tells (now (book .exit)) (parent .tags) (parent .bases) (parent .table) (parent .number) ⌝ }
+    requires { ⌜ (length (now frames) ≡ 4096 * frameCount (now book)) × (1 ≤ number) × (number ≤ 16) × (1 ≤ child) × (child ≤ 16) × (number ≡ child → ⊥) × (frameCount (now book) ≤ 1024) ⌝ }
+    requires { ⌜ Bounded (now book) number recorded × (recorded .perm ≡ 3) × Held (now book) number × Passed top (now book) ⌝ }
+    ensures { λ _. ⌜ store (now (frames .exit)) (now (book .exit)) ≡ place (store (now (frames .entry)) (now (book .entry))) child (pagesOf (λ a. frameBytes (now (frames .entry)) (frameOf (now (book .entry)) number a)) (recorded ∷ [])) ⌝ }
+    ensures { λ r. ⌜ Passed r (now (book .exit)) × Held (now (book .exit)) number × Kept (store (now (frames .entry)) (now (book .entry))) (store (now (frames .exit)) (now (book .exit))) number ⌝ }
 {
-    let number = parent.number;
-    let tags = parent.tags;
-    let bases = parent.bases;
-    let table = parent.table;
-    fork::copy::copy_segment(
-        frames,
-        book,
-        &tags,
-        &bases,
-        &table,
-        top,
-        number,
-        child,
-        recorded,
-    )
+    let perm = recorded.perm;
+    let range = recorded.range;
+    let end = range.end;
+    let mut page = range.start;
+    let own = frames_from(book, number, page);
+    let mut i: usize = 0;
+    let mut c = top;
+    while page < end {
+        let from = own[i] as usize;
+        let spec::Found::At(k) = pagealloc::place::free_below(book, c) else {
+            return 0;
+        };
+        pagealloc::place::hold_copied(frames, book, from, k, child, perm, page);
+        c = k;
+        i += 1;
+        page += spec::PAGE_SIZE_4K;
+    }
+    c
 }
 
-// Copies the pages of the parent's lent segments for `child`, as `copy_segments`: every page now, segments in their order. Callers
-// have counted the free frames. No frame from the answer on is free.
+// Places copies of the pages of a segment of the parent's for the child, if it is data; text and rodata are shared.
+fn copy_segment(
+    frames: &mut [u8],
+    book: &mut [u64],
+    top: usize,
+    number: u64,
+    child: u64,
+    recorded: UserSegment,
+) -> usize
+    requires { ⌜ (length (now frames) ≡ 4096 * frameCount (now book)) × (1 ≤ number) × (number ≤ 16) × (1 ≤ child) × (child ≤ 16) × (number ≡ child → ⊥) × (frameCount (now book) ≤ 1024) ⌝ }
+    requires { ⌜ Bounded (now book) number recorded × Held (now book) number × Passed top (now book) ⌝ }
+    ensures { λ _. ⌜ store (now (frames .exit)) (now (book .exit)) ≡ place (store (now (frames .entry)) (now (book .entry))) child (pagesOf (λ a. frameBytes (now (frames .entry)) (frameOf (now (book .entry)) number a)) (dataOnly (recorded ∷ []))) ⌝ }
+    ensures { λ r. ⌜ Passed r (now (book .exit)) × Held (now (book .exit)) number × Kept (store (now (frames .entry)) (now (book .entry))) (store (now (frames .exit)) (now (book .exit))) number ⌝ }
+{
+    let perm = recorded.perm;
+    if perm != spec::DATA {
+        return top;
+    }
+    copy_data(frames, book, top, number, child, recorded)
+}
+
+// Copies the data pages of the parent's lent segments for `child`, as `copy_segments`: every page now, segments in their order. Callers
+// have counted the free frames, and shared text and rodata. No frame from the answer on is free.
 pub fn copy_segments(
     frames: &mut [u8],
     book: &mut [u64],
-    parent: Parent,
+    number: u64,
     child: u64,
     segments: &[UserSegment],
 ) -> usize
-    requires { ⌜ (length (now frames) ≡ 4096 * length (now book)) × (1 ≤ parent .number) × (parent .number < 256) × (1 ≤ child) × (child < 256) × (parent .number ≡ child → ⊥) × Tells (now book) (parent .tags) (parent .bases) (parent .table) (parent .number) ⌝ }
-    requires { ⌜ ((i : ℕ) → i < length (now segments) → Copyable (now book) (parent .number) (getD (now segments) i zeroSegment)) ⌝ }
-    ensures { λ _. ⌜ store (now (frames .exit)) (now (book .exit)) ≡ place (store (now (frames .entry)) (now (book .entry))) child (pagesOf (λ a. frameBytes (now (frames .entry)) (frameOf (now (book .entry)) (parent .number) a)) (now (segments .entry))) ⌝ }
-    ensures { λ r. ⌜ Passed r (now (book .exit)) × Tells (now (book .exit)) (parent .tags) (parent .bases) (parent .table) (parent .number) ⌝ }
+    requires { ⌜ (length (now frames) ≡ 4096 * frameCount (now book)) × (1 ≤ number) × (number ≤ 16) × (1 ≤ child) × (child ≤ 16) × (number ≡ child → ⊥) × (frameCount (now book) ≤ 1024) × Held (now book) number ⌝ }
+    requires { ⌜ ((i : ℕ) → i < length (now segments) → Bounded (now book) number (getD (now segments) i zeroSegment)) ⌝ }
+    ensures { λ _. ⌜ store (now (frames .exit)) (now (book .exit)) ≡ place (store (now (frames .entry)) (now (book .entry))) child (pagesOf (λ a. frameBytes (now (frames .entry)) (frameOf (now (book .entry)) number a)) (dataOnly (now (segments .entry)))) ⌝ }
+    ensures { λ r. ⌜ Passed r (now (book .exit)) × Held (now (book .exit)) number × Kept (store (now (frames .entry)) (now (book .entry))) (store (now (frames .exit)) (now (book .exit))) number ⌝ }
 {
     let n = segments.len();
-    let mut top = book.len();
+    let mut top = book.len() / 17;
     let mut i = 0;
     while i < n {
-        top = copy_segment(frames, book, top, parent, child, segments[i]);
+        top = copy_segment(frames, book, top, number, child, segments[i]);
         i += 1;
     }
     top

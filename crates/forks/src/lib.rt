@@ -1,11 +1,10 @@
 // Fork with its list: the parent's recorded segments are lent as a slice of records, as r9's `copy_segments` takes them, and a list
 // unlike the record is refused with 2. `fork::fork` is the version by value. The borrow checker covers no function that takes a
 // slice of structs, so `same_list`, `copy_segments`, `forked` and `fork_list` are proved by hand; the work in them is done by
-// functions that take one record by value, and what the check of the book leaves goes through them by value too (`Parent`).
+// functions that take one record by value.
 
 mod copy;
 mod list;
-pub mod parent;
 
 ghost use mathlib.Core.Path.{_≡_};
 ghost use mathlib.Core.Bool.{true};
@@ -14,22 +13,20 @@ ghost use Prim.Native.Nat.{_*_, _^_, _≤_, _<_};
 ghost use lib.ListN.{length};
 ghost use Rattle.spec.specs.Tests.{same};
 ghost use Rattle.spec.specs.Numbers.{pageUp};
-ghost use Rattle.spec.specs.Book.{valid, frameOf, sameSegment, used, bssSegment, procAt};
+ghost use Rattle.spec.specs.Book.{valid, frameCount, frameOf, sameSegment, used, bssSegment, piecesOf, dataOnly, procAt};
 ghost use Rattle.spec.specs.Frames.{pagesOf, place, frameBytes};
 ghost use Rattle.spec.specs.Machine.{fork, plainly};
-ghost use Rattle.spec.specs.World.{setProc, copy, Does};
+ghost use Rattle.spec.specs.World.{setProc, Does};
 ghost use Rattle.spec.specs.declared.Answer.the-variants.{Done, Refused};
-ghost use Rattle.spec.specs.declared.Setup.{Setup};
 ghost use Rattle.book.specs.Lent.{store};
 ghost use Rattle.pagealloc.specs.Lent.{Passed};
-ghost use Rattle.sound.specs.Table.{Blank, Ready};
-ghost use Rattle.fork.specs.Lent.{Copyable, Tells};
-ghost use Rattle.front.specs.Numbers.{stateOf, call, forkError};
-ghost use Rattle.forks.specs.Fork.{recordOf, forkNumber};
+ghost use Rattle.fork.specs.Lent.{Held};
+ghost use Rattle.front.specs.Numbers.{stateOf, call};
+ghost use Rattle.forks.specs.Fork.{recordOf, forkNumber, sharedBy};
+ghost use Rattle.forks.specs.Lent.{Bounded, Shared};
 pub use copy::copy_segments;
 use front::left::Left;
 pub use list::same_list;
-use parent::Parent;
 use spec::Answer;
 use spec::Proc;
 use spec::Procs;
@@ -46,8 +43,7 @@ fn recorded(procs: Procs, number: u64) -> Proc
     front::record::proc_at(procs, number)
 }
 
-// What a fork is refused with: 1, 38, 2 to 5 and 33, or 0. `alike`: its list is the parent's record's segments. Where there is no
-// number, the three lists are ready for the fork's lookups.
+// What a fork is refused with: 1, 38, 2 to 5 and 33, or 0. `alike`: its list is the parent's record's segments.
 fn fork_number(
     setup: Setup,
     frames: &[u8],
@@ -56,14 +52,12 @@ fn fork_number(
     number: u64,
     child: u64,
     alike: bool,
-    tags: &mut [u64; 272],
-    bases: &mut [u64; 273],
-    table: &mut [u16; 1024],
 ) -> u64
-    requires { ⌜ (length (now tags) ≡ 272) × (length (now bases) ≡ 273) × (length (now table) ≡ 1024) × Blank (now table) ⌝ }
     ensures { λ r. ⌜ r ≡ forkNumber (stateOf setup (now (frames .entry)) (now (book .entry)) procs) number child alike ⌝ }
-    ensures { λ r. ⌜ (r ≡ 0 → Ready (now (book .entry)) (now (tags .exit)) (now (bases .exit)) (now (table .exit))) ⌝ }
 {
+    let mut tags = [0u64; 272];
+    let mut bases = [0u64; 273];
+    let mut table = [0u16; 16384];
     let e = front::numbers::fork_ready(
         setup,
         frames,
@@ -71,9 +65,9 @@ fn fork_number(
         procs,
         number,
         child,
-        tags,
-        bases,
-        table,
+        &mut tags,
+        &mut bases,
+        &mut table,
     );
     if !alike & (e != spec::SIZES) & (e != spec::SETUP) & front::record::is_number(number) {
         return spec::TORN;
@@ -82,47 +76,30 @@ fn fork_number(
         return e;
     }
     let p = front::record::proc_at(procs, number);
-    let free = sound::free_frames(book, bases) as u64;
-    if front::pages::own_pages(p) > free {
+    let free = book::free_count(book) as u64;
+    if fork::count::data_pages(p) > free {
         return spec::ENOVMEM;
     }
     0
 }
 
-// The parent of a fork, once its numbers were asked.
-fn prepared(
+// Answers what a fork is refused with, as `fork_number`. If that is 0, the child shares its parent's text and rodata.
+fn prepare(
     setup: Setup,
     frames: &[u8],
-    book: &[u64],
+    book: &mut [u64],
     procs: Procs,
     number: u64,
     child: u64,
     alike: bool,
-) -> Parent
-    ensures { λ r. ⌜ (r .error ≡ forkNumber (stateOf setup (now (frames .entry)) (now (book .entry)) procs) number child alike) × (r .number ≡ number) × (r .error ≡ 0 → Ready (now (book .entry)) (r .tags) (r .bases) (r .table)) ⌝ }
+) -> u64
+    ensures { λ r. ⌜ (r ≡ forkNumber (stateOf setup (now (frames .entry)) (now (book .entry)) procs) number child alike) × (store (now (frames .entry)) (now (book .exit)) ≡ sharedBy r (store (now (frames .entry)) (now (book .entry))) number child) ⌝ }
 {
-    let mut tags = [0u64; 272];
-    let mut bases = [0u64; 273];
-    let mut table = [0u16; 1024];
-    let e = fork_number(
-        setup,
-        frames,
-        book,
-        procs,
-        number,
-        child,
-        alike,
-        &mut tags,
-        &mut bases,
-        &mut table,
-    );
-    Parent {
-        number: number,
-        error: e,
-        tags: tags,
-        bases: bases,
-        table: table,
+    let e = fork_number(setup, frames, book, procs, number, child, alike);
+    if e == 0 {
+        share::share_pages(book, number as usize, child as usize);
     }
+    e
 }
 
 // A refusal: the records are as they were.
@@ -141,17 +118,16 @@ fn finish(
     book: &mut [u64],
     top: usize,
     procs: Procs,
-    parent: Parent,
+    number: u64,
     child: u64,
 ) -> Left
-    requires { ⌜ (length (now frames) ≡ 4096 * length (now book)) × (valid (parent .number) ≡ true) × (valid child ≡ true) × (parent .number ≡ child → ⊥) × (pageUp (procAt procs (parent .number) .bss .start) < 2 ^ 64) × Copyable (now book) (parent .number) (bssSegment (procAt procs (parent .number) .bss)) × Passed top (now book) × Tells (now book) (parent .tags) (parent .bases) (parent .table) (parent .number) ⌝ }
-    ensures { λ r. ⌜ (store (now (frames .exit)) (now (book .exit)) ≡ place (store (now (frames .entry)) (now (book .entry))) child (pagesOf (λ a. frameBytes (now (frames .entry)) (frameOf (now (book .entry)) (parent .number) a)) (bssSegment (procAt procs (parent .number) .bss) ∷ []))) × (r ≡ record { procs = setProc procs child (procAt procs (parent .number)); answer = Done }) ⌝ }
+    requires { ⌜ (length (now frames) ≡ 4096 * frameCount (now book)) × (valid number ≡ true) × (valid child ≡ true) × (number ≡ child → ⊥) × (frameCount (now book) ≤ 1024) × (pageUp (procAt procs number .bss .start) < 2 ^ 64) × Bounded (now book) number (bssSegment (procAt procs number .bss)) × Held (now book) number × Passed top (now book) ⌝ }
+    ensures { λ r. ⌜ (store (now (frames .exit)) (now (book .exit)) ≡ place (store (now (frames .entry)) (now (book .entry))) child (pagesOf (λ a. frameBytes (now (frames .entry)) (frameOf (now (book .entry)) number a)) (bssSegment (procAt procs number .bss) ∷ []))) × (r ≡ record { procs = setProc procs child (procAt procs number); answer = Done }) ⌝ }
 {
-    let number = parent.number;
     let p = front::record::proc_at(procs, number);
     let bss = p.bss;
     let s = front::pages::bss_segment(bss);
-    copy::copy_segment(frames, book, top, parent, child, s);
+    copy::copy_data(frames, book, top, number, child, s);
     let after = front::record::with_proc(procs, child, p);
     Left {
         procs: after,
@@ -159,26 +135,26 @@ fn finish(
     }
 }
 
-// A fork that nothing forbids: every page now, segments in the list's order, then the bss; the child takes record and name. The
-// setup was tested, and is not needed again: what is left is the same under each.
+// A fork that nothing forbids, whose text and rodata are shared: every data page now, segments in the list's order, then the bss; the
+// child takes record and name.
 fn forked(
     frames: &mut [u8],
     book: &mut [u64],
     procs: Procs,
-    parent: Parent,
+    number: u64,
     child: u64,
     segments: &[UserSegment],
 ) -> Left
-    requires { ⌜ ((setup : Setup) × (forkError (stateOf setup (now frames) (now book) procs) (parent .number) child ≡ 0)) × (same sameSegment (now segments) (used (procAt procs (parent .number) .segments)) ≡ true) × Ready (now book) (parent .tags) (parent .bases) (parent .table) ⌝ }
-    ensures { λ r. ⌜ ((setup : Setup) → stateOf setup (now (frames .exit)) (now (book .exit)) (r .procs) ≡ copy (stateOf setup (now (frames .entry)) (now (book .entry)) procs) (parent .number) child (procAt procs (parent .number))) × (r .answer ≡ Done) ⌝ }
+    requires { ⌜ Shared (now frames) (now book) procs number child × (same sameSegment (now segments) (used (procAt procs number .segments)) ≡ true) ⌝ }
+    ensures { λ r. ⌜ (store (now (frames .exit)) (now (book .exit)) ≡ place (store (now (frames .entry)) (now (book .entry))) child (pagesOf (λ a. frameBytes (now (frames .entry)) (frameOf (now (book .entry)) number a)) (dataOnly (piecesOf (procAt procs number))))) × (r ≡ record { procs = setProc procs child (procAt procs number); answer = Done }) ⌝ }
 {
-    let top = copy::copy_segments(frames, book, parent, child, segments);
-    finish(frames, book, top, procs, parent, child)
+    let top = copy::copy_segments(frames, book, number, child, segments);
+    finish(frames, book, top, procs, number, child)
 }
 
-// Forks process `number` as `child`, whose memory and record are its parent's from now on its own. `segments` lists the parent's
-// recorded segments. Refused with 1, 38 or 2 to 5, a list unlike the record with 2, or, if the free frames don't hold a copy, with
-// 33, it changes nothing.
+// Forks process `number` as `child`, whose record is its parent's from now on its own, and which sees what its parent sees: text and
+// rodata in its parent's frames, data in frames of its own. `segments` lists the parent's recorded segments. Refused with 1, 38 or 2
+// to 5, a list unlike the record with 2, or, if the free frames don't hold a copy of the data, with 33, it changes nothing.
 pub fn fork_list(
     setup: Setup,
     frames: &mut [u8],
@@ -192,10 +168,9 @@ pub fn fork_list(
 {
     let p = recorded(procs, number);
     let alike = list::same_list(segments, p);
-    let parent = prepared(setup, frames, book, procs, number, child, alike);
-    let e = parent.error;
+    let e = prepare(setup, frames, book, procs, number, child, alike);
     if e != 0 {
         return refused(procs, e);
     }
-    forked(frames, book, procs, parent, child, segments)
+    forked(frames, book, procs, number, child, segments)
 }

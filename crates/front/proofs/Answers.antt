@@ -9,7 +9,7 @@ use Rattle.spec.specs.Numbers.{setupOk}
 use Rattle.spec.specs.Book.{valid, free, sameSegment, used, procAt}
 use Rattle.spec.specs.Frames.{sized}
 use Rattle.spec.specs.Machine.{Ask, start, fork, plain, kind, Reply, outcome, refuse, lengthsFit, judge, weigh}
-use Rattle.spec.specs.World.{State, sound, taken, view, answer, leave, after, Does}
+use Rattle.spec.specs.World.{State, sound, taken, view, aloneFor, answer, leave, after, Does}
 use Rattle.spec.specs.declared.UserSegment.{UserSegment}
 use Rattle.spec.proofs.Bools.{or-test}
 use Rattle.spec.proofs.Lists.{same-self}
@@ -47,10 +47,10 @@ in-order a b q r = go (eqb a 0) refl
     go false e = sym (rw e)
 
 pub answer-plain : (s : State) (n : ℕ) (q : Ask) → kind q ≡ plain
-    → answer s (call n q) ≡ orRefuse (plainError s n (lengthsFit q)) q (weigh (view s n) (free (s .store .book)) q)
+    → answer s (call n q) ≡ orRefuse (plainError s n (lengthsFit q)) q (weigh (view s n) (free (s .store .book)) (aloneFor s (call n q)) q)
 unfolding answer judge numberError plainError
 answer-plain s n q k =
-    let w : Reply = weigh (view s n) (free (s .store .book)) q in
+    let w : Reply = weigh (view s n) (free (s .store .book)) (aloneFor s (call n q)) q in
     let x : Reply = not (taken s n) ⇒ refuse 4 q else w in
     again (sized (s .store)) (lengthsFit q) _ q _ x
     (λ f. step (setupOk (s .setup)) 38 _ q _ x refl (step (sound s) 2 _ q _ x refl (skip (lengthsFit q) _ (refuse 1 q) f ∙ rw k (step (valid n) 3 0 q _ x refl refl))))
@@ -59,11 +59,11 @@ answer-plain s n q k =
 
 pub answer-start : (s : State) (n : ℕ) (image name bytes lengths : List ℕ)
     → let q : Ask = start image name bytes lengths in
-    answer s (call n q) ≡ orRefuse (beginError s n (lengthsFit q)) q (weigh (view s n) (free (s .store .book)) q)
+    answer s (call n q) ≡ orRefuse (beginError s n (lengthsFit q)) q (weigh (view s n) (free (s .store .book)) (aloneFor s (call n q)) q)
 unfolding answer judge numberError beginError
 answer-start s n image name bytes lengths =
     let q : Ask = start image name bytes lengths in
-    let w : Reply = weigh (view s n) (free (s .store .book)) q in
+    let w : Reply = weigh (view s n) (free (s .store .book)) (aloneFor s (call n q)) q in
     let x : Reply = not (not (taken s n)) ⇒ refuse 5 q else w in
     again (sized (s .store)) (lengthsFit q) _ q _ x
     (λ f. step (setupOk (s .setup)) 38 _ q _ x refl (step (sound s) 2 _ q _ x refl (skip (lengthsFit q) _ (refuse 1 q) f ∙ step (valid n) 3 0 q _ x refl refl)))
@@ -77,12 +77,12 @@ two false b q x = refl
 
 pub answer-fork : (s : State) (n child : ℕ)
     → let q : Ask = fork child (used (procAt (s .procs) n .segments)) in
-    answer s (call n q) ≡ orRefuse (forkError s n child) q (weigh (view s n) (free (s .store .book)) q)
+    answer s (call n q) ≡ orRefuse (forkError s n child) q (weigh (view s n) (free (s .store .book)) (aloneFor s (call n q)) q)
 unfolding answer judge numberError forkError
 answer-fork s n child =
     let gs : List UserSegment = used (procAt (s .procs) n .segments) in
     let q : Ask = fork child gs in
-    let w : Reply = weigh (view s n) (free (s .store .book)) q in
+    let w : Reply = weigh (view s n) (free (s .store .book)) (aloneFor s (call n q)) q in
     let x₅ : Reply = not (not (taken s child)) ⇒ refuse 5 q else w in
     let x₄ : Reply = not (taken s n) ⇒ refuse 4 q else x₅ in
     let x₃ : Reply = not (valid child) ⇒ refuse 3 q else x₄ in
@@ -117,7 +117,7 @@ module _ (s : State) (n : ℕ) (q : Ask) (e : ℕ) (k : kind q ≡ plain) (first
   pub plain-refused : (e ≡ 0 → ⊥) → Does s (call n q) s (refuse e q)
   plain-refused = refused-first s n q e _ _ (answer-plain s n q k) first
 
-  pub plain-goes : e ≡ 0 → (t : State) (r : Reply) → weigh (view s n) (free (s .store .book)) q ≡ r → t ≡ leave s (call n q) (outcome r) → Does s (call n q) t r
+  pub plain-goes : e ≡ 0 → (t : State) (r : Reply) → weigh (view s n) (free (s .store .book)) (aloneFor s (call n q)) q ≡ r → t ≡ leave s (call n q) (outcome r) → Does s (call n q) t r
   plain-goes = goes-on s n q e _ _ (answer-plain s n q k) first
 
 -- of a fork
@@ -128,5 +128,5 @@ module _ (s : State) (n child e : ℕ) (first : e ≡ forkError s n child) where
   pub fork-refused : (e ≡ 0 → ⊥) → Does s (call n asked) s (refuse e asked)
   fork-refused = refused-first s n asked e _ _ (answer-fork s n child) first
 
-  pub fork-goes : e ≡ 0 → (t : State) (r : Reply) → weigh (view s n) (free (s .store .book)) asked ≡ r → t ≡ leave s (call n asked) (outcome r) → Does s (call n asked) t r
+  pub fork-goes : e ≡ 0 → (t : State) (r : Reply) → weigh (view s n) (free (s .store .book)) (aloneFor s (call n asked)) asked ≡ r → t ≡ leave s (call n asked) (outcome r) → Does s (call n asked) t r
   fork-goes = goes-on s n asked e _ _ (answer-fork s n child) first

@@ -3,5 +3,4 @@ pub mod First
 pub mod Answers
 -- What calls know of a process and its pages, and what they leave.
 pub mod Living
-pub mod Own
 pub mod States

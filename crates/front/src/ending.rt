@@ -10,11 +10,11 @@ ghost use Rattle.spec.specs.declared.Setup.{Setup};
 ghost use Rattle.front.specs.Numbers.{stateOf};
 use spec::Procs;
 
-// A process ends, as `bad_address` ends it: its frames are free and keep their bytes, and its record is zero.
+// A process ends, as `bad_address` ends it: its frames lose a holder and keep their bytes, and its record is zero.
 pub fn forget(book: &mut [u64], procs: Procs, number: u64) -> Procs
     requires { ⌜ valid number ≡ true ⌝ }
     ensures { λ r. ⌜ ((setup : Setup) (frames : List ℕ) → stateOf setup frames (now (book .exit)) r ≡ forget (stateOf setup frames (now (book .entry)) procs) number) ⌝ }
 {
-    book::release_owner(book, number);
+    book::release_owner(book, number as usize);
     procs::with_proc(procs, number, procs::zero_proc())
 }

@@ -22,9 +22,9 @@ pub fn plain_ready(
     fits: bool,
     tags: &mut [u64; 272],
     bases: &mut [u64; 273],
-    table: &mut [u16; 1024],
+    table: &mut [u16; 16384],
 ) -> u64
-    requires { ⌜ (length (now tags) ≡ 272) × (length (now bases) ≡ 273) × (length (now table) ≡ 1024) × Blank (now table) ⌝ }
+    requires { ⌜ (length (now tags) ≡ 272) × (length (now bases) ≡ 273) × (length (now table) ≡ 16384) × Blank (now table) ⌝ }
     ensures { λ r. ⌜ r ≡ plainError (stateOf setup (now (frames .entry)) (now (book .entry)) procs) number fits ⌝ }
     ensures { λ r. ⌜ (r ≡ 0 → Ready (now (book .entry)) (now (tags .exit)) (now (bases .exit)) (now (table .exit))) ⌝ }
 {
@@ -51,7 +51,7 @@ pub fn plain_error(
 {
     let mut tags = [0u64; 272];
     let mut bases = [0u64; 273];
-    let mut table = [0u16; 1024];
+    let mut table = [0u16; 16384];
     plain_ready(
         setup,
         frames,
@@ -96,9 +96,9 @@ pub fn fork_ready(
     child: u64,
     tags: &mut [u64; 272],
     bases: &mut [u64; 273],
-    table: &mut [u16; 1024],
+    table: &mut [u16; 16384],
 ) -> u64
-    requires { ⌜ (length (now tags) ≡ 272) × (length (now bases) ≡ 273) × (length (now table) ≡ 1024) × Blank (now table) ⌝ }
+    requires { ⌜ (length (now tags) ≡ 272) × (length (now bases) ≡ 273) × (length (now table) ≡ 16384) × Blank (now table) ⌝ }
     ensures { λ r. ⌜ r ≡ forkError (stateOf setup (now (frames .entry)) (now (book .entry)) procs) number child ⌝ }
     ensures { λ r. ⌜ (r ≡ 0 → Ready (now (book .entry)) (now (tags .exit)) (now (bases .exit)) (now (table .exit))) ⌝ }
 {

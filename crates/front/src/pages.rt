@@ -1,4 +1,3 @@
-// The pages of a record: how many, and those of the bss (crate procs).
+// The pages of a bss (crate procs).
 
 pub use procs::bss_segment;
-pub use procs::own_pages;

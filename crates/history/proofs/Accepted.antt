@@ -10,13 +10,13 @@ use borrow.Author.Tests.{eqb-true, ltb-true, ltb-false, ne-eqb}
 use Rattle.spec.proofs.Bools.{split, both, not-true, un-not}
 use Rattle.spec.specs.Tests.{_is_, _isnt_, _below_, _above_, _⇒_else_}
 use Rattle.spec.specs.Numbers.{limit, pageUp}
-use Rattle.spec.specs.Book.{valid, free, pageCount}
+use Rattle.spec.specs.Book.{valid, free, alone, pageCount}
 use Rattle.spec.specs.Access.{userRangeOk}
 use Rattle.spec.specs.Elf.{entry}
 use Rattle.spec.specs.Exec.{imageError, startPieces, argsOf, argsError, registers, pushOk, Argv, copyArgv}
 use Rattle.spec.specs.Segment.{Break, refusedBy, endsAt, ibrk}
-use Rattle.spec.specs.Machine.{Ask, start, replace, push, break, fork, end, copy-to-user, Call, Outcome, accepted, refused, ended, outcome, outcomeOf, own}
-use Rattle.spec.specs.World.{State, taken, view, answer}
+use Rattle.spec.specs.Machine.{Ask, start, replace, push, break, fork, end, copy-to-user, Call, Outcome, accepted, refused, ended, outcome, outcomeOf, copied}
+use Rattle.spec.specs.World.{State, taken, view, aloneFor, answer}
 use Rattle.spec.specs.declared.VirtRange.{VirtRange}
 use Rattle.spec.specs.declared.UserSegment.{UserSegment}
 use Rattle.spec.specs.declared.UserRegs.{UserRegs}
@@ -28,13 +28,13 @@ use Rattle.history.proofs.Passed.{Good, answered, accepted≢, Passed, 
 -- ---- any call
 
 -- a call that is not refused has passed 1 to 5
-pub not-refused : (s : State) → Good s → (c : Call) (o : Outcome) → outcome (answer s c) ≡ o → (o ≡ refused → ⊥) → Passed (view s (c .number)) (free (s .store .book)) (taken s) c o
-not-refused s g c o e h = passed (view s (c .number)) (free (s .store .book)) (taken s) c o (ap outcome (sym (answered s g c)) ∙ e) h
+pub not-refused : (s : State) → Good s → (c : Call) (o : Outcome) → outcome (answer s c) ≡ o → (o ≡ refused → ⊥) → Passed (view s (c .number)) (free (s .store .book)) (aloneFor s c) (taken s) c o
+not-refused s g c o e h = passed (view s (c .number)) (free (s .store .book)) (aloneFor s c) (taken s) c o (ap outcome (sym (answered s g c)) ∙ e) h
 
 abbrev Accepts : State → ℕ → Ask → Type 0
 Accepts s n q = outcome (answer s (record { number = n; ask = q })) ≡ accepted
 
-went : (s : State) → Good s → (n : ℕ) (q : Ask) → Accepts s n q → Passed (view s n) (free (s .store .book)) (taken s) (record { number = n; ask = q }) accepted
+went : (s : State) → Good s → (n : ℕ) (q : Ask) → Accepts s n q → Passed (view s n) (free (s .store .book)) (aloneFor s (record { number = n; ask = q })) (taken s) (record { number = n; ask = q }) accepted
 went s g n q e = not-refused s g (record { number = n; ask = q }) accepted e accepted≢
 
 -- a choice that comes to what its first answer isn't
@@ -96,20 +96,20 @@ pub record Replaces (s : State) (n : ℕ) (image : List ℕ) (argv : ℕ) : Type
   pub image-fits : imageError (s .setup) image ≡ 0
   pub readable : (copyArgv (s .setup) (view s n .mem) argv .error is 35) ≡ false
   pub within-limit : (copyArgv (s .setup) (view s n .mem) argv .error is 33) ≡ false
-  pub room : pageCount (startPieces (s .setup) image) ≤ own (view s n) + free (s .store .book)
+  pub room : pageCount (startPieces (s .setup) image) ≤ alone (s .store .book) n + free (s .store .book)
 
 pub replaces : (s : State) → Good s → (n : ℕ) (image name : List ℕ) (argv : ℕ) → Accepts s n (replace image name argv) → Replaces s n image argv
 replaces s g n image name argv e =
     let w = went s g n (replace image name argv) e in
     let read : Argv = copyArgv (s .setup) (view s n .mem) argv in
     let a₄ : Answer = Regs (registers (entry image) (s .setup .ustktop) (read .args)) in
-    let a₃ : Answer = pageCount (startPieces (s .setup) image) above own (view s n) + free (s .store .book) ⇒ Ended 33 else a₄ in
+    let a₃ : Answer = pageCount (startPieces (s .setup) image) above alone (s .store .book) n + free (s .store .book) ⇒ Ended 33 else a₄ in
     let a₂ : Answer = read .error is 33 ⇒ Refused 33 else a₃ in
     let a₁ : Answer = read .error is 35 ⇒ Ended 35 else a₂ in
     let p₁ = past Goes (imageError (s .setup) image isnt 0) (Refused (imageError (s .setup) image)) a₁ (w .weighed) refused-not in
     let p₂ = past Goes (read .error is 35) (Ended 35) a₂ (p₁ .1) ended-not in
     let p₃ = past Goes (read .error is 33) (Refused 33) a₃ (p₂ .1) refused-not in
-    let p₄ = past Goes (pageCount (startPieces (s .setup) image) above own (view s n) + free (s .store .book)) (Ended 33) a₄ (p₃ .1) ended-not in
+    let p₄ = past Goes (pageCount (startPieces (s .setup) image) above alone (s .store .book) n + free (s .store .book)) (Ended 33) a₄ (p₃ .1) ended-not in
     record { number = w .number; living = w .lives; image-fits = zero-is _ (p₁ .0); readable = p₂ .0; within-limit = p₃ .0; room = ltb-false _ _ (p₄ .0) }
 
 -- ---- push
@@ -181,13 +181,13 @@ pub record Forks (s : State) (n child : ℕ) : Type 0 where
   pub child-number : valid child ≡ true
   pub living : taken s n ≡ true
   pub dead : taken s child ≡ false
-  pub room : own (view s n) ≤ free (s .store .book)
+  pub room : copied (view s n) ≤ free (s .store .book)
 
 pub forks-child : (s : State) → Good s → (n child : ℕ) (segments : List UserSegment) → Accepts s n (fork child segments) → Forks s n child
 forks-child s g n child segments e =
     let w = went s g n (fork child segments) e in
     let v = both (valid n) (valid child) (w .number) in
-    let p = past Goes (own (view s n) above free (s .store .book)) (Refused 33) Done (w .weighed) refused-not in
+    let p = past Goes (copied (view s n) above free (s .store .book)) (Refused 33) Done (w .weighed) refused-not in
     record { number = v .0; child-number = v .1; living = w .lives; dead = not-true (taken s child) (w .new); room = ltb-false _ _ (p .0) }
 
 -- ---- end, copy_to_user

@@ -13,13 +13,13 @@ use Rattle.spec.proofs.Ranges.{InRange, range-all}
 use Rattle.spec.proofs.ReadBack.{Stacked, start-args, replace-args, push-args}
 use Rattle.spec.specs.Tests.{_is_, _isnt_, _above_, _⇒_else_}
 use Rattle.spec.specs.Numbers.{SetupOk, pageDown}
-use Rattle.spec.specs.Book.{free, stack, bssSegment, permAt, pageCount}
+use Rattle.spec.specs.Book.{free, alone, stack, bssSegment, permAt, pageCount}
 use Rattle.spec.specs.Access.{cellOk, userRangeOk, bytesAt, Str, copyStr}
 use Rattle.spec.specs.Elf.{segmentsOf, entry}
 use Rattle.spec.specs.Exec.{imageError, imageSegments, imageBss, startPieces, fileByte, cellOf, loaded, argsOf, strings, argsError, stringsAt, argvAt, belowZero, registers, pushOk, Argv, copyArgv}
 use Rattle.spec.specs.Segment.{Break, ibrk}
-use Rattle.spec.specs.Machine.{Ask, start, replace, push, break, fork, end, user-range-ok, copy-from-user, copy-to-user, try-copy-str-from-user, Call, begins, plain, Outcome, accepted, Reply, outcome, outcomeOf, Machine, own, weigh, run}
-use Rattle.spec.specs.World.{State, taken, view, answer, after}
+use Rattle.spec.specs.Machine.{Ask, start, replace, push, break, fork, end, user-range-ok, copy-from-user, copy-to-user, try-copy-str-from-user, Call, begins, plain, Outcome, accepted, Reply, outcome, outcomeOf, Machine, copied, weigh, run}
+use Rattle.spec.specs.World.{State, taken, view, aloneFor, answer, after}
 use Rattle.spec.specs.History.{put, ArgsRead}
 use Rattle.spec.specs.declared.Setup.{Setup}
 use Rattle.spec.specs.declared.UserSegment.{UserSegment}
@@ -131,10 +131,10 @@ module _ (s : State) (g : Good s) (n : ℕ) (regs : UserRegs) where
   goes q e = ap outcomeOf e
 
   -- it is what the call's own numbers come to
-  weighed : (q : Ask) → Answers q → weigh (view s n) (free (s .store .book)) q .says ≡ Regs regs
+  weighed : (q : Ask) → Answers q → weigh (view s n) (free (s .store .book)) (aloneFor s (call q)) q .says ≡ Regs regs
   weighed q e =
       let p = not-refused s g (call q) accepted (goes q e) accepted≢ in
-      ap (λ (r : Reply). r .says) (sym (answered s g (call q) ∙ weighs (view s n) (free (s .store .book)) (taken s) (call q) (p .lengths) (p .list) (p .number) (p .lives) (p .new))) ∙ e
+      ap (λ (r : Reply). r .says) (sym (answered s g (call q) ∙ weighs (view s n) (free (s .store .book)) (aloneFor s (call q)) (taken s) (call q) (p .lengths) (p .list) (p .number) (p .lives) (p .new))) ∙ e
 
   put-here : {A : Type 0} (f : ℕ → A) (x : A) → put f n x n ≡ x
   put-here f x = rw (eq-eqb n n refl)
@@ -169,13 +169,13 @@ module _ (s : State) (g : Good s) (n : ℕ) (regs : UserRegs) where
       let read : Argv = copyArgv (s .setup) (view s n .mem) argv in
       let p = replaces s g n image name argv (goes q e) in
       let a₄ : Answer = Regs (registers (entry image) (s .setup .ustktop) (read .args)) in
-      let a₃ : Answer = pageCount (startPieces (s .setup) image) above own (view s n) + free (s .store .book) ⇒ Ended 33 else a₄ in
+      let a₃ : Answer = pageCount (startPieces (s .setup) image) above alone (s .store .book) n + free (s .store .book) ⇒ Ended 33 else a₄ in
       let a₂ : Answer = read .error is 33 ⇒ Refused 33 else a₃ in
       let a₁ : Answer = read .error is 35 ⇒ Ended 35 else a₂ in
       finish q (registers (entry image) (s .setup .ustktop) (read .args))
       (each-call s g (call q) .each n (p .number) ∙ ap (λ (o : Outcome). effect (s .setup) (view s) (call q) plain o n) (goes q e) ∙ put-here (view s) _)
       (regs-are _ regs
-      (past-regs (pageCount (startPieces (s .setup) image) above own (view s n) + free (s .store .book)) (Ended 33) a₄ regs refl
+      (past-regs (pageCount (startPieces (s .setup) image) above alone (s .store .book) n + free (s .store .book)) (Ended 33) a₄ regs refl
       (past-regs (read .error is 33) (Refused 33) a₃ regs refl
       (past-regs (read .error is 35) (Ended 35) a₂ regs refl (past-regs (imageError (s .setup) image isnt 0) (Refused (imageError (s .setup) image)) a₁ regs refl (weighed q e))))))
       (replace-args (view s n) (entry image) image name argv
@@ -205,7 +205,7 @@ module _ (s : State) (g : Good s) (n : ℕ) (regs : UserRegs) where
   of-each (break addr) e =
       let b : Break = ibrk (s .setup) (some (view s n .bss)) addr (free (s .store .book)) in
       no-regs (b .error isnt 0) (Refused (b .error)) (Value (b .value)) regs refl refl (weighed (break addr) e)
-  of-each (fork child segments) e = no-regs (own (view s n) above free (s .store .book)) (Refused 33) Done regs refl refl (weighed (fork child segments) e)
+  of-each (fork child segments) e = no-regs (copied (view s n) above free (s .store .book)) (Refused 33) Done regs refl refl (weighed (fork child segments) e)
   of-each end e = no-regs false Done Done regs refl refl (weighed end e)
   of-each (user-range-ok addr len write) e =
       let v : Answer = Value (userRangeOk (s .setup) (view s n .mem) write addr len ⇒ 1 else 0) in

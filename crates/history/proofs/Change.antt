@@ -15,7 +15,7 @@ use Rattle.spec.specs.History.{put, heldPerm}
 use Rattle.spec.specs.declared.Proc.{Proc}
 use Rattle.spec.specs.declared.Procs.{Procs}
 use Rattle.spec.specs.declared.Setup.{Setup}
-use Rattle.laws.proofs.Frame.{once-means, once-words, page-perm}
+use Rattle.laws.proofs.Frame.{page-perm}
 use Rattle.laws.proofs.Record.{WholeProc, Whole, whole-typed, whole-set}
 use Rattle.laws.proofs.Owned.{valid-means}
 use Rattle.laws.proofs.Facts.{Shaped, facts-sound}
@@ -50,7 +50,7 @@ change-here s t n m c = let u = c .setup ∙ c .setup-here in let x = c .segment
 
 pub change-view : (s t : State) (n : ℕ) (m : Machine) → Change s t n m → (q : ℕ) → valid q ≡ true → view t q ≡ put (view s) n m q
 change-view s t n m c q v =
-    put-split (λ x. view t q ≡ x) (view s) n m q (λ e. ap (view t) e ∙ change-here s t n m c) (λ ne. view-eq s t q (c .setup) (c .proc-else q v ne) (c .stored .other q ne))
+    put-split (λ x. view t q ≡ x) (view s) n m q (λ e. ap (view t) e ∙ change-here s t n m c) (λ ne. view-eq s t q (c .setup) (c .proc-else q v ne) (c .stored .other q v ne))
 
 pub change-good : (s t : State) → Good s → (n : ℕ) (m : Machine) → Change s t n m → Good t
 change-good s t g n m c = record {
@@ -59,7 +59,7 @@ change-good s t g n m c = record {
   numbers = rw (c .setup) (g .numbers);
   book =
       rw (c .setup) (facts-sound (s .setup) (t .store .book) (t .procs) (c .whole)
-      (record { accepted = good-setup s g; words = c .stored .words; once = once-words (t .store .book) (λ k nz. c .stored .words k nz .owner .0) (c .stored .once); shape = shape; exact = exact }));
+      (record { accepted = good-setup s g; mappings = c .stored .mappings; shape = shape; exact = exact }));
 }
   where
     shape : (q : ℕ) → valid q ≡ true → lives (procAt (t .procs) q) ≡ true → Shaped (s .setup) (procAt (t .procs) q)
@@ -77,7 +77,7 @@ change-good s t g n m c = record {
 
 -- frames and book as they are
 pub stored-self : (s : State) → Good s → (n : ℕ) → Stored (s .setup) (s .store) (s .store) n (view s n .mem)
-stored-self s g n = let k = known s g .facts in record { sizes = g .sizes; words = k .words; once = once-means (s .store .book) (k .once); here = refl; other = λ q ne. refl }
+stored-self s g n = record { sizes = g .sizes; mappings = known s g .facts .mappings; here = refl; other = λ q v ne. refl }
 
 proc-same : (ps : Procs) (n : ℕ) (p : Proc) → Whole ps → valid n ≡ true → procAt (setProc ps n p) n ≡ p
 proc-same ps n p w v = let i = valid-means n v in getD-set-same (ps .all) (n - 1) p zeroProc (omega (arith, i .0, i .1, w .records))

@@ -1,7 +1,6 @@
 -- Demand 3 and demand 2's sentence on arguments, and their tie to the code: of definitions, and of functions under `Does`.
 -- Assumes nothing.
-use Prim.Native.Nat.{ℕ}
-use mathlib.Core.Path.{_≡_, sym, ap, ap₂, subst, _∙_}
+use mathlib.Core.Path.{sym, ap, ap₂, subst, _∙_}
 use mathlib.Core.Bool.{not}
 use mathlib.Core.List.{List, map}
 use lib.ListN.{length}
@@ -9,7 +8,7 @@ use Rattle.spec.specs.Tests.{_is_}
 use Rattle.spec.specs.Book.{free}
 use Rattle.spec.proofs.Runs.{callsOf, ran}
 use Rattle.spec.specs.Machine.{Reply, judge}
-use Rattle.spec.specs.World.{State, taken, view, answer, readable, after}
+use Rattle.spec.specs.World.{State, taken, view, aloneFor, answer, readable, after}
 use Rattle.spec.specs.History.{Entry, state, linesOf, machine, held, Claim, ArgsRead, Arguments, Runs}
 use Rattle.history.proofs.Passed.{Good}
 use Rattle.history.proofs.Whole.{Laws, claim, good-after, seen-after, heard}
@@ -41,7 +40,7 @@ runs = record {
   answers = λ s t u b h r c a d.
       let x = ran s t h r in
       d .said ∙ ap (λ (y : State). answer y c) (x .0) ∙ heard laws s b (callsOf h) (seen-after laws s b (callsOf h)) c
-      ∙ ap₂ (λ (y : State) (k : List Entry). judge (machine (s .setup) (linesOf k (c .number))) (free (y .store .book)) (taken y) c) (sym (x .0)) (sym (x .1));
+      ∙ ap₂ (λ (y : State) (k : List Entry). judge (machine (s .setup) (linesOf k (c .number))) (free (y .store .book)) (aloneFor y c) (taken y) c) (sym (x .0)) (sym (x .1));
   arguments = λ s t u b h r c a regs d e.
       let g : Good t = rw (ran s t h r .0) (good-after laws s b (callsOf h)) in
       subst (λ (y : State). ArgsRead (view t (c .number)) (c .ask) (view y (c .number) .mem) regs) (sym (d .left)) (args-read t g c regs (ap (λ (y : Reply). y .says) (sym (d .said)) ∙ e));

@@ -14,7 +14,9 @@ use Rattle.spec.specs.Exec.{argsOf, copyArgv}
 use Rattle.spec.specs.Machine.{Ask, start, replace, push, break, fork, end, user-range-ok, copy-from-user, copy-to-user, try-copy-str-from-user, Call, kind, Outcome, accepted, refused, ended, outcome, Machine, off, begun, movedTo}
 use Rattle.spec.specs.World.{State, view, answer, forget, load, brk, settle, leave, after}
 use Rattle.spec.specs.History.{put}
-use Rattle.history.proofs.Passed.{Good, ended≢, valid-number}
+use Rattle.spec.proofs.Args.{args-means}
+use Rattle.laws.proofs.Argv.{argv-fits}
+use Rattle.history.proofs.Passed.{Good, good-setup, ended≢, valid-number}
 use Rattle.history.proofs.Whole.{put-self, effect, effect-refused}
 use Rattle.history.proofs.Accepted.{not-refused, starts, start-ends-nobody, replaces, pushes, breaks, forks-child, ends, writes}
 use Rattle.history.proofs.Change.{Change, change-view, change-good}
@@ -47,7 +49,7 @@ replaced s g n image name argv e =
     let g₁ = change-good s (forget s n) g n (off (s .setup)) c in
     let d =
     load-change (forget s n) g₁ n image name args (h .number) (forget-dead s g n (h .number)) (h .image-fits)
-    (omega (arith, h .room, forget-free s g n (h .number) (h .living))) in
+    (omega (arith, h .room, forget-free s g n (h .number))) (args-means (s .setup) args (argv-fits (s .setup) (good-setup s g) (view s n .mem) argv (copyArgv (s .setup) (view s n .mem) argv) refl (eqb-false _ 35 (h .readable)) (eqb-false _ 33 (h .within-limit)) .1) .1) in
     record { good = change-good (forget s n) (load (forget s n) n image name args) g₁ n m d; each = λ q v. change-view (forget s n) (load (forget s n) n image name args) n m d q v ∙ twice q (eqb q n) refl (change-view s (forget s n) n (off (s .setup)) c q v) m }
   where
     twice : (q : ℕ) (b : Bool) → eqb q n ≡ b → view (forget s n) q ≡ put (view s) n (off (s .setup)) q → (m : Machine) → (b ⇒ m else view (forget s n) q) ≡ (b ⇒ m else view s q)
@@ -61,9 +63,9 @@ settles : (s : State) → Good s → (n : ℕ) (q : Ask) → outcome (answer s (
 unfolding effect
 settles s g n (start image name bytes lengths) e =
     let h = starts s g n image name bytes lengths e in
-    changed s (load s n image name (argsOf bytes lengths)) g n (begun (s .setup) image (argsOf bytes lengths)) (load-change s g n image name (argsOf bytes lengths) (h .number) (h .dead) (h .image-fits) (h .room))
+    changed s (load s n image name (argsOf bytes lengths)) g n (begun (s .setup) image (argsOf bytes lengths)) (load-change s g n image name (argsOf bytes lengths) (h .number) (h .dead) (h .image-fits) (h .room) (args-means (s .setup) (argsOf bytes lengths) (h .args-fit) .1))
 settles s g n (replace image name argv) e = replaced s g n image name argv e
-settles s g n (push pc top bytes lengths) e = changed s _ g n _ (push-change s g n (pushes s g n pc top bytes lengths e .number) top (argsOf bytes lengths))
+settles s g n (push pc top bytes lengths) e = let h = pushes s g n pc top bytes lengths e in changed s _ g n _ (push-change s g n (h .number) top (argsOf bytes lengths) (h .writable))
 settles s g n (break addr) e =
     let h = breaks s g n addr e in
     split (eqb addr 0)
@@ -73,7 +75,7 @@ settles s g n (fork child segments) e = changed s _ g child (view s n) (fork-cha
 settles s g n end e = changed s (forget s n) g n (off (s .setup)) (forget-change s g n (ends s g n e .number))
 settles s g n (user-range-ok addr len write) e = idle s g n
 settles s g n (copy-from-user buffer src) e = idle s g n
-settles s g n (copy-to-user dst bytes) e = changed s _ g n _ (copy-change s g n (writes s g n dst bytes e .number) dst bytes)
+settles s g n (copy-to-user dst bytes) e = let h = writes s g n dst bytes e in changed s _ g n _ (copy-change s g n (h .number) dst bytes (h .writable))
 settles s g n (try-copy-str-from-user buffer src) e = idle s g n
 
 -- ---- ended

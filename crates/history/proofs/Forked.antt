@@ -5,9 +5,12 @@ use mathlib.Core.Bool.{true}
 use mathlib.Core.Option.{Option, none, some}
 use mathlib.Core.List.{List}
 use lib.ListN.{getD}
+use borrow.Author.Tests.{eq-eqb}
+use Rattle.spec.proofs.Bools.{split, clash}
+use Rattle.spec.specs.Tests.{_is_}
 use Rattle.spec.specs.Numbers.{pageDown}
-use Rattle.spec.specs.Book.{valid, frameOf, permAt, piecesOf, procAt}
-use Rattle.spec.specs.Frames.{Cell, frameBytes, pagesOf, place}
+use Rattle.spec.specs.Book.{valid, frameOf, dataOnly, permAt, piecesOf, procAt}
+use Rattle.spec.specs.Frames.{Cell, frameBytes, pagesOf, place, share}
 use Rattle.spec.specs.Access.{byteOf}
 use Rattle.spec.specs.Machine.{Machine}
 use Rattle.spec.specs.World.{State, taken, view, copy}
@@ -15,18 +18,25 @@ use Rattle.spec.specs.History.{permIn}
 use Rattle.spec.specs.declared.Proc.{Proc}
 use Rattle.laws.proofs.Pages.{cellOr}
 use Rattle.laws.proofs.Contents.{frame-byte, length-frame}
-use Rattle.laws.proofs.Facts.{sound-between}
+use Rattle.laws.proofs.Facts.{Shaped, sound-between}
+use Rattle.laws.proofs.Share.{textOf, free-share}
+use Rattle.laws.proofs.Pieces.{Pieces}
+use Rattle.laws.proofs.Data.{onlyData, data-perm, data-was, data-pieces}
 use Rattle.laws.proofs.OwnPieces.{shape-between, own-pieces}
 use Rattle.history.proofs.Passed.{Good, good-setup}
 use Rattle.history.proofs.Accepted.{Forks}
-use Rattle.history.proofs.OneState.{known, living-shape, dead-view, pages}
-use Rattle.history.proofs.Stored.{Stored, Proper, stored-place}
+use Rattle.history.proofs.OneState.{Known, known, living-shape, dead-view, pages}
+use Rattle.history.proofs.Stored.{Stored, Proper, stored-share, stored-place}
 use Rattle.history.proofs.Change.{Change, stored-self, change-set}
 
 -- a cell is its permission and its byte
-cell-again : (c : Option Cell) → cellOr (permIn c) (byteOf c) none ≡ c
+cell-again : (c : Option Cell) → cellOr (onlyData (permIn c)) (byteOf c) (textOf c) ≡ c
 cell-again none = refl
-cell-again (some c) = refl
+cell-again (some c) = split (c .perm is 3) (λ q. rw q) (λ q. rw q)
+
+no-text : (c : Option Cell) (q : ℕ) → permIn c ≡ some q → q ≡ 3 → textOf c ≡ none
+no-text none q e z = refl
+no-text (some c) q e z = let w : c .perm ≡ q = cc in rw (eq-eqb (c .perm) 3 (w ∙ z))
 
 -- the pages of a living process
 proper-own : (s : State) → Good s → (n : ℕ) → valid n ≡ true → taken s n ≡ true → Proper (s .setup) (piecesOf (procAt (s .procs) n))
@@ -39,22 +49,40 @@ proper-own s g n v t a q e =
 
 pub fork-change : (s : State) → Good s → (n child : ℕ) → Forks s n child → Change s (copy s n child (procAt (s .procs) n)) child (view s n)
 fork-change s g n child h =
-    let k = known s g in
-    let p : Proc = procAt (s .procs) n in
-    let f : ℕ → List ℕ = λ a. frameBytes (s .store .frames) (frameOf (s .store .book) n a) in
-    let x = living-shape s g n (h .number) (h .living) in
-    change-set s g child (h .child-number) (place (s .store) child (pagesOf f (piecesOf p))) p (view s n .mem)
-    (subst (Stored (s .setup) (s .store) (place (s .store) child (pagesOf f (piecesOf p))) child) (fun-ext same)
-    (stored-place (s .setup) (s .store) (s .store) child (view s child .mem) (stored-self s g child) (h .child-number) f (piecesOf p)
-    (own-pieces (s .setup) (good-setup s g) p (x .0) (x .1)) (proper-own s g n (h .number) (h .living))
-    (λ a q z e. length-frame (s .store) n a q (k .fits) (k .facts .exact n a (h .number) z ∙ e)) (λ a q z e. empty a) (h .room)))
+    change-set s g child (h .child-number) (place (share (s .store) n child) child (pagesOf f (dataOnly (piecesOf p)))) p (view s n .mem)
+    (subst (Stored (s .setup) (s .store) (place (share (s .store) n child) child (pagesOf f (dataOnly (piecesOf p)))) child) (fun-ext same)
+    (stored-place (s .setup) (s .store) (share (s .store) n child) child (λ a. textOf (view s n .mem a)) shared (h .child-number) f (dataOnly (piecesOf p))
+    (data-pieces (piecesOf p) own) (λ a q e. proper-own s g n (h .number) (h .living) a q (data-was (piecesOf p) own a q e .0))
+    (λ a q z e. length-frame (s .store) n a q (k .fits) (k .facts .exact n a (h .number) z ∙ data-was (piecesOf p) own a q e .0))
+    (λ a q z e. let w = data-was (piecesOf p) own a q e in no-text (view s n .mem a) q (pages s g n a (h .number) ∙ w .0) (w .1))
+    (rw (free-share (s .store) n child (h .number) (h .child-number) apart (k .facts .mappings)) (h .room))))
     (k .whole .each (n - 1)) (λ l. x) (λ a. pages s g n a (h .number))
   where
-    empty : (a : ℕ) → view s child .mem a ≡ none
-    empty a = ap (λ (m : Machine). m .mem a) (dead-view s g child (h .child-number) (h .dead))
+    k : Known s
+    k = known s g
 
-    same : (a : ℕ) → cellOr (permAt (piecesOf (procAt (s .procs) n)) a) (getD (frameBytes (s .store .frames) (frameOf (s .store .book) n (pageDown a))) (a % 4096) 0) (view s child .mem a) ≡ view s n .mem a
+    p : Proc
+    p = procAt (s .procs) n
+
+    f : ℕ → List ℕ
+    f a = frameBytes (s .store .frames) (frameOf (s .store .book) n a)
+
+    x : Shaped (s .setup) (procAt (s .procs) n)
+    x = living-shape s g n (h .number) (h .living)
+
+    own : Pieces (piecesOf (procAt (s .procs) n))
+    own = own-pieces (s .setup) (good-setup s g) p (x .0) (x .1)
+
+    apart : child ≡ n → ⊥
+    apart e = clash (taken s n) (h .living) (ap (taken s) (sym e) ∙ h .dead)
+
+    empty : Stored (s .setup) (s .store) (s .store) child (λ a. none)
+    empty = subst (Stored (s .setup) (s .store) (s .store) child) (ap (λ (m : Machine). m .mem) (dead-view s g child (h .child-number) (h .dead))) (stored-self s g child)
+
+    shared : Stored (s .setup) (s .store) (share (s .store) n child) child (λ a. textOf (view s n .mem a))
+    shared = stored-share (s .setup) (s .store) (s .store) n child empty (h .number) (h .child-number) apart
+
+    same : (a : ℕ) → cellOr (permAt (dataOnly (piecesOf (procAt (s .procs) n))) a) (getD (frameBytes (s .store .frames) (frameOf (s .store .book) n (pageDown a))) (a % 4096) 0) (textOf (view s n .mem a)) ≡ view s n .mem a
     same a =
-        ap (cellOr (permAt (piecesOf (procAt (s .procs) n)) a) (getD (frameBytes (s .store .frames) (frameOf (s .store .book) n (pageDown a))) (a % 4096) 0)) (empty a)
-        ∙ ap₂ (λ (o : Option ℕ) (b : ℕ). cellOr o b none) (sym (pages s g n a (h .number))) (frame-byte (s .store) n a)
+        ap₂ (λ (o : Option ℕ) (b : ℕ). cellOr o b (textOf (view s n .mem a))) (data-perm (piecesOf p) own a ∙ ap onlyData (sym (pages s g n a (h .number)))) (frame-byte (s .store) n a)
         ∙ cell-again (view s n .mem a)

@@ -14,3 +14,4 @@ pub mod EachCall
 pub mod Arguments
 pub mod Demand3
 pub mod Users
+pub mod Shared

@@ -6,11 +6,11 @@ use mathlib.Core.Bool.{Bool, true, false, not, _&&_}
 use mathlib.Core.Option.{Option, none, some}
 use mathlib.Core.List.{List, [], _∷_}
 use lib.ListN.{getD}
-use borrow.Author.Tests.{eq-eqb, ne-eqb, lt-ltb, le-ltb}
+use borrow.Author.Tests.{lt-ltb, le-ltb}
 use Rattle.spec.proofs.Bools.{split, clash, within-means, within-test, within-not}
-use Rattle.spec.specs.Tests.{_is_, _below_, within, _⇒_else_}
+use Rattle.spec.specs.Tests.{_below_, within, _⇒_else_}
 use Rattle.spec.specs.Numbers.{limit, pageDown, pageUp, zeroPage}
-use Rattle.spec.specs.Book.{ownerOf, pageOf, valid, free, range, segment, used, stack, bssSegment, permAt, pageCount, procAt}
+use Rattle.spec.specs.Book.{valid, free, range, segment, used, stack, bssSegment, permAt, pageCount, procAt}
 use Rattle.spec.specs.Sound.{Shape}
 use Rattle.spec.specs.Frames.{Cell, Mem, Store, pagesOf, place, release}
 use Rattle.spec.specs.Segment.{moved}
@@ -25,7 +25,7 @@ use Rattle.laws.proofs.Shape.{shape-made, shape-image, shape-bss, shape-used}
 use Rattle.laws.proofs.Pieces.{outside-low, perm-past, perm-there, tail-same, within-page}
 use Rattle.laws.proofs.Pages.{cellOr}
 use Rattle.laws.proofs.Contents.{length-zero, zero-byte}
-use Rattle.laws.proofs.Count.{free-release}
+use Rattle.laws.proofs.Release.{free-release}
 use Rattle.laws.proofs.OwnPieces.{image-high}
 use Rattle.history.proofs.Passed.{Good, good-setup}
 use Rattle.history.proofs.Accepted.{Moves}
@@ -129,13 +129,13 @@ break-change s g n addr v t h =
     gs = segment end top 3 ∷ []
 
     m₁ : Store
-    m₁ = release (s .store) (λ w. ownerOf w is n && within top end (pageOf w))
+    m₁ = release (s .store) n (within top end)
 
     mem₁ : Mem
-    mem₁ a = n is n && within top end (pageDown a) ⇒ none else mem a
+    mem₁ a = within top end (pageDown a) ⇒ none else mem a
 
     released : Stored (s .setup) (s .store) m₁ n mem₁
-    released = stored-release (s .setup) (s .store) (s .store) n mem (stored-self s g n) (λ o page. o is n && within top end page) (λ q page ne. rw (ne-eqb q n ne))
+    released = stored-release (s .setup) (s .store) (s .store) n mem (stored-self s g n) v (within top end)
 
     -- an address of a new page
     between : (a q : ℕ) → permAt gs a ≡ some q → (q ≡ 3) × (end ≤ a) × (a < top)
@@ -151,7 +151,7 @@ break-change s g n addr v t h =
 
     -- was not there
     new : (a q : ℕ) → a % 4096 ≡ 0 → permAt gs a ≡ some q → mem₁ a ≡ none
-    new a q z e = gone (n is n && within top end (pageDown a))
+    new a q z e = gone (within top end (pageDown a))
       where
         r : (q ≡ 3) × (end ≤ a) × (a < top)
         r = between a q e
@@ -167,10 +167,10 @@ break-change s g n addr v t h =
         gone false = unmapped
 
     enough : pageCount gs ≤ free (m₁ .book)
-    enough = omega (arith, free-release (s .store) (λ w. ownerOf w is n && within top end (pageOf w)), h .room, low .0)
+    enough = omega (arith, free-release (s .store) n (within top end) v (known s g .facts .mappings), h .room, low .0)
 
     seen : (a : ℕ) → cellOr (permAt gs a) (getD (zeroPage (pageDown a)) (a % 4096) 0) (mem₁ a) ≡ moved end top mem a
-    seen a = rw (zero-byte (pageDown a) (a % 4096), eq-eqb n n refl, within-page top end a top-aligned (low .0)) (go (within end top a))
+    seen a = rw (zero-byte (pageDown a) (a % 4096), within-page top end a top-aligned (low .0)) (go (within end top a))
       where
         go : (b : Bool) → cellOr (b ⇒ some 3 else none) 0 (within top end a ⇒ none else mem a) ≡ (b ⇒ some (record { perm = 3; byte = 0 }) else within top end a ⇒ none else mem a)
         go true = refl

@@ -67,7 +67,7 @@ dead-view s g n v t =
     let k = known s g in
     let d : lives (procAt (s .procs) n) ≡ false = sym (taken-is s n v) ∙ t in
     let p = dead-zero (procAt (s .procs) n) (k .whole .each (n - 1)) d in
-    let cell : (a : ℕ) → view s n .mem a ≡ none = λ a. ap (cellIn (s .store) a) (dead-frame (s .setup) (s .store .book) (s .procs) (k .whole) (k .facts) n v d (pageDown a)) in
+    let cell : (a : ℕ) → view s n .mem a ≡ none = λ a. ap (cellIn (s .store) n a) (dead-frame (s .setup) (s .store .book) (s .procs) (k .whole) (k .facts) n v d (pageDown a)) in
     λ i. record { setup = s .setup; segments = used (p i .segments); bss = p i .bss; mem = λ a. cell a i }
 
 begins-good : (s : State) → Begin s → Good s
@@ -84,21 +84,21 @@ pages s g n a v = let k = known s g in mem-perm (s .store) n a ∙ sound-perm (s
 -- ---- readable
 
 -- one byte may be read exactly where a page is found
-cell-range : (s : State) → Good s → (n a : ℕ) (o : Option ℕ) → frameOf (s .store .book) n (pageDown a) ≡ o → userRangeOk (s .setup) (view s n .mem) false a 1 ≡ cellOk false (cellIn (s .store) a o)
-cell-range s g n a o e = go o e
+cell-range : (s : State) → Good s → (n a : ℕ) → valid n ≡ true → (o : Option ℕ) → frameOf (s .store .book) n (pageDown a) ≡ o → userRangeOk (s .setup) (view s n .mem) false a 1 ≡ cellOk false (cellIn (s .store) n a o)
+cell-range s g n a v o e = go o e
   where
-    page : (o : Option ℕ) → frameOf (s .store .book) n (pageDown a) ≡ o → cellOk false (view s n .mem (pageDown a)) ≡ cellOk false (cellIn (s .store) (pageDown a) o)
+    page : (o : Option ℕ) → frameOf (s .store .book) n (pageDown a) ≡ o → cellOk false (view s n .mem (pageDown a)) ≡ cellOk false (cellIn (s .store) n (pageDown a) o)
     page o e =
         let d : pageDown (pageDown a) ≡ pageDown a = omega arith in
-        ap (λ (x : Option ℕ). cellOk false (cellIn (s .store) (pageDown a) x)) (ap (frameOf (s .store .book) n) d ∙ e)
+        ap (λ (x : Option ℕ). cellOk false (cellIn (s .store) n (pageDown a) x)) (ap (frameOf (s .store .book) n) d ∙ e)
 
-    go : (o : Option ℕ) → frameOf (s .store .book) n (pageDown a) ≡ o → userRangeOk (s .setup) (view s n .mem) false a 1 ≡ cellOk false (cellIn (s .store) a o)
+    go : (o : Option ℕ) → frameOf (s .store .book) n (pageDown a) ≡ o → userRangeOk (s .setup) (view s n .mem) false a 1 ≡ cellOk false (cellIn (s .store) n a o)
     go none e =
         split (a + 1 above s .setup .uaddrtop)
         (λ q. rw q)
         (λ q. range-one (s .setup) (view s n .mem) a (ltb-false (s .setup .uaddrtop) (a + 1) q) ∙ page none e)
     go (some k) e =
-        let low = found-between (s .setup) (s .store .book) (s .procs) (known s g .facts) n a k e .1 in
+        let low = found-between (s .setup) (s .store .book) (s .procs) (known s g .facts) n a k v e .1 in
         range-one (s .setup) (view s n .mem) a (omega (arith, low)) ∙ page (some k) e
 
 abbrev oneByte : ℕ → ℕ → Call
@@ -126,7 +126,7 @@ reads s g n a v =
     (λ t. ap (λ (b : Bool). given-of (not b ⇒ refuse 4 (oneByte n a .ask) else not r ⇒ z else w)) t ∙ sym (ap (λ (m : Machine). held m a) (dead-view s g n v t)))
   where
     go : (o : Option ℕ) → frameOf (s .store .book) n (pageDown a) ≡ o → one s n a (userRangeOk (s .setup) (view s n .mem) false a 1) ≡ held (view s n) a
-    go none e = ap (one s n a) (cell-range s g n a none e) ∙ sym (ap (λ (o : Option ℕ). byteIn (cellIn (s .store) a o)) e)
+    go none e = ap (one s n a) (cell-range s g n a v none e) ∙ sym (ap (λ (o : Option ℕ). byteIn (cellIn (s .store) n a o)) e)
     go (some k) e =
-        ap (one s n a) (cell-range s g n a (some k) e)
-        ∙ ap (λ (o : Option ℕ). some (byteOf (cellIn (s .store) a o))) e ∙ sym (ap (λ (o : Option ℕ). byteIn (cellIn (s .store) a o)) e)
+        ap (one s n a) (cell-range s g n a v (some k) e)
+        ∙ ap (λ (o : Option ℕ). some (byteOf (cellIn (s .store) n a o))) e ∙ sym (ap (λ (o : Option ℕ). byteIn (cellIn (s .store) n a o)) e)

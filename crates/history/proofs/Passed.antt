@@ -10,7 +10,7 @@ use Rattle.spec.specs.Numbers.{setupOk, SetupOk}
 use Rattle.spec.specs.Book.{valid, free}
 use Rattle.spec.specs.Frames.{sized}
 use Rattle.spec.specs.Machine.{Ask, Call, Kind, begins, forks, plain, kind, Outcome, accepted, refused, ended, Reply, outcome, refuse, Machine, judge, weigh, lengthsFit, listFits, numbered, living, unclaimed}
-use Rattle.spec.specs.World.{State, sound, taken, view, answer}
+use Rattle.spec.specs.World.{State, sound, taken, view, aloneFor, answer}
 use Rattle.spec.specs.History.{typed}
 
 -- what holds after any list of calls
@@ -29,7 +29,7 @@ answer-chain : (a b d e : Bool) (x y z : Reply) (f : Bool → Reply) → a ≡ t
 answer-chain a true d e x y z f p q u r = rw (p, q, u)
 answer-chain a false d e x y z f p q u r = rw p (sym r)
 
-pub answered : (s : State) → Good s → (c : Call) → answer s c ≡ judge (view s (c .number)) (free (s .store .book)) (taken s) c
+pub answered : (s : State) → Good s → (c : Call) → answer s c ≡ judge (view s (c .number)) (free (s .store .book)) (aloneFor s c) (taken s) c
 unfolding answer judge
 answered s g c =
     answer-chain (sized (s .store)) (lengthsFit (c .ask)) (setupOk (s .setup)) (sound s) (refuse 1 (c .ask)) (refuse 38 (c .ask)) (refuse 2 (c .ask))
@@ -38,7 +38,7 @@ answered s g c =
     not (numbered (c .number) (kind (c .ask))) ⇒ refuse 3 (c .ask) else
     not (living (taken s) (c .number) (kind (c .ask))) ⇒ refuse 4 (c .ask) else
     not (unclaimed (taken s) (c .number) (kind (c .ask))) ⇒ refuse 5 (c .ask) else
-    weigh (view s (c .number)) (free (s .store .book)) (c .ask)) (g .sizes) (g .numbers) (g .book) refl
+    weigh (view s (c .number)) (free (s .store .book)) (aloneFor s c) (c .ask)) (g .sizes) (g .numbers) (g .book) refl
 
 -- ---- a call that is not refused
 
@@ -48,23 +48,23 @@ accepted≢ e = let z : _≡_ {A = ℕ} 0 1 = cc in omega arith
 pub ended≢ : ended ≡ refused → ⊥
 ended≢ e = let z : _≡_ {A = ℕ} 0 1 = cc in omega arith
 
-pub record Passed (m : Machine) (f : ℕ) (t : ℕ → Bool) (c : Call) (o : Outcome) : Type 0 where
+pub record Passed (m : Machine) (f al : ℕ) (t : ℕ → Bool) (c : Call) (o : Outcome) : Type 0 where
   pub lengths : lengthsFit (c .ask) ≡ true
   pub list : listFits m (c .number) (kind (c .ask)) ≡ true
   pub number : numbered (c .number) (kind (c .ask)) ≡ true
   pub lives : living t (c .number) (kind (c .ask)) ≡ true
   pub new : unclaimed t (c .number) (kind (c .ask)) ≡ true
-  pub weighed : outcome (weigh m f (c .ask)) ≡ o
+  pub weighed : outcome (weigh m f al (c .ask)) ≡ o
 
 refusing : (t : Bool) (k : ℕ) (d : Ask) (x : Reply) (o : Outcome) → outcome (not t ⇒ refuse k d else x) ≡ o → (o ≡ refused → ⊥) → (t ≡ true) × (outcome x ≡ o)
 refusing true k d x o e h = (refl, e)
 refusing false k d x o e h = absurd (h (sym e))
 
 -- has passed 1 to 5, and comes to what its own tests give
-pub passed : (m : Machine) (f : ℕ) (t : ℕ → Bool) (c : Call) (o : Outcome) → outcome (judge m f t c) ≡ o → (o ≡ refused → ⊥) → Passed m f t c o
+pub passed : (m : Machine) (f al : ℕ) (t : ℕ → Bool) (c : Call) (o : Outcome) → outcome (judge m f al t c) ≡ o → (o ≡ refused → ⊥) → Passed m f al t c o
 unfolding judge
-passed m f t c o e h =
-    let a5 : Reply = not (unclaimed t (c .number) (kind (c .ask))) ⇒ refuse 5 (c .ask) else weigh m f (c .ask) in
+passed m f al t c o e h =
+    let a5 : Reply = not (unclaimed t (c .number) (kind (c .ask))) ⇒ refuse 5 (c .ask) else weigh m f al (c .ask) in
     let a4 : Reply = not (living t (c .number) (kind (c .ask))) ⇒ refuse 4 (c .ask) else a5 in
     let a3 : Reply = not (numbered (c .number) (kind (c .ask))) ⇒ refuse 3 (c .ask) else a4 in
     let a2 : Reply = not (listFits m (c .number) (kind (c .ask))) ⇒ refuse 2 (c .ask) else a3 in
@@ -72,14 +72,14 @@ passed m f t c o e h =
     let h2 = refusing (listFits m (c .number) (kind (c .ask))) 2 (c .ask) a3 o (h1 .1) h in
     let h3 = refusing (numbered (c .number) (kind (c .ask))) 3 (c .ask) a4 o (h2 .1) h in
     let h4 = refusing (living t (c .number) (kind (c .ask))) 4 (c .ask) a5 o (h3 .1) h in
-    let h5 = refusing (unclaimed t (c .number) (kind (c .ask))) 5 (c .ask) (weigh m f (c .ask)) o (h4 .1) h in
+    let h5 = refusing (unclaimed t (c .number) (kind (c .ask))) 5 (c .ask) (weigh m f al (c .ask)) o (h4 .1) h in
     record { lengths = h1 .0; list = h2 .0; number = h3 .0; lives = h4 .0; new = h5 .0; weighed = h5 .1 }
 
 -- and the other way round
-pub weighs : (m : Machine) (f : ℕ) (t : ℕ → Bool) (c : Call) → lengthsFit (c .ask) ≡ true → listFits m (c .number) (kind (c .ask)) ≡ true → numbered (c .number) (kind (c .ask)) ≡ true
-    → living t (c .number) (kind (c .ask)) ≡ true → unclaimed t (c .number) (kind (c .ask)) ≡ true → judge m f t c ≡ weigh m f (c .ask)
+pub weighs : (m : Machine) (f al : ℕ) (t : ℕ → Bool) (c : Call) → lengthsFit (c .ask) ≡ true → listFits m (c .number) (kind (c .ask)) ≡ true → numbered (c .number) (kind (c .ask)) ≡ true
+    → living t (c .number) (kind (c .ask)) ≡ true → unclaimed t (c .number) (kind (c .ask)) ≡ true → judge m f al t c ≡ weigh m f al (c .ask)
 unfolding judge
-weighs m f t c p q r s u = rw (p, q, r, s, u)
+weighs m f al t c p q r s u = rw (p, q, r, s, u)
 
 pub valid-number : (n : ℕ) (k : Kind) → numbered n k ≡ true → valid n ≡ true
 valid-number n begins e = e
@@ -105,11 +105,11 @@ stray-chain : (a b d e g : Bool) (x y z u v w : Reply) → b ≡ true → d ≡ 
     → (not a ⇒ x else not b ⇒ y else not d ⇒ z else not e ⇒ u else not g ⇒ v else w) ≡ (not a ⇒ x else z)
 stray-chain a b d e g x y z u v w p q = rw (p, q)
 
-pub stray : (m : Machine) (f : ℕ) (t : ℕ → Bool) (c : Call) → valid (c .number) ≡ false → judge m f t c ≡ strayAnswer c
+pub stray : (m : Machine) (f al : ℕ) (t : ℕ → Bool) (c : Call) → valid (c .number) ≡ false → judge m f al t c ≡ strayAnswer c
 unfolding judge
-stray m f t c v =
+stray m f al t c v =
     stray-chain (lengthsFit (c .ask)) (listFits m (c .number) (kind (c .ask))) (numbered (c .number) (kind (c .ask))) (living t (c .number) (kind (c .ask))) (unclaimed t (c .number) (kind (c .ask)))
-    (refuse 1 (c .ask)) (refuse 2 (c .ask)) (refuse 3 (c .ask)) (refuse 4 (c .ask)) (refuse 5 (c .ask)) (weigh m f (c .ask))
+    (refuse 1 (c .ask)) (refuse 2 (c .ask)) (refuse 3 (c .ask)) (refuse 4 (c .ask)) (refuse 5 (c .ask)) (weigh m f al (c .ask))
     (stray-list m (c .number) (kind (c .ask)) v) (stray-number (c .number) (kind (c .ask)) v)
 
 pub stray-out : (t : Bool) (d : Ask) → outcome (not t ⇒ refuse 1 d else refuse 3 d) ≡ refused

@@ -13,11 +13,11 @@ use Rattle.spec.proofs.Args.{args-means}
 use Rattle.spec.proofs.Bools.{clash, neither, not-true, not-above, not-false, within-test, within-not}
 use Rattle.spec.specs.Tests.{_is_, _isnt_, _above_, within, _⇒_else_, any, same, sum}
 use Rattle.spec.specs.Numbers.{argLimit, pageUp}
-use Rattle.spec.specs.Book.{valid, free, sameSegment, permAt, pageCount}
+use Rattle.spec.specs.Book.{valid, free, alone, sameSegment, permAt, pageCount}
 use Rattle.spec.specs.Elf.{Segment, segmentsOf, entry, inFile}
 use Rattle.spec.specs.Exec.{imageError, startPieces, fileByte, loaded, argsOf, strings, argsError, stringsAt, argvAt, registers, pointers, pushed, copyArgv}
 use Rattle.spec.specs.Segment.{moved}
-use Rattle.spec.specs.Machine.{Ask, start, replace, push, break, fork, end, Call, Kind, begins, forks, plain, kind, Outcome, accepted, refused, ended, outcome, plainly, Machine, off, begun, feed, own, unclaimed}
+use Rattle.spec.specs.Machine.{Ask, start, replace, push, break, fork, end, Call, Kind, begins, forks, plain, kind, Outcome, accepted, refused, ended, outcome, plainly, Machine, off, begun, feed, copied, unclaimed}
 use Rattle.spec.specs.World.{State, taken, view, answer, readable, after}
 use Rattle.spec.specs.History.{state, put, byteIn, held, ArgsAt}
 use Rattle.spec.specs.declared.UserSegment.{UserSegment}
@@ -37,10 +37,10 @@ use Rattle.history.proofs.Arguments.{args-read}
 abbrev call : ℕ → Ask → Call
 call n q = record { number = n; ask = q }
 
-put-here : {A : Type 0} (f : ℕ → A) (n : ℕ) (x : A) → put f n x n ≡ x
+pub put-here : {A : Type 0} (f : ℕ → A) (n : ℕ) (x : A) → put f n x n ≡ x
 put-here f n x = rw (eq-eqb n n refl)
 
-put-else : {A : Type 0} (f : ℕ → A) (n q : ℕ) (x : A) → (q ≡ n → ⊥) → put f n x q ≡ f q
+pub put-else : {A : Type 0} (f : ℕ → A) (n q : ℕ) (x : A) → (q ≡ n → ⊥) → put f n x q ≡ f q
 put-else f n q x ne = rw (ne-eqb q n ne)
 
 -- what is readable after a call whose outcome is known
@@ -68,7 +68,7 @@ others-view s g c q v t ne = each-call s g c .each q v ∙ go (kind (c .ask)) re
     go plain x o e = put-else (view s) (c .number) q _ ne
 
 -- who sees the same lives as before
-lives-same : (s t : State) → Good s → Good t → (q p : ℕ) → valid q ≡ true → valid p ≡ true → view t q ≡ view s p → taken t q ≡ taken s p
+pub lives-same : (s t : State) → Good s → Good t → (q p : ℕ) → valid q ≡ true → valid p ≡ true → view t q ≡ view s p → taken t q ≡ taken s p
 lives-same s t g h q p v w e = numbers t h q v ∙ ap (λ (m : Machine). not (length (m .segments) is 0)) e ∙ sym (numbers s g p w)
 
 -- nor does any list of calls of others
@@ -171,7 +171,7 @@ start-zero s g n image name bytes lengths e a q p out none-in = start-byte s g n
     go [] h = refl
     go (x ∷ gs) h = let r = neither (inFile a x) (any (inFile a) gs) h in rw (r .0) (go gs (r .1))
 
--- arguments lie in the top 4,096 bytes of the stack
+-- arguments lie in the top quarter of the stack
 pub below-args : (s : State) → Good s → (n : ℕ) (image name bytes lengths : List ℕ) → outcome (answer s (call n (start image name bytes lengths))) ≡ accepted
     → (a : ℕ) → a < s .setup .ustktop - argLimit (s .setup) → Unpushed (s .setup) (argsOf bytes lengths) a
 below-args s g n image name bytes lengths e a l =
@@ -209,25 +209,25 @@ start-fits s g n image name bytes lengths fit v t args-fit image-fits room =
     let args : List (List ℕ) = argsOf bytes lengths in
     let zero-isnt : (k : ℕ) → k ≡ 0 → (k isnt 0) ≡ false = λ k z. ap not (eq-eqb k 0 z) in
     answered s g (call n (start image name bytes lengths))
-    ∙ weighs (view s n) (free (s .store .book)) (taken s) (call n (start image name bytes lengths)) (eq-eqb _ _ fit) refl v refl (not-false _ t)
+    ∙ weighs (view s n) (free (s .store .book)) 0 (taken s) (call n (start image name bytes lengths)) (eq-eqb _ _ fit) refl v refl (not-false _ t)
     ∙ ap plainly (fits-chain (argsError (s .setup) args isnt 0) (imageError (s .setup) image isnt 0) (pageCount (startPieces (s .setup) image) above free (s .store .book)) (Refused (argsError (s .setup) args)) (Refused (imageError (s .setup) image)) (Refused 33) (Regs (registers (entry image) (s .setup .ustktop) args))
     (zero-isnt _ args-fit) (zero-isnt _ image-fits) (not-above _ _ room))
 
--- a fork of a living process, with its list, on a number that is free, with free frames for its pages
+-- a fork of a living process, with its list, on a number that is free, with free frames for what it copies
 pub fork-fits : (s : State) → Good s → (n child : ℕ) (segments : List UserSegment) → valid n ≡ true → valid child ≡ true → taken s n ≡ true → taken s child ≡ false
-    → same sameSegment segments (view s n .segments) ≡ true → own (view s n) ≤ free (s .store .book) → answer s (call n (fork child segments)) ≡ plainly Done
+    → same sameSegment segments (view s n .segments) ≡ true → copied (view s n) ≤ free (s .store .book) → answer s (call n (fork child segments)) ≡ plainly Done
 fork-fits s g n child segments v u t d list room =
     answered s g (call n (fork child segments))
-    ∙ weighs (view s n) (free (s .store .book)) (taken s) (call n (fork child segments)) refl (rw (v, list)) (rw (v, u)) t (not-false _ d)
+    ∙ weighs (view s n) (free (s .store .book)) 0 (taken s) (call n (fork child segments)) refl (rw (v, list)) (rw (v, u)) t (not-false _ d)
     ∙ ap (λ (b : Bool). plainly (b ⇒ Refused 33 else Done)) (not-above _ _ room)
 
 -- ---- end
 
--- nothing is left, and as many frames come free as the process had pages
+-- nothing is left, and as many frames come free as the process held alone
 pub end-reads : (s : State) → Good s → (n : ℕ) → outcome (answer s (call n end)) ≡ accepted → (a : ℕ) → readable (after s (call n end)) n a ≡ none
 unfolding effect
 end-reads s g n e a = reads-after s g (call n end) accepted e n a (ends s g n e .number) ∙ ap (λ (m : Machine). held m a) (put-here (view s) n (off (s .setup)))
 
-pub end-frees : (s : State) → Good s → (n : ℕ) → outcome (answer s (call n end)) ≡ accepted → free (after s (call n end) .store .book) ≡ free (s .store .book) + own (view s n)
+pub end-frees : (s : State) → Good s → (n : ℕ) → outcome (answer s (call n end)) ≡ accepted → free (after s (call n end) .store .book) ≡ free (s .store .book) + alone (s .store .book) n
 unfolding after
-end-frees s g n e = let h = ends s g n e in rw e (forget-free s g n (h .number) (h .living))
+end-frees s g n e = let h = ends s g n e in rw e (forget-free s g n (h .number))

@@ -10,7 +10,7 @@ use Rattle.spec.specs.Tests.{_is_, _⇒_else_, same}
 use Rattle.spec.specs.Numbers.{pageUp}
 use Rattle.spec.specs.Book.{valid, free, pieces, permAt, procAt}
 use Rattle.spec.specs.Machine.{Ask, start, replace, push, break, fork, end, user-range-ok, copy-from-user, copy-to-user, try-copy-str-from-user, Call, Kind, begins, forks, plain, kind, Outcome, accepted, refused, ended, Reply, outcome, Machine, off, movedTo, run, feed, judge, lengthsFit, living}
-use Rattle.spec.specs.World.{State, taken, view, answer, readable, brk, settle, leave, after}
+use Rattle.spec.specs.World.{State, taken, view, aloneFor, answer, readable, brk, settle, leave, after}
 use Rattle.spec.specs.History.{state, Asked, Entry, entry, Lines, put, later, join, lines, machine, held, heldPerm, Explained, Begin, Claim}
 use Rattle.spec.specs.declared.UserSegment.{UserSegment}
 use Rattle.spec.specs.declared.Setup.{Setup}
@@ -83,19 +83,19 @@ fork-idle m (copy-to-user dst bytes) child segments e = cc
 fork-idle m (try-copy-str-from-user buffer src) child segments e = cc
 
 -- what begins a process asks nothing of its machine but the setup
-begins-any : (m k : Machine) (f : ℕ) (t : ℕ → Bool) (n : ℕ) (q : Ask) → m .setup ≡ k .setup → kind q ≡ begins
-    → judge m f t (record { number = n; ask = q }) ≡ judge k f t (record { number = n; ask = q })
+begins-any : (m k : Machine) (f al : ℕ) (t : ℕ → Bool) (n : ℕ) (q : Ask) → m .setup ≡ k .setup → kind q ≡ begins
+    → judge m f al t (record { number = n; ask = q }) ≡ judge k f al t (record { number = n; ask = q })
 unfolding judge
-begins-any m k f t n (start image name bytes lengths) u e = rw u
-begins-any m k f t n (replace image name argv) u e = cc
-begins-any m k f t n (push pc top bytes lengths) u e = cc
-begins-any m k f t n (break addr) u e = cc
-begins-any m k f t n (fork c s) u e = cc
-begins-any m k f t n end u e = cc
-begins-any m k f t n (user-range-ok addr len write) u e = cc
-begins-any m k f t n (copy-from-user buffer src) u e = cc
-begins-any m k f t n (copy-to-user dst bytes) u e = cc
-begins-any m k f t n (try-copy-str-from-user buffer src) u e = cc
+begins-any m k f al t n (start image name bytes lengths) u e = rw u
+begins-any m k f al t n (replace image name argv) u e = cc
+begins-any m k f al t n (push pc top bytes lengths) u e = cc
+begins-any m k f al t n (break addr) u e = cc
+begins-any m k f al t n (fork c s) u e = cc
+begins-any m k f al t n end u e = cc
+begins-any m k f al t n (user-range-ok addr len write) u e = cc
+begins-any m k f al t n (copy-from-user buffer src) u e = cc
+begins-any m k f al t n (copy-to-user dst bytes) u e = cc
+begins-any m k f al t n (try-copy-str-from-user buffer src) u e = cc
 
 -- ---- the setup never changes
 
@@ -168,9 +168,9 @@ module _ (setup : Setup) where
         go true = put-map (machine setup) l n p (e ∷ l n) ∙ put-self (λ q. machine setup (l q)) n p _ h
         go false = refl
 
-  module _ (l : Lines) (m : Machine) (f : ℕ) (t : ℕ → Bool) (c : Call) (a : Reply) (p : ℕ) where
+  module _ (l : Lines) (m : Machine) (f al : ℕ) (t : ℕ → Bool) (c : Call) (a : Reply) (p : ℕ) where
     abbrev made : Entry
-    made = record { asked = record { call = c; free-before = f; taken-before = t }; answered = a }
+    made = record { asked = record { call = c; free-before = f; alone-before = al; taken-before = t }; answered = a }
 
     counted : (o : Outcome) → outcome a ≡ o → t (c .number) ≡ true → machine setup (later l made (c .number) p) ≡ put (λ q. machine setup (l q)) (c .number) (feed (machine setup (l (c .number))) (c .ask) o) p
     counted o r lv = after-later l made (c .number) p lv ∙ ap (λ x. put (λ q. machine setup (l q)) (c .number) (feed (machine setup (l (c .number))) (c .ask) x) p) r
@@ -178,7 +178,7 @@ module _ (setup : Setup) where
     uncounted : (o : Outcome) → outcome a ≡ o → feed (machine setup (l (c .number))) (c .ask) o ≡ machine setup (l (c .number)) → machine setup (later l made (c .number) p) ≡ machine setup (l p)
     uncounted o r h = after-idle l made (c .number) p (ap (λ x. feed (machine setup (l (c .number))) (c .ask) x) r ∙ h)
 
-    line-law : (k : Kind) (o : Outcome) → kind (c .ask) ≡ k → outcome a ≡ o → outcome (judge m f t c) ≡ o
+    line-law : (k : Kind) (o : Outcome) → kind (c .ask) ≡ k → outcome a ≡ o → outcome (judge m f al t c) ≡ o
         → machine setup (join l made (c .number) k o p) ≡ effect setup (λ q. machine setup (l q)) c k o p
     unfolding effect
     line-law begins accepted q r e = put-map (machine setup) l (c .number) p (made ∷ []) ∙ ap (λ x. put (λ z. machine setup (l z)) (c .number) (feed (off setup) (c .ask) x) p) r
@@ -190,11 +190,11 @@ module _ (setup : Setup) where
         ∙ put-cong (λ z. machine setup (later l made (c .number) z)) (λ z. machine setup (l z)) child p _ _ (ap (λ x. feed (machine setup (l (c .number))) (c .ask) x) r ∙ idle) (uncounted accepted r idle)
     line-law (forks child segments) refused q r e = uncounted refused r refl
     line-law (forks child segments) ended q r e =
-        counted ended r (sym (ap (living t (c .number)) q) ∙ passed m f t c ended e ended≢ .lives)
+        counted ended r (sym (ap (living t (c .number)) q) ∙ passed m f al t c ended e ended≢ .lives)
         ∙ ap (λ u. put (λ z. machine setup (l z)) (c .number) (off u) p) (machine-setup setup (l (c .number)))
-    line-law plain accepted q r e = counted accepted r (sym (ap (living t (c .number)) q) ∙ passed m f t c accepted e accepted≢ .lives)
+    line-law plain accepted q r e = counted accepted r (sym (ap (living t (c .number)) q) ∙ passed m f al t c accepted e accepted≢ .lives)
     line-law plain refused q r e = uncounted refused r refl ∙ sym (put-self (λ z. machine setup (l z)) (c .number) p _ refl)
-    line-law plain ended q r e = counted ended r (sym (ap (living t (c .number)) q) ∙ passed m f t c ended e ended≢ .lives)
+    line-law plain ended q r e = counted ended r (sym (ap (living t (c .number)) q) ∙ passed m f al t c ended e ended≢ .lives)
 
   -- ---- every answer of a grown line is explained
 
@@ -209,7 +209,7 @@ module _ (setup : Setup) where
       → Explained setup (e ∷ l (e .asked .call .number)) → Explained setup (l p) → Explained setup (join l e (e .asked .call .number) k o p)
   join-told l e p begins accepted q x y =
       put-split (Explained setup) l (e .asked .call .number) (e ∷ []) p
-      (λ z. (x .0 ∙ begins-any _ _ (e .asked .free-before) (e .asked .taken-before) (e .asked .call .number) (e .asked .call .ask) (machine-setup setup (l (e .asked .call .number))) q, tt)) (λ ne. y)
+      (λ z. (x .0 ∙ begins-any _ _ (e .asked .free-before) (e .asked .alone-before) (e .asked .taken-before) (e .asked .call .number) (e .asked .call .ask) (machine-setup setup (l (e .asked .call .number))) q, tt)) (λ ne. y)
   join-told l e p begins refused q x y = y
   join-told l e p begins ended q x y = y
   join-told l e p (forks child segments) accepted q x y =
@@ -236,13 +236,13 @@ module _ (laws : Laws) (s : State) (b : Begin s) where
   abbrev Seen : List Call → Type 0
   Seen h = (p : ℕ) → valid p ≡ true → view (state s h) p ≡ machine (s .setup) (lines s h p)
 
-  pub heard : (h : List Call) → Seen h → (c : Call) → answer (state s h) c ≡ judge (machine (s .setup) (lines s h (c .number))) (free (state s h .store .book)) (taken (state s h)) c
+  pub heard : (h : List Call) → Seen h → (c : Call) → answer (state s h) c ≡ judge (machine (s .setup) (lines s h (c .number))) (free (state s h .store .book)) (aloneFor (state s h) c) (taken (state s h)) c
   heard h ih c = answered (state s h) (good-after h) c ∙ go (valid (c .number)) refl
     where
       go : (v : Bool) → valid (c .number) ≡ v
-          → judge (view (state s h) (c .number)) (free (state s h .store .book)) (taken (state s h)) c ≡ judge (machine (s .setup) (lines s h (c .number))) (free (state s h .store .book)) (taken (state s h)) c
-      go true v = ap (λ m. judge m (free (state s h .store .book)) (taken (state s h)) c) (ih (c .number) v)
-      go false v = stray _ _ _ c v ∙ sym (stray _ _ _ c v)
+          → judge (view (state s h) (c .number)) (free (state s h .store .book)) (aloneFor (state s h) c) (taken (state s h)) c ≡ judge (machine (s .setup) (lines s h (c .number))) (free (state s h .store .book)) (aloneFor (state s h) c) (taken (state s h)) c
+      go true v = ap (λ m. judge m (free (state s h .store .book)) (aloneFor (state s h) c) (taken (state s h)) c) (ih (c .number) v)
+      go false v = stray _ _ _ _ c v ∙ sym (stray _ _ _ _ c v)
 
   moved : (h : List Call) → Seen h → (c : Call) (p : ℕ) → valid p ≡ true
       → effect (s .setup) (view (state s h)) c (kind (c .ask)) (outcome (answer (state s h) c)) p ≡ effect (s .setup) (λ q. machine (s .setup) (lines s h q)) c (kind (c .ask)) (outcome (answer (state s h) c)) p
@@ -253,7 +253,7 @@ module _ (laws : Laws) (s : State) (b : Begin s) where
       go true v = effect-cong (s .setup) (view (state s h)) (λ q. machine (s .setup) (lines s h q)) ih c (kind (c .ask)) (outcome (answer (state s h) c)) p vp v
       go false v =
           let out : outcome (answer (state s h) c) ≡ refused =
-          ap outcome (answered (state s h) (good-after h) c ∙ stray (view (state s h) (c .number)) (free (state s h .store .book)) (taken (state s h)) c v) ∙ stray-out (lengthsFit (c .ask)) (c .ask) in
+          ap outcome (answered (state s h) (good-after h) c ∙ stray (view (state s h) (c .number)) (free (state s h .store .book)) (aloneFor (state s h) c) (taken (state s h)) c v) ∙ stray-out (lengthsFit (c .ask)) (c .ask) in
           ap (λ o. effect (s .setup) (view (state s h)) c (kind (c .ask)) o p) out
           ∙ effect-refused (s .setup) (view (state s h)) c (kind (c .ask)) p ∙ ih p vp ∙ sym (effect-refused (s .setup) (λ q. machine (s .setup) (lines s h q)) c (kind (c .ask)) p)
           ∙ ap (λ o. effect (s .setup) (λ q. machine (s .setup) (lines s h q)) c (kind (c .ask)) o p) (sym out)
@@ -264,7 +264,7 @@ module _ (laws : Laws) (s : State) (b : Begin s) where
       laws .seen (state s h) (good-after h) c p v
       ∙ ap (λ u. effect u (view (state s h)) c (kind (c .ask)) (outcome (answer (state s h) c)) p) (state-setup s h)
       ∙ moved h (seen-after h) c p v
-      ∙ sym (line-law (s .setup) (lines s h) _ (free (state s h .store .book)) (taken (state s h)) c (answer (state s h) c) p (kind (c .ask)) _ refl refl (ap outcome (sym (heard h (seen-after h) c))))
+      ∙ sym (line-law (s .setup) (lines s h) _ (free (state s h .store .book)) (aloneFor (state s h) c) (taken (state s h)) c (answer (state s h) c) p (kind (c .ask)) _ refl refl (ap outcome (sym (heard h (seen-after h) c))))
 
   told-after : (h : List Call) (p : ℕ) → Explained (s .setup) (lines s h p)
   told-after [] p = tt
@@ -283,7 +283,7 @@ alike setup (d ∷ k) [] x y q = cc
 alike setup (d ∷ k) (e ∷ l) x y q =
     let same : k ≡ l = alike setup k l (x .1) (y .1) (cc) in
     let asked-same : d .asked ≡ e .asked = cc in
-    ap₂ _∷_ (entry-eq d e asked-same (x .0 ∙ ap₂ (λ (m : Machine) (q : Asked). judge m (q .free-before) (q .taken-before) (q .call)) (ap (machine setup) same) asked-same ∙ sym (y .0))) same
+    ap₂ _∷_ (entry-eq d e asked-same (x .0 ∙ ap₂ (λ (m : Machine) (q : Asked). judge m (q .free-before) (q .alone-before) (q .taken-before) (q .call)) (ap (machine setup) same) asked-same ∙ sym (y .0))) same
 
 pub claim : Laws → Claim
 claim laws = record {

@@ -2,13 +2,13 @@
 -- use machine numbers judge the setup, after their own 1 (02, 5/13); beyond that they answer what the specification's `ibrk`,
 -- `argsError` and the plan say.
 -- Assumes nothing.
-use Prim.Native.Nat.{ℕ}
+use Prim.Native.Nat.{ℕ, _+_, _*_}
 use mathlib.Core.Bool.{Bool, not}
 use mathlib.Core.List.{List}
 use mathlib.Core.Option.{Option, none, some}
 use lib.ListN.{length}
-use Rattle.spec.specs.Tests.{_isnt_, _⇒_else_, sum}
-use Rattle.spec.specs.Numbers.{setupOk}
+use Rattle.spec.specs.Tests.{_isnt_, within, _⇒_else_, sum}
+use Rattle.spec.specs.Numbers.{maxFrames, setupOk}
 use Rattle.spec.specs.Book.{range}
 use Rattle.spec.specs.Frames.{sized}
 use Rattle.spec.specs.Exec.{argsOf, argsError}
@@ -52,6 +52,10 @@ planIn setup image = not (setupOk setup) ⇒ refusedPlan 38 0 else planOf setup 
 -- a plan, field by field
 abbrev pub plannedOf : Plan → Planned
 plannedOf p = record { number = p .number; elf = p .elf; entry = p .entry; segments = p .segments; count = p .count; bss = p .bss; pages = p .pages }
+
+-- 02, 10/13: the words of the book of so many frames, seventeen a frame; 0 for a number of frames that no call takes
+abbrev pub bookWords : ℕ → ℕ
+bookWords frames = within 1 (maxFrames + 1) frames ⇒ 17 * frames else 0
 
 -- 1, 38 and 2 of every call: frames and book by their sizes, the setup, and the book sound; or 0
 unfoldable pub bookError : State → ℕ

@@ -13,7 +13,7 @@ ghost use Rattle.setup_text.specs.Said.{told};
 ghost use Rattle.setup_put.specs.Text.{setupIn};
 ghost use Rattle.args.specs.Sizes.{saturated};
 ghost use Rattle.front.specs.Numbers.{stateOf};
-ghost use Rattle.holthrimi.specs.Rules.{bssOf, ruleOf, ibrkIn, argsIn, planIn, plannedOf, bookError};
+ghost use Rattle.holthrimi.specs.Rules.{bssOf, ruleOf, ibrkIn, argsIn, planIn, plannedOf, bookWords, bookError};
 use exec::Plan;
 use segment::Break;
 use segment::Bss;
@@ -198,6 +198,20 @@ pub extern "C" fn holthrimi_plan(setup: Setup, image: &[u8]) -> Planned
         bss,
         pages: p.pages,
     }
+}
+
+// The words of the book of so many frames: seventeen a frame, or 0 for a number of frames outside 1 to 1,024.
+#[no_mangle]
+pub extern "C" fn holthrimi_book_words(frames: u64) -> u64
+    ensures { λ r. ⌜ r ≡ bookWords frames ⌝ }
+{
+    if frames < 1 {
+        return 0;
+    }
+    if 1024 < frames {
+        return 0;
+    }
+    17 * frames
 }
 
 // The number that frames, book and records are refused with by every call, 1, 38 or 2, or 0.

@@ -1,6 +1,5 @@
 -- What an image that may be installed gives: the whole stack among its pages, once they are placed; its bss, entry and record.
 use Prim.Native.Nat.{ℕ, _-_}
-use native.Mathlib.Omega.{arith}
 use mathlib.Core.Path.{_≡_, ap, _∙_}
 use mathlib.Core.Bool.{true}
 use mathlib.Core.Option.{Option, some}
@@ -15,10 +14,9 @@ use Rattle.spec.specs.History as history
 use Rattle.spec.specs.declared.UserSegment.{UserSegment}
 use Rattle.spec.proofs.Bools.{split, within-test}
 use Rattle.laws.proofs.Frame.{frame-perm, page-perm}
-use Rattle.laws.proofs.Owned.{valid-means}
 use Rattle.laws.proofs.Contents.{length-page}
 use Rattle.laws.proofs.Placed.{Whole, Room, perm-placed}
-use Rattle.laws.proofs.Started.{start-perm, start-apart}
+use Rattle.laws.proofs.Started.{start-perm, start-between, start-apart}
 use Rattle.laws.proofs.Pieces.{orPerm}
 use Rattle.pagealloc.specs.Lent.{Mapped}
 use Rattle.exec.specs.Plan.{acceptedPlan}
@@ -36,17 +34,20 @@ module _ {setup : Setup} (m : Store) (n : ℕ) (image : List ℕ) (plan : Plan) 
   abbrev page : ℕ → List ℕ
   page = pageBytes (fileByte (segmentsOf image))
 
-  whole : Whole n page (startPieces setup image)
+  whole : Whole setup n page (startPieces setup image)
   whole = record {
-    owner = omega (arith, valid-means n (i .number) .1);
+    owner = i .number;
     pieces = start-apart setup (i .setup-ok) image (i .accepted);
-    small = λ a q s. omega (arith, start-perm setup image (i .accepted) a q s .1);
+    proper = λ a q s.
+        let x = start-perm setup image (i .accepted) a q s in
+        let y = start-between setup (i .setup-ok) image (i .accepted) a q s in
+        (x .0, x .1, y .0, y .1);
     bytes = λ a q z s. length-page (fileByte (segmentsOf image)) a;
   }
 
-  room : Room m n (startPieces setup image)
+  room : Room setup m n (startPieces setup image)
   room = record {
-    owner = valid-means n (i .number) .0;
+    mappings = i .mappings;
     fresh = λ a q z s. page-perm m n a z ∙ ap history.permIn (i .empty a);
     enough = i .room;
   }
@@ -57,7 +58,7 @@ module _ {setup : Setup} (m : Store) (n : ℕ) (image : List ℕ) (plan : Plan) 
   pub stack-mapped : Mapped (placed .book) n (setup .ustktop - setup .ustksize) (setup .ustktop)
   stack-mapped a z l u =
       let r = last-there (imageSegments image) (bssSegment (imageBss image)) (stack setup) a (within-test (setup .ustktop - setup .ustksize) (setup .ustktop) a l u) in
-      frame-perm (placed .book) n a (r .0) (perm-placed m n page (startPieces setup image) (i .sizes) whole room a z ∙ ap (λ (o : Option ℕ). orPerm o (bookPerm (m .book) n a)) (r .1))
+      frame-perm (placed .book) n a (r .0) (perm-placed m n page (startPieces setup image) (record { bytes = i .sizes; words = i .words }) whole room a z ∙ ap (λ (o : Option ℕ). orPerm o (bookPerm (m .book) n a)) (r .1))
 
   -- the plan is the image's
   plan-is : plan ≡ acceptedPlan setup image

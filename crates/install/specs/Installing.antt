@@ -9,8 +9,9 @@ use mathlib.Core.List.{List}
 use lib.ListN.{length}
 use Rattle.spec.specs.Name.{elem, kstrcpy}
 use Rattle.spec.specs.Numbers.{SetupOk, pageBytes}
-use Rattle.spec.specs.Book.{valid, free, pageCount}
+use Rattle.spec.specs.Book.{valid, frameCount, free, pageCount}
 use Rattle.spec.specs.Frames.{Store, memOf, pagesOf, place}
+use Rattle.spec.specs.Sound.{Mappings}
 use Rattle.spec.specs.Elf.{segmentsOf}
 use Rattle.spec.specs.Exec.{imageError, startPieces, fileByte, argsError}
 use Rattle.spec.specs.World.{pushIn}
@@ -20,11 +21,13 @@ use Rattle.args_into.specs.Laid.{Laid}
 use Rattle.exec.specs.Plan.{planOf}
 use Rattle.exec.specs.declared.Plan.{Plan}
 
--- an image may be installed for process n: the setup is accepted, frames are 4,096 × words, n is 1 to 16 and has no page, the plan is
--- the image's, the image is accepted, and the free frames hold its pages
+-- an image may be installed for process n: the setup is accepted, frames are 4,096 bytes and seventeen words each, the book's mappings
+-- are in order, n is 1 to 16 and has no page, the plan is the image's, the image is accepted, and the free frames hold its pages
 pub record Installable (setup : Setup) (m : Store) (n : ℕ) (image : List ℕ) (plan : Plan) : Type 0 where
   pub setup-ok : SetupOk setup
-  pub sizes : length (m .frames) ≡ 4096 * length (m .book)
+  pub sizes : length (m .frames) ≡ 4096 * frameCount (m .book)
+  pub words : length (m .book) ≡ 17 * frameCount (m .book)
+  pub mappings : Mappings setup (m .book)
   pub number : valid n ≡ true
   pub empty : (a : ℕ) → memOf m n a ≡ none
   pub planned : plan ≡ planOf setup image

@@ -1,12 +1,13 @@
 // The last steps of a start, which replace shares, as r9's exec.rs does in `exec` once nothing can fail any more: an accepted
 // image's pages, its arguments on the stack, its record, and the registers to enter it with. It asks that the process has no page
-// yet, not that the book is sound.
+// yet and that the book's mappings are in order, not that the records go with them.
 
 ghost use mathlib.Core.Path.{_≡_};
 ghost use mathlib.Core.List.{List};
 ghost use Prim.Native.Nat.{ℕ, _*_, _-_, _≤_, _<_};
 ghost use lib.ListN.{length};
 ghost use Rattle.spec.specs.Numbers.{SetupOk};
+ghost use Rattle.spec.specs.Book.{frameCount};
 ghost use Rattle.spec.specs.Elf.{entry};
 ghost use Rattle.spec.specs.Exec.{registers};
 ghost use Rattle.spec.specs.World.{pushIn};
@@ -31,7 +32,7 @@ fn push_args(
     size: usize,
     nargs: usize,
 ) -> UserRegs
-    requires { ⌜ (length (now frames) ≡ 4096 * length (now book)) × (1 ≤ number) × (number < 256) × SetupOk setup ⌝ }
+    requires { ⌜ (length (now frames) ≡ 4096 * frameCount (now book)) × (1 ≤ number) × (number ≤ 16) × SetupOk setup ⌝ }
     requires { ⌜ Mapped (now book) number (setup .ustktop - setup .ustksize) (setup .ustktop) ⌝ }
     requires { ⌜ ((args : List (List ℕ)) × Fitting setup args (now buf) size nargs) ⌝ }
     ensures { λ r. ⌜ ((args : List (List ℕ)) → Fitting setup args (now (buf .entry)) size nargs → (store (now (frames .exit)) (now (book .entry)) ≡ pushIn (store (now (frames .entry)) (now (book .entry))) number (setup .ustktop) args) × (r ≡ registers pc (setup .ustktop) args)) ⌝ }

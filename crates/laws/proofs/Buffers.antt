@@ -5,7 +5,7 @@ use native.Mathlib.Numerals.{add-one}
 use mathlib.Core.Path.{_≡_, refl, sym, ap, _∙_}
 use mathlib.Core.Bool.{Bool, true, false, not, _&&_}
 use mathlib.Core.List.{List, [], _∷_}
-use lib.ListN.{length, take, drop}
+use lib.ListN.{length, take}
 use Rattle.spec.proofs.Bools.{split, clash}
 use Rattle.spec.specs.Tests.{_is_, _⇒_else_}
 use Rattle.spec.specs.Book.{valid, free}
@@ -13,7 +13,7 @@ use Rattle.spec.specs.Numbers.{setupOk}
 use Rattle.spec.specs.Frames.{Mem, sized}
 use Rattle.spec.specs.Access.{userRangeOk, byteOf, bytesAt, copyStr}
 use Rattle.spec.specs.Machine.{Ask, start, replace, push, break, fork, end, user-range-ok, copy-from-user, copy-to-user, try-copy-str-from-user, Call, accepted, refused, ended, Reply, outcome, outcomeOf, numberOf, lent, refuse, Machine, lengthsFit, kind, listFits, numbered, living, unclaimed, weigh, judge}
-use Rattle.spec.specs.World.{State, sound, taken, view, answer}
+use Rattle.spec.specs.World.{State, aloneFor, sound, taken, view, answer}
 use Rattle.spec.specs.declared.Answer.{Answer}
 use Rattle.spec.specs.declared.Answer.the-variants.{Value, Done, Refused, Ended}
 use Rattle.spec.specs.declared.Setup.{Setup}
@@ -51,25 +51,25 @@ string-answers true n e f = let z : _≡_ {A = ℕ} 0 1 = cc in omega arith
 string-answers false n e f = clash true refl f
 
 -- of its own numbers a call gives only the string copy's 35 with a buffer that has changed
-weigh-kept : (m : Machine) (free : ℕ) (q : Ask) → Kept q (weigh m free q)
-weigh-kept m free (start image name bytes lengths) e f = refl
-weigh-kept m free (replace image name argv) e f = refl
-weigh-kept m free (push pc top bytes lengths) e f = refl
-weigh-kept m free (break addr) e f = refl
-weigh-kept m free (fork child segments) e f = refl
-weigh-kept m free end e f = refl
-weigh-kept m free (user-range-ok addr len write) e f = refl
-weigh-kept m free (copy-from-user buffer src) e f =
+weigh-kept : (m : Machine) (free alone : ℕ) (q : Ask) → Kept q (weigh m free alone q)
+weigh-kept m free alone (start image name bytes lengths) e f = refl
+weigh-kept m free alone (replace image name argv) e f = refl
+weigh-kept m free alone (push pc top bytes lengths) e f = refl
+weigh-kept m free alone (break addr) e f = refl
+weigh-kept m free alone (fork child segments) e f = refl
+weigh-kept m free alone end e f = refl
+weigh-kept m free alone (user-range-ok addr len write) e f = refl
+weigh-kept m free alone (copy-from-user buffer src) e f =
     absurd (copy-answers (not (userRangeOk (m .setup) (m .mem) false src (length buffer))) (record { says = Ended 35; buffer = buffer }) (record { says = Done; buffer = bytesAt (m .mem) src (length buffer) }) refl refl e)
-weigh-kept m free (copy-to-user dst bytes) e f = refl
-weigh-kept m free (try-copy-str-from-user buffer src) e f = absurd (string-answers (copyStr (m .setup) (m .mem) buffer src .whole) (copyStr (m .setup) (m .mem) buffer src .size) e f)
+weigh-kept m free alone (copy-to-user dst bytes) e f = refl
+weigh-kept m free alone (try-copy-str-from-user buffer src) e f = absurd (string-answers (copyStr (m .setup) (m .mem) buffer src .whole) (copyStr (m .setup) (m .mem) buffer src .size) e f)
 
 pub refused-lent : (s : State) (c : Call) → outcome (answer s c) ≡ refused → strayString (c .ask) (answer s c .says) ≡ false → answer s c .buffer ≡ lent (c .ask)
 unfolding answer judge
 refused-lent s c =
     let q : Ask = c .ask in
     let m : Machine = view s (c .number) in
-    let r₅ : Reply = not (unclaimed (taken s) (c .number) (kind q)) ⇒ refuse 5 q else weigh m (free (s .store .book)) q in
+    let r₅ : Reply = not (unclaimed (taken s) (c .number) (kind q)) ⇒ refuse 5 q else weigh m (free (s .store .book)) (aloneFor s c) q in
     let r₄ : Reply = not (living (taken s) (c .number) (kind q)) ⇒ refuse 4 q else r₅ in
     let r₃ : Reply = not (numbered (c .number) (kind q)) ⇒ refuse 3 q else r₄ in
     let r₂ : Reply = not (listFits m (c .number) (kind q)) ⇒ refuse 2 q else r₃ in
@@ -83,7 +83,7 @@ refused-lent s c =
     (refuse-kept (not (listFits m (c .number) (kind q))) 2 q r₃
     (refuse-kept (not (numbered (c .number) (kind q))) 3 q r₄
     (refuse-kept (not (living (taken s) (c .number) (kind q))) 4 q r₅
-    (refuse-kept (not (unclaimed (taken s) (c .number) (kind q))) 5 q (weigh m (free (s .store .book)) q) (weigh-kept m (free (s .store .book)) q))))))))
+    (refuse-kept (not (unclaimed (taken s) (c .number) (kind q))) 5 q (weigh m (free (s .store .book)) (aloneFor s c) q) (weigh-kept m (free (s .store .book)) (aloneFor s c) q))))))))
 
 -- ---- and what the string copy's 35 leaves
 
@@ -97,7 +97,7 @@ pub string-left : (s : State) (n : ℕ) (buffer : List ℕ) (src : ℕ)
 unfolding answer judge
 string-left s n buffer src e =
     let q : Ask = try-copy-str-from-user buffer src in
-    let r₄ : Reply = weigh (view s n) (free (s .store .book)) q in
+    let r₄ : Reply = weigh (view s n) (free (s .store .book)) 0 q in
     let r₃ : Reply = not (taken s n) ⇒ refuse 4 q else r₄ in
     let r₂ : Reply = not (valid n) ⇒ refuse 3 q else r₃ in
     let r₁ : Reply = not (sound s) ⇒ refuse 2 q else r₂ in

@@ -4,14 +4,14 @@ use native.Mathlib.Omega.{arith}
 use native.Mathlib.Nat.{add-zero, not-suc-le-zero}
 use mathlib.Core.Path.{_≡_, refl, sym, ap, _∙_}
 use mathlib.Core.Option.{Option, none, some}
-use lib.ListN.{length, getD, drop, replicate, length-drop, length-replicate}
-use lib.Seq.{length-take-le, getD-take, getD-drop, ext-getD}
+use lib.ListN.{length, getD, drop, length-drop, length-replicate}
+use lib.Seq.{length-take-le, getD-take, getD-drop}
 use Rattle.spec.specs.Numbers.{pageDown, bytesFrom, pageBytes, zeroPage}
 use Rattle.spec.specs.Book.{frameOf, bookPerm}
-use Rattle.spec.specs.Frames.{Store, Mem, cellIn, memOf, frameBytes}
+use Rattle.spec.specs.Frames.{Store, cellIn, memOf, frameBytes}
 use Rattle.spec.specs.Access.{byteOf}
 use Rattle.laws.proofs.Lists.{getD-same}
-use Rattle.laws.proofs.Frame.{Fits, frame-found, frame-perm, frame-unmapped, perm-same}
+use Rattle.laws.proofs.Frame.{Fits, frame-found, frame-perm}
 
 -- ---- by a rule, and zeros
 
@@ -47,7 +47,7 @@ zero-byte a i = getD-same 4096 i 0
 pub frame-byte : (m : Store) (n a : ℕ) → getD (frameBytes (m .frames) (frameOf (m .book) n (pageDown a))) (a % 4096) 0 ≡ byteOf (memOf m n a)
 frame-byte m n a = go (frameOf (m .book) n (pageDown a))
   where
-    go : (o : Option ℕ) → getD (frameBytes (m .frames) o) (a % 4096) 0 ≡ byteOf (cellIn m a o)
+    go : (o : Option ℕ) → getD (frameBytes (m .frames) o) (a % 4096) 0 ≡ byteOf (cellIn m n a o)
     go none = refl
     go (some k) = getD-take 4096 (drop (4096 * k) (m .frames)) (a % 4096) 0 (omega arith) ∙ getD-drop (4096 * k) (m .frames) (a % 4096) 0
 
@@ -56,28 +56,4 @@ length-frame m n page q fits e =
     let r = frame-perm (m .book) n page q e in
     let l : length (drop (4096 * r .0) (m .frames)) ≡ length (m .frames) - 4096 * r .0 = length-drop (4096 * r .0) (m .frames) in
     ap (λ (o : Option ℕ). length (frameBytes (m .frames) o)) (r .1)
-    ∙ length-take-le 4096 (drop (4096 * r .0) (m .frames)) (omega (arith, frame-found (m .book) n page (r .0) (r .1) .0))
-
--- a page's bytes are those that the process sees at its addresses
-frame-page : (m : Store) (n page q : ℕ) → Fits m → page % 4096 ≡ 0 → bookPerm (m .book) n page ≡ some q
-    → frameBytes (m .frames) (frameOf (m .book) n page) ≡ pageBytes (λ a. byteOf (memOf m n a)) page
-frame-page m n page q fits z e =
-    let l : length (frameBytes (m .frames) (frameOf (m .book) n page)) ≡ 4096 = length-frame m n page q fits e in
-    let r : length (pageBytes (λ a. byteOf (memOf m n a)) page) ≡ 4096 = length-page (λ a. byteOf (memOf m n a)) page in
-    ext-getD 0 _ _ (l ∙ sym r) (λ i h.
-    let d : pageDown (page + i) ≡ page = omega arith in
-    let u : (page + i) % 4096 ≡ i = omega arith in
-    let x = frame-byte m n (page + i) in
-    let y = page-byte (λ a. byteOf (memOf m n a)) (page + i) in
-    rw (d, u) at x ∙ sym (rw (d, u) at y))
-
--- so they stay while what it sees stays
-pub frame-same : (m t : Store) (n page : ℕ) → Fits m → Fits t → memOf t n ≡ memOf m n → page % 4096 ≡ 0 → frameBytes (t .frames) (frameOf (t .book) n page) ≡ frameBytes (m .frames) (frameOf (m .book) n page)
-frame-same m t n page fm ft e z = go (bookPerm (m .book) n page) refl
-  where
-    same : bookPerm (t .book) n page ≡ bookPerm (m .book) n page
-    same = perm-same t m n e page z
-
-    go : (o : Option ℕ) → bookPerm (m .book) n page ≡ o → frameBytes (t .frames) (frameOf (t .book) n page) ≡ frameBytes (m .frames) (frameOf (m .book) n page)
-    go none p = rw (frame-unmapped (m .book) n page p, frame-unmapped (t .book) n page (same ∙ p))
-    go (some q) p = frame-page t n page q ft z (same ∙ p) ∙ ap (λ (mem : Mem). pageBytes (λ a. byteOf (mem a)) page) e ∙ sym (frame-page m n page q fm z p)
+    ∙ length-take-le 4096 (drop (4096 * r .0) (m .frames)) (omega (arith, frame-found (m .book) n page (r .0) (r .1) .0, fits .bytes))

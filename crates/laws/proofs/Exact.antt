@@ -1,29 +1,22 @@
 -- The book has the pages of pieces with their permissions, and no others of an owner.
-use Prim.Native.Nat.{ℕ, _+_, _*_, _-_, _/_, _%_}
+use Prim.Native.Nat.{ℕ, _+_, _*_, _-_, _/_, _%_, _<_}
 use native.Mathlib.Omega.{arith}
 use mathlib.Core.Path.{_≡_, refl, sym, ap, _∙_}
-use mathlib.Core.Bool.{Bool, true, false, not, _||_}
+use mathlib.Core.Bool.{true, false}
 use mathlib.Core.Option.{Option, none, some}
 use mathlib.Core.List.{List, [], _∷_}
-use lib.ListN.{getD}
-use borrow.Author.Tests.{eqb-true, eqb-false, ne-eqb, eq-eqb}
-use Rattle.spec.proofs.Bools.{split, clash, both, and-test, or-test, neither, un-not, within-means, within-test, below-at, below-test, all-at, all-test}
-use Rattle.spec.specs.Tests.{_is_, _isnt_, all}
-use Rattle.spec.specs.Book.{pageOf, ownerOf, permOf, frameOf, permIn, bookPerm, inSegment, permAt}
-use Rattle.spec.specs.Sound.{once, gives, booked, recorded}
+use borrow.Author.Tests.{eqb-false, ne-eqb}
+use Rattle.spec.proofs.Bools.{split, both, and-test, or-fact, or-test, within-means, within-test, below-at, below-test}
+use Rattle.spec.specs.Tests.{_is_, all}
+use Rattle.spec.specs.Book.{pageOf, permOf, valid, frameCount, mapping, frameOf, permIn, bookPerm, inSegment, permAt}
+use Rattle.spec.specs.Sound.{gives, booked, recorded, recordedAll, Mappings}
 use Rattle.spec.specs.declared.UserSegment.{UserSegment}
+use Rattle.spec.specs.declared.Setup.{Setup}
 use Rattle.laws.proofs.Pieces.{Pieces, perm-here, perm-there}
-use Rattle.laws.proofs.Frame.{Once, frame-is, frame-found}
-use Rattle.laws.proofs.Owned.{in-range}
+use Rattle.laws.proofs.Frame.{once-means, frame-is, frame-found}
+use Rattle.laws.proofs.Owned.{gives-means, gives-test}
 
 -- ---- the book has the pages of pieces, and no others
-
-gives-means : (o : Option ℕ) (q : ℕ) → gives o q ≡ true → o ≡ some q
-gives-means none q e = clash false e refl
-gives-means (some x) q e = ap some (eqb-true x q e)
-
-pub gives-test : (o : Option ℕ) (q : ℕ) → o ≡ some q → gives o q ≡ true
-gives-test o q e = rw e (eq-eqb q q refl)
 
 pub some-none : {P : Type 0} (o : Option ℕ) (q : ℕ) → o ≡ some q → o ≡ none → P
 some-none o q e f = absurd (let w : some q ≡ none = sym e ∙ f in let z : _≡_ {A = ℕ} 0 1 = cc in omega arith)
@@ -56,38 +49,36 @@ booked-test book n (g ∷ gs) p f =
     elsewhere : (a q : ℕ) → permAt gs a ≡ some q → inSegment a g ≡ false
     elsewhere a q e = split (inSegment a g) (λ i. some-none (permAt gs a) q e (p .0 .apart a i)) (λ i. i)
 
-unrecorded : (a b c : Bool) → (a || not b || c) ≡ true → a ≡ false → b ≡ true → c ≡ true
-unrecorded a b c e f g = rw (f, g) at e
+recorded-at : (book : List ℕ) (n : ℕ) (gs : List UserSegment) → recordedAll book n gs ≡ true → (k : ℕ) → k < frameCount book → ¬ (mapping book k n ≡ 0)
+    → permAt gs (pageOf (mapping book k n)) ≡ some (permOf (mapping book k n))
+recorded-at book n gs e k l nz =
+    let w : ℕ = mapping book k n in
+    gives-means _ (permOf w) (or-fact (w is 0) (gives (permAt gs (pageOf w)) (permOf w)) (below-at (frameCount book) (λ j. recorded gs (mapping book j n)) e k l) (ne-eqb w 0 nz))
 
-recorded-at : (book : List ℕ) (n : ℕ) (gs : List UserSegment) → all (recorded n gs) book ≡ true → (k : ℕ) → ¬ (getD book k 0 ≡ 0) → ownerOf (getD book k 0) ≡ n → permAt gs (pageOf (getD book k 0)) ≡ some (permOf (getD book k 0))
-recorded-at book n gs e k nz o =
-    let w : ℕ = getD book k 0 in
-    gives-means _ (permOf w) (unrecorded (w is 0) (ownerOf w is n) (gives (permAt gs (pageOf w)) (permOf w)) (all-at (recorded n gs) 0 book e k (in-range book k nz)) (ne-eqb w 0 nz) (eq-eqb (ownerOf w) n o))
-
-pub recorded-test : (book : List ℕ) (n : ℕ) (gs : List UserSegment) → ((k : ℕ) → ¬ (getD book k 0 ≡ 0) → ownerOf (getD book k 0) ≡ n → permAt gs (pageOf (getD book k 0)) ≡ some (permOf (getD book k 0))) → all (recorded n gs) book ≡ true
-recorded-test book n gs f = all-test (recorded n gs) 0 book (λ k l. one (getD book k 0) (f k))
+pub recorded-test : (book : List ℕ) (n : ℕ) (gs : List UserSegment) → ((k : ℕ) → k < frameCount book → ¬ (mapping book k n ≡ 0) → permAt gs (pageOf (mapping book k n)) ≡ some (permOf (mapping book k n)))
+    → recordedAll book n gs ≡ true
+recorded-test book n gs f = below-test (frameCount book) (λ j. recorded gs (mapping book j n)) (λ k l. one (mapping book k n) (f k l))
   where
-    one : (w : ℕ) → (¬ (w ≡ 0) → ownerOf w ≡ n → permAt gs (pageOf w) ≡ some (permOf w)) → recorded n gs w ≡ true
-    one w f = or-test (w is 0 || ownerOf w isnt n) (gives (permAt gs (pageOf w)) (permOf w)) (λ q.
-        let p = neither (w is 0) (ownerOf w isnt n) q in
-        gives-test (permAt gs (pageOf w)) (permOf w) (f (eqb-false w 0 (p .0)) (eqb-true (ownerOf w) n (un-not (ownerOf w is n) (p .1)))))
+    one : (w : ℕ) → (¬ (w ≡ 0) → permAt gs (pageOf w) ≡ some (permOf w)) → recorded gs w ≡ true
+    one w f = or-test (w is 0) (gives (permAt gs (pageOf w)) (permOf w)) (λ q. gives-test (permAt gs (pageOf w)) (permOf w) (f (eqb-false w 0 q)))
 
 -- both: a process's pages are exactly those of its pieces, with those permissions
-pub exact-means : (book : List ℕ) (n : ℕ) (gs : List UserSegment) → Pieces gs → all (booked book n) gs ≡ true → all (recorded n gs) book ≡ true
+pub exact-means : (book : List ℕ) (n : ℕ) (gs : List UserSegment) → Pieces gs → all (booked book n) gs ≡ true → recordedAll book n gs ≡ true
     → (page : ℕ) → page % 4096 ≡ 0 → bookPerm book n page ≡ permAt gs page
 exact-means book n gs p bk rc page z = go (frameOf book n page) refl (permAt gs page) refl
   where
     go : (f : Option ℕ) → frameOf book n page ≡ f → (o : Option ℕ) → permAt gs page ≡ o → bookPerm book n page ≡ permAt gs page
-    go none e none h = ap (permIn book) e ∙ sym h
+    go none e none h = ap (permIn book n) e ∙ sym h
     go none e (some q) h = in-book book n gs p bk page q z h ∙ sym h
     go (some k) e r h =
-        let o = frame-found book n page k e .1 in
-        ap (permIn book) e ∙ sym (recorded-at book n gs rc k (o .used) (o .owner)) ∙ ap (permAt gs) (o .page)
+        let f = frame-found book n page k e in
+        ap (permIn book n) e ∙ sym (recorded-at book n gs rc k (f .0) (f .1 .used)) ∙ ap (permAt gs) (f .1 .page)
 
-pub exact-recorded : (book : List ℕ) (n : ℕ) (gs : List UserSegment) → Once book → ((page : ℕ) → page % 4096 ≡ 0 → bookPerm book n page ≡ permAt gs page) → all (recorded n gs) book ≡ true
-exact-recorded book n gs once x =
-    recorded-test book n gs (λ k nz o.
-    sym (x (pageOf (getD book k 0)) (omega arith)) ∙ ap (permIn book) (frame-is book n (pageOf (getD book k 0)) k once (record { used = nz; owner = o; page = refl })))
+pub exact-recorded : {setup : Setup} (book : List ℕ) (n : ℕ) (gs : List UserSegment) → Mappings setup book → valid n ≡ true → ((page : ℕ) → page % 4096 ≡ 0 → bookPerm book n page ≡ permAt gs page) → recordedAll book n gs ≡ true
+exact-recorded book n gs h v x =
+    recorded-test book n gs (λ k l nz.
+    sym (x (pageOf (mapping book k n)) (omega arith))
+    ∙ ap (permIn book n) (frame-is book n (pageOf (mapping book k n)) k (once-means book h n v) l (record { used = nz; owner = h .words k n l v nz .owner; page = refl })))
 
 pub exact-booked : (book : List ℕ) (n : ℕ) (gs : List UserSegment) → Pieces gs → ((page : ℕ) → page % 4096 ≡ 0 → bookPerm book n page ≡ permAt gs page) → all (booked book n) gs ≡ true
 exact-booked book n gs p x = booked-test book n gs p (λ a q z e. x a z ∙ e)

@@ -2,15 +2,18 @@
 pub mod Lists
 pub mod Overwrite
 pub mod Frame
+pub mod Held
+pub mod Sweep
+pub mod Allowed
 pub mod Pokes
 pub mod Release
+pub mod Share
 pub mod Place
 pub mod Pieces
+pub mod Data
 pub mod Pages
 pub mod Placed
 pub mod Contents
-pub mod Allowed
-pub mod Count
 -- Of records and soundness: the test and the facts are equivalent.
 pub mod Record
 pub mod Shape

@@ -1,7 +1,7 @@
 -- The pages of pieces: no page twice, and the cell that they give an address.
 use Prim.Native.Nat.{ℕ, zero, suc, _+_, _*_, _-_, _/_, _%_, _≤_, _<_}
 use native.Mathlib.Omega.{arith}
-use mathlib.Core.Path.{_≡_, refl, sym, ap, ap₂, _∙_}
+use mathlib.Core.Path.{_≡_, refl, sym, ap, _∙_}
 use mathlib.Core.Bool.{Bool, true}
 use mathlib.Core.Option.{Option, none, some}
 use mathlib.Core.List.{List, [], _∷_, _++_}
@@ -49,20 +49,6 @@ each-pages f (g ∷ gs) P p h =
     each-append P (pagesFrom f (g .perm) (g .range .start) (pages g)) (pagesOf f gs)
     (each-piece f g gs P (p .0) (λ x e s. h x (g .perm) e (rw s)))
     (each-pages f gs P (p .1) (λ a q e s. h a q e (perm-tail g gs a q (p .0) s)))
-
--- pages by two rules are the same if the rules agree at each page
-pub pages-same : (f h : ℕ → List ℕ) (gs : List UserSegment) → Pieces gs → ((a q : ℕ) → a % 4096 ≡ 0 → permAt gs a ≡ some q → f a ≡ h a) → pagesOf f gs ≡ pagesOf h gs
-pages-same f h [] p e = refl
-pages-same f h (g ∷ gs) p e =
-    ap₂ (λ (x y : List Page). x ++ y)
-    (go (pages g) (g .range .start) (p .0 .start) (λ x z l u. e x (g .perm) z (rw (within-test (g .range .start) (g .range .end) x l (omega (arith, p .0 .end, p .0 .start))))))
-    (pages-same f h gs (p .1) (λ a q z s. e a q z (perm-tail g gs a q (p .0) s)))
-  where
-    go : (k a : ℕ) → a % 4096 ≡ 0 → ((x : ℕ) → x % 4096 ≡ 0 → a ≤ x → x < a + 4096 * k → f x ≡ h x) → pagesFrom f (g .perm) a k ≡ pagesFrom h (g .perm) a k
-    go zero a z e = refl
-    go (suc k) a z e =
-        ap₂ (λ (b : List ℕ) (ps : List Page). record { page = a; perm = g .perm; bytes = b } ∷ ps) (e a z (omega arith) (omega arith))
-        (go k (a + 4096) (omega arith) (λ x y l u. e x y (omega arith) (omega arith)))
 
 -- ---- no page twice
 

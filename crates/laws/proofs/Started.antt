@@ -1,14 +1,14 @@
 -- What a start makes of an accepted image: a whole record, and pages with the record's permissions.
 use Prim.Native.Nat.{ℕ, zero, suc, _+_, _-_, _≤_, _<_}
 use native.Mathlib.Omega.{arith}
-use mathlib.Core.Path.{_≡_, sym, ap, _∙_}
+use mathlib.Core.Path.{_≡_, refl, sym, ap, _∙_}
 use mathlib.Core.Option.{some}
 use mathlib.Core.List.{List, [], _∷_, _++_}
 use lib.ListN.{length, getD, take, replicate, length-append, length-replicate, length-take}
 use borrow.Author.Tests.{ltb-true}
 use Rattle.spec.proofs.Bools.{split}
 use Rattle.spec.specs.Tests.{_below_, within, ascii}
-use Rattle.spec.specs.Numbers.{pageUp, SetupOk}
+use Rattle.spec.specs.Numbers.{limit, pageUp, SetupOk}
 use Rattle.spec.specs.Name.{elem, cut, padded, kstrcpy}
 use Rattle.spec.specs.Book.{zeroSegment, stack, bssSegment, permAt, piecesOf}
 use Rattle.spec.specs.Elf.{Segment, segmentsOf}
@@ -18,9 +18,9 @@ use Rattle.spec.specs.declared.UserSegment.{UserSegment}
 use Rattle.spec.specs.declared.Setup.{Setup}
 use Rattle.laws.proofs.Lists.{Each, each-append}
 use Rattle.laws.proofs.Record.{WholeProc}
-use Rattle.laws.proofs.Shape.{imageEnd}
-use Rattle.laws.proofs.Pieces.{Pieces, tail-same, perm-each}
-use Rattle.laws.proofs.OwnPieces.{image-apart, bss-stack-apart, bss-stack-low, swap-stack, shape-pieces, shape-between}
+use Rattle.laws.proofs.Shape.{imageEnd, shape-image, shape-bss}
+use Rattle.laws.proofs.Pieces.{Pieces, tail-same, perm-past, perm-each}
+use Rattle.laws.proofs.OwnPieces.{image-high, image-apart, bss-stack-apart, bss-stack-low, swap-stack, shape-pieces, shape-between}
 use Rattle.laws.proofs.Accepted.{nonEmpty, accepted-means, image-recorded, image-shape}
 use Rattle.laws.proofs.Headers.{AllLoad, elf-loads}
 
@@ -81,3 +81,14 @@ module _ (setup : Setup) (ok : SetupOk setup) where
   pub start-between : (image : List ℕ) → imageError setup image ≡ 0 → (a q : ℕ) → permAt (startPieces setup image) a ≡ some q → (setup .utzero ≤ a) × (a < setup .uaddrtop)
   start-between image e a q f =
       shape-between setup ok (procOf setup image []) (imageSegments image) (image-shape setup ok image [] e) a q (sym (start-pieces image [] e a) ∙ f)
+
+-- what lies above the limit is data: the pages that a start pushes its arguments to
+pub start-data : (setup : Setup) → SetupOk setup → (image : List ℕ) → imageError setup image ≡ 0 → (a q : ℕ) → limit setup ≤ a → permAt (startPieces setup image) a ≡ some q → q ≡ 3
+start-data setup ok image e a q l f =
+    let p = procOf setup image [] in
+    let h = image-shape setup ok image [] e in
+    let b = shape-bss setup p (imageSegments image) h in
+    let none-there = image-high setup (setup .utzero) (imageSegments image) (shape-image setup p (imageSegments image) h) a (omega (arith, b .past, b .order, b .aligned, b .low)) in
+    let pieces = shape-pieces setup p (imageSegments image) h in
+    perm-each (λ x. x ≡ 3) (stack setup ∷ bssSegment (imageBss image) ∷ []) (refl, (refl, tt)) a q
+    (sym (start-pieces setup ok image [] e a ∙ ap (λ (x : List UserSegment). permAt x a) pieces ∙ perm-past (imageSegments image) (stack setup ∷ bssSegment (imageBss image) ∷ []) a none-there) ∙ f)

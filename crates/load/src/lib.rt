@@ -8,6 +8,7 @@ ghost use Prim.Native.Nat.{ℕ, _+_, _*_, _-_, _^_, _≤_, _<_};
 ghost use lib.ListN.{length};
 ghost use Rattle.spec.specs.Numbers.{maxTop, SetupOk, pageBytes};
 ghost use Rattle.spec.specs.declared.Setup.{Setup};
+ghost use Rattle.spec.specs.Book.{frameCount};
 ghost use Rattle.spec.specs.Frames.{pagesOf, place};
 ghost use Rattle.spec.specs.Elf.{phdrAt, segmentsOf};
 ghost use Rattle.spec.specs.Exec.{layoutOk, imageBss, imageError, startPieces, fileByte};
@@ -32,7 +33,7 @@ fn load_header(
     i: usize,
     bss: VirtRange,
 ) -> usize
-    requires { ⌜ (length (now frames) ≡ 4096 * length (now book)) × (1 ≤ owner) × (owner < 256) × (h .phoff + 56 * h .phnum ≤ length (now image)) × (i < h .phnum) × (bss .start ≤ maxTop) ⌝ }
+    requires { ⌜ (length (now frames) ≡ 4096 * frameCount (now book)) × (1 ≤ owner) × (owner ≤ 16) × (h .phoff + 56 * h .phnum ≤ length (now image)) × (i < h .phnum) × (bss .start ≤ maxTop) ⌝ }
     requires { ⌜ CheckedLoad (length (now image)) (loadOf (phdrAt (now image) (h .phoff + 56 * i))) × LaidLoad (loadOf (phdrAt (now image) (h .phoff + 56 * i))) ⌝ }
     requires { ⌜ Passed top (now book) ⌝ }
     ensures { λ _. ⌜ store (now (frames .exit)) (now (book .exit)) ≡ place (store (now (frames .entry)) (now (book .entry))) owner (loadPages (now (image .entry)) bss (loadOf (phdrAt (now (image .entry)) (h .phoff + 56 * i)))) ⌝ }
@@ -59,13 +60,13 @@ fn load_segments(
     h: Elf,
     bss: VirtRange,
 ) -> usize
-    requires { ⌜ (length (now frames) ≡ 4096 * length (now book)) × (1 ≤ owner) × (owner < 256) × (bss .start ≤ maxTop) ⌝ }
+    requires { ⌜ (length (now frames) ≡ 4096 * frameCount (now book)) × (1 ≤ owner) × (owner ≤ 16) × (bss .start ≤ maxTop) ⌝ }
     requires { ⌜ said (Parsed.Elf h) ≡ parsed (now image) ⌝ }
     requires { ⌜ ((setup : Setup) × SetupOk setup × (layoutOk setup (segmentsOf (now image)) ≡ true)) ⌝ }
     ensures { λ _. ⌜ store (now (frames .exit)) (now (book .exit)) ≡ place (store (now (frames .entry)) (now (book .entry))) owner (segmentPages bss (segmentsOf (now (image .entry)))) ⌝ }
     ensures { λ r. ⌜ Passed r (now (book .exit)) ⌝ }
 {
-    let mut top = book.len();
+    let mut top = book.len() / 17;
     let n = h.phnum;
     let mut i = 0;
     while i < n {
@@ -84,7 +85,7 @@ pub fn load(
     image: &[u8],
     bss: VirtRange,
 )
-    requires { ⌜ (length (now frames) ≡ 4096 * length (now book)) × (1 ≤ owner) × (owner < 256) × (imageError setup (now image) ≡ 0) × (bss ≡ imageBss (now image)) × SetupOk setup ⌝ }
+    requires { ⌜ (length (now frames) ≡ 4096 * frameCount (now book)) × (1 ≤ owner) × (owner ≤ 16) × (imageError setup (now image) ≡ 0) × (bss ≡ imageBss (now image)) × SetupOk setup ⌝ }
     ensures { λ _. ⌜ store (now (frames .exit)) (now (book .exit)) ≡ place (store (now (frames .entry)) (now (book .entry))) owner (pagesOf (pageBytes (fileByte (segmentsOf (now (image .entry))))) (startPieces setup (now (image .entry)))) ⌝ }
 {
     let ustktop = setup.ustktop;

@@ -3,7 +3,7 @@
 
 ghost use mathlib.Core.Path.{_≡_};
 ghost use mathlib.Core.List.{List};
-ghost use Prim.Native.Nat.{ℕ};
+ghost use Prim.Native.Nat.{ℕ, _≤_};
 ghost use Rattle.spec.specs.Book.{frameOf};
 ghost use Rattle.plan.specs.Plan.{Plan};
 ghost use Rattle.lookup.specs.Ready.{Ready, answerOf};
@@ -24,19 +24,13 @@ fn answer(entry: u16) -> Found
 pub fn frame_at(
     tags: &[u64; 272],
     bases: &[u64; 273],
-    table: &[u16; 1024],
+    table: &[u16; 16384],
     owner: usize,
     page: u64,
 ) -> Found
-    requires { ⌜ Plan (now tags) (now bases) ⌝ }
+    requires { ⌜ (1 ≤ owner) × (owner ≤ 16) × Plan (now tags) (now bases) ⌝ }
     ensures { λ r. ⌜ ((book : List ℕ) → Ready book (now (tags .entry)) (now (bases .entry)) (now (table .entry)) → r ≡ foundOf (frameOf book owner page)) ⌝ }
 {
-    if owner == 0 {
-        return Found::Nothing;
-    }
-    if 16 < owner {
-        return Found::Nothing;
-    }
     if page % 4096 != 0 {
         return Found::Nothing;
     }

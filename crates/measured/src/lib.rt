@@ -39,12 +39,12 @@ pub extern "C" fn measured_free(book: &[u64]) -> usize
     book::free_count(book)
 }
 
-// Whether the book is sound, by the deposit machine's numbers; one of more than 1,024 words is not.
+// Whether the book is sound, by the deposit machine's numbers; one of more than 17,408 words, 1,024 frames', is not.
 #[no_mangle]
 pub extern "C" fn measured_sound(book: &[u64], procs: Procs) -> bool
-    ensures { λ r. ⌜ (length (now (book .entry)) ≤ 1024 → r ≡ soundBook deposit (now (book .entry)) procs) × (1024 < length (now (book .entry)) → r ≡ false) ⌝ }
+    ensures { λ r. ⌜ (length (now (book .entry)) ≤ 17408 → r ≡ soundBook deposit (now (book .entry)) procs) × (17408 < length (now (book .entry)) → r ≡ false) ⌝ }
 {
-    if 1024 < book.len() {
+    if 17408 < book.len() {
         return false;
     }
     sound::sound_error(setup::deposit(), book, procs) == 0

@@ -7,9 +7,8 @@ use mathlib.Core.List.{List}
 use lib.ListN.{length, take, drop, length-drop}
 use lib.Seq.{length-take-le, take-add, take-length}
 use Rattle.spec.specs.Numbers.{pageDown}
-use Rattle.spec.specs.Book.{frameOf}
+use Rattle.spec.specs.Book.{frameCount, frameOf}
 use Rattle.spec.specs.Frames.{Store, put, pokes}
-use Rattle.laws.proofs.Frame.{Fits}
 use Rattle.laws.proofs.Pokes.{pokes-append, pokes-page}
 use Rattle.spec.specs.declared.Found.the-variants.{At, Nothing}
 use Rattle.book.specs.Lent.{store, foundOf}
@@ -34,7 +33,7 @@ unfolding pokes
 write-none m n addr bytes = refl
 
 -- the next bytes, within one page
-pub write-turn : (m : Store) (f g book bytes : List ℕ) (n addr i e k at : ℕ) → Fits (store f book) → store f book ≡ pokes m n addr (take i bytes) → i ≤ e → e ≤ length bytes
+pub write-turn : (m : Store) (f g book bytes : List ℕ) (n addr i e k at : ℕ) → length f ≡ 4096 * frameCount book → store f book ≡ pokes m n addr (take i bytes) → i ≤ e → e ≤ length bytes
     → frameOf book n (pageDown (addr + i)) ≡ some k → (addr + i) % 4096 + (e - i) ≤ 4096 → at ≡ 4096 * k + (addr + i) % 4096 → g ≡ put f at (take (e - i) (drop i bytes))
     → store g book ≡ pokes m n addr (take e bytes)
 write-turn m f g book bytes n addr i e k at fits so l h found room ea eg =

@@ -7,17 +7,15 @@ use mathlib.Core.Bool.{Bool, false}
 use mathlib.Core.Option.{Option, none, some}
 use mathlib.Core.List.{List, [], _∷_, append-nil}
 use lib.Dec.{eqb}
-use lib.ListN.{length, getD, set, length-set}
-use lib.Seq.{getD-set-same, getD-set-other}
-use borrow.Author.Tests.{eqb-true, eqb-false, ne-eqb}
-use Rattle.spec.specs.Tests.{_is_}
+use lib.ListN.{length}
+use borrow.Author.Tests.{eqb-true, eqb-false}
 use Rattle.spec.specs.Numbers.{zeroPage}
-use Rattle.spec.specs.Book.{wordOf, highest, freeFrame, segment}
-use Rattle.spec.specs.Frames.{Store, put, Page, pagesFrom, pagesOf, hold, place}
+use Rattle.spec.specs.Book.{wordOf, frameCount, holders, highest, isFree, freeFrame, segment}
+use Rattle.spec.specs.Frames.{Store, enter, put, Page, pagesFrom, pagesOf, hold, place}
 use Rattle.spec.specs.declared.Found.the-variants.{At, Nothing}
 use Rattle.spec.proofs.Bools.{split}
 use Rattle.spec.proofs.Search.{hit, miss, highest-none}
-use Rattle.spec.proofs.Words.{used-word}
+use Rattle.spec.proofs.Enter.{enter-length, enter-count, holders-here, holders-else}
 use Rattle.laws.proofs.Lists.{by-order}
 use Rattle.laws.proofs.Place.{place-none}
 use Rattle.book.specs.Lent.{store, foundOf}
@@ -26,10 +24,10 @@ use Rattle.pagealloc.specs.Lent.{Passed}
 
 -- ---- one page
 
--- bytes put into frame k, and its word set, hold a page there
-pub held : (f b f′ : List ℕ) (k at owner page perm w : ℕ) (bytes : List ℕ) → at ≡ 4096 * k → f′ ≡ put f at bytes → w ≡ wordOf page owner perm
-    → store f′ (set b k w) ≡ hold (store f b) owner (record { page = page; perm = perm; bytes = bytes }) (some k)
-held f b f′ k at owner page perm w bytes ea ef ew = rw (ef, ew, ea)
+-- bytes put into frame k, and its mapping entered, hold a page there
+pub held : (f b f′ b′ : List ℕ) (k at owner page perm w : ℕ) (bytes : List ℕ) → at ≡ 4096 * k → f′ ≡ put f at bytes → w ≡ wordOf page owner perm → b′ ≡ enter b k owner w 1
+    → store f′ b′ ≡ hold (store f b) owner (record { page = page; perm = perm; bytes = bytes }) (some k)
+held f b f′ b′ k at owner page perm w bytes ea ef ew eb = rw (eb, ef, ew, ea)
 
 pub zero-same : (page : ℕ) → zeroPage 0 ≡ zeroPage page
 unfolding zeroPage
@@ -55,33 +53,30 @@ highest-above t (suc c) k e j l u =
     (λ p. rw (eqb-true j c p) q)
     (λ p. let ne : j ≡ c → ⊥ = eqb-false j c p in highest-above t c k (rw q at e) j l (omega arith)))
 
-abbrev isFree : List ℕ → ℕ → Bool
-isFree book k = getD book k 0 is 0
-
 module _ (book : List ℕ) (c : ℕ) (passed : Passed c book) where
   -- the frame found is the highest free frame
-  pub free-found : (k : ℕ) → At k ≡ foundOf (highest (isFree book) c) → (k < length book) × (freeFrame book ≡ some k)
+  pub free-found : (k : ℕ) → At k ≡ foundOf (highest (isFree book) c) → (k < frameCount book) × (freeFrame book ≡ some k)
   free-found k e =
       let f = found-at (highest (isFree book) c) k e in
-      (omega (arith, hit (isFree book) c k f .0), highest-from (isFree book) (length book) c (passed .0) (passed .1) ∙ f)
+      (omega (arith, hit (isFree book) c k f .0), highest-from (isFree book) (frameCount book) c (passed .0) (passed .1) ∙ f)
 
-  pub free-word : (k : ℕ) → At k ≡ foundOf (highest (isFree book) c) → getD book k 0 ≡ 0
-  free-word k e = eqb-true (getD book k 0) 0 (hit (isFree book) c k (found-at (highest (isFree book) c) k e) .1)
+  pub free-word : (k : ℕ) → At k ≡ foundOf (highest (isFree book) c) → holders book k ≡ 0
+  free-word k e = eqb-true (holders book k) 0 (hit (isFree book) c k (found-at (highest (isFree book) c) k e) .1)
 
   -- once it is taken, no frame from it on is free
-  pub passed-taken : (k w : ℕ) → At k ≡ foundOf (highest (isFree book) c) → (w ≡ 0 → ⊥) → Passed k (set book k w)
-  passed-taken k w e nz =
+  pub passed-taken : (k n w : ℕ) → n ≤ 16 → At k ≡ foundOf (highest (isFree book) c) → Passed k (enter book k n w 1)
+  passed-taken k n w hi e =
       let f = found-at (highest (isFree book) c) k e in
-      let low : k < length book = free-found k e .0 in
-      let l = length-set book k w in (
+      let low : k < frameCount book = free-found k e .0 in
+      let l = enter-count book k n w 1 in (
         omega arith,
         λ j u v. split (eqb j k)
-            (λ q. rw (eqb-true j k q, getD-set-same book k w 0 low) (ne-eqb w 0 nz))
+            (λ q. rw (eqb-true j k q, holders-here book k n w 1 low hi) refl)
             (λ q. let ne : j ≡ k → ⊥ = eqb-false j k q in
-            rw (getD-set-other book k j w 0 ne) (later f j (omega arith) (omega arith))),
+            rw (holders-else book k n w 1 low hi j ne) (later f j (omega arith) (omega arith))),
       )
     where
-      later : highest (isFree book) c ≡ some k → (j : ℕ) → k < j → j < length book → isFree book j ≡ false
+      later : highest (isFree book) c ≡ some k → (j : ℕ) → k < j → j < frameCount book → isFree book j ≡ false
       later f j u v = by-order j c (λ l. highest-above (isFree book) c k f j u l) (λ l. passed .1 j l v)
 
   -- where none is found, no frame is free
@@ -108,7 +103,7 @@ pub record Ran (f : ℕ → List ℕ) (perm owner end first : ℕ) (m t : Store)
 pub ran-start : (f : ℕ → List ℕ) (perm owner end first : ℕ) (m : Store) (c : ℕ) → first % 4096 ≡ 0 → Passed c (m .book) → Ran f perm owner end first m m first c
 ran-start f perm owner end first m c al passed = record { frames = refl; book = refl; aligned = al; onward = omega arith; passed = passed; rest = refl }
 
-module _ (f : ℕ → List ℕ) (perm owner end first : ℕ) (m t : Store) (page c : ℕ) (lo : 1 ≤ owner) (ran : Ran f perm owner end first m t page c) where
+module _ (f : ℕ → List ℕ) (perm owner end first : ℕ) (m t : Store) (page c : ℕ) (hi : owner ≤ 16) (ran : Ran f perm owner end first m t page c) where
   one : pagesOf f (segment first end perm ∷ []) ≡ run f perm end first
   one = append-nil (run f perm end first)
 
@@ -123,14 +118,14 @@ module _ (f : ℕ → List ℕ) (perm owner end first : ℕ) (m t : Store) (page
       let w : ℕ = wordOf page owner perm in
       let al = ran .aligned in
       let d : (end - page) / 4096 ≡ suc ((end - (page + 4096)) / 4096) = omega arith in
-      let eb : u .book ≡ set (t .book) k w = ap (λ (x : Store). x .book) eu in
+      let eb : u .book ≡ enter (t .book) k owner w 1 = ap (λ (x : Store). x .book) eu in
       let found = free-found (t .book) c (ran .passed) k e in
       record {
         frames = l ∙ ran .frames;
-        book = ap length eb ∙ length-set (t .book) k w ∙ ran .book;
+        book = ap length eb ∙ enter-length (t .book) k owner w 1 ∙ ran .book;
         aligned = omega arith;
         onward = omega (arith, ran .onward);
-        passed = rw eb (passed-taken (t .book) c (ran .passed) k w e (used-word page owner perm lo));
+        passed = rw eb (passed-taken (t .book) c (ran .passed) k owner w hi e);
         rest =
             ran .rest ∙ ap (λ (j : ℕ). place t owner (pagesFrom f perm page j)) d ∙ ap (λ (o : Option ℕ). place (hold t owner p o) owner left) (found .1)
             ∙ ap (λ (x : Store). place x owner left) (sym eu);
@@ -140,7 +135,7 @@ module _ (f : ℕ → List ℕ) (perm owner end first : ℕ) (m t : Store) (page
   pub ran-full : Nothing ≡ foundOf (highest (isFree (t .book)) c) → (t ≡ place m owner (pagesOf f (segment first end perm ∷ []))) × Passed 0 (t .book)
   ran-full e =
       let none-left = passed-none (t .book) c (ran .passed) e in
-      (sym (ap (place m owner) one ∙ ran .rest ∙ place-none t owner (run f perm end page) (highest-none (isFree (t .book)) (length (t .book)) (λ k h. none-left .1 k (omega arith) h))), none-left)
+      (sym (ap (place m owner) one ∙ ran .rest ∙ place-none t owner (run f perm end page) (highest-none (isFree (t .book)) (frameCount (t .book)) (λ k h. none-left .1 k (omega arith) h))), none-left)
 
   -- no page is left
   pub ran-end : end ≤ page → (t ≡ place m owner (pagesOf f (segment first end perm ∷ []))) × Passed c (t .book)

@@ -6,13 +6,11 @@ use mathlib.Core.Path.{_≡_}
 use mathlib.Core.Bool.{false}
 use mathlib.Core.Option.{some}
 use mathlib.Core.List.{List}
-use lib.ListN.{length, getD}
-use Rattle.spec.specs.Tests.{_is_}
-use Rattle.spec.specs.Book.{frameOf}
+use Rattle.spec.specs.Book.{frameCount, isFree, frameOf}
 
 -- frames are looked at from the top down: no frame from c on is free
 abbrev pub Passed : ℕ → List ℕ → Type 0
-Passed c book = (c ≤ length book) × ((k : ℕ) → c ≤ k → k < length book → (getD book k 0 is 0) ≡ false)
+Passed c book = (c ≤ frameCount book) × ((k : ℕ) → c ≤ k → k < frameCount book → isFree book k ≡ false)
 
 -- a process has every page from `low` up to, but not including, `high`
 abbrev pub Mapped : List ℕ → ℕ → ℕ → ℕ → Type 0

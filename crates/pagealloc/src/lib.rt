@@ -1,6 +1,6 @@
-// Frames and book, where r9 has its page allocator and the MMU's tables: frame bytes are lent, with one 64-bit book word a frame.
-// A word of 0 is a free frame; otherwise it is page address + 16 × owner + permission. Callers have checked sizes, numbers and
-// ranges: what these functions ask of them stands in their `requires`.
+// Frames and book, where r9 has its page allocator and the MMU's tables: frame bytes are lent, with seventeen 64-bit book words a
+// frame, its places and its count of holders. A frame whose count is 0 is free; a page placed is its frame's only mapping. Callers
+// have checked sizes, numbers and ranges: what these functions ask of them stands in their `requires`.
 
 // The bytes of frames, and frames filled.
 pub mod frames;

@@ -6,37 +6,46 @@ ghost use mathlib.Core.Path.{_≡_};
 ghost use mathlib.Core.Option.{some};
 ghost use mathlib.Core.List.{[], _∷_};
 ghost use Prim.Native.Nat.{_+_, _*_, _%_, _^_, _≤_, _<_};
-ghost use lib.ListN.{length, getD};
-ghost use Rattle.spec.specs.Tests.{_is_};
+ghost use lib.ListN.{length};
 ghost use Rattle.spec.specs.Numbers.{pageBytes, zeroPage};
-ghost use Rattle.spec.specs.Book.{highest, segment};
-ghost use Rattle.spec.specs.Frames.{pagesOf, hold, place, frameBytes};
+ghost use Rattle.spec.specs.Book.{frameCount, holders, isFree, highest, segment};
+ghost use Rattle.spec.specs.Frames.{enter, pagesOf, hold, place, frameBytes};
 ghost use Rattle.book.specs.Lent.{store, foundOf};
 ghost use Rattle.pagealloc.specs.Lent.{Passed};
 ghost use Rattle.pagealloc.specs.Contents.{fileAt};
 
 // The highest free frame below frame `c`, as `allocate_physpage`, which leaves the book as it is.
 pub fn free_below(book: &[u64], c: usize) -> spec::Found
-    requires { ⌜ c ≤ length (now book) ⌝ }
-    ensures { λ r. ⌜ r ≡ foundOf (highest (λ k. getD (now (book .entry)) k 0 is 0) c) ⌝ }
+    requires { ⌜ c ≤ frameCount (now book) ⌝ }
+    ensures { λ r. ⌜ r ≡ foundOf (highest (isFree (now (book .entry))) c) ⌝ }
 {
     let mut i = c;
     while 0 < i {
-        if book[i - 1] == 0 {
-            return spec::Found::At(i - 1);
-        }
         i -= 1;
+        if book[17 * i + 16] == 0 {
+            return spec::Found::At(i);
+        }
     }
     spec::Found::Nothing
 }
 
+// Frame `k` gets mapping `w` in the owner's place, its only one.
+fn take_frame(book: &mut [u64], k: usize, owner: u64, w: u64)
+    requires { ⌜ (17 * k + 16 < length (now book)) × (1 ≤ owner) × (owner ≤ 16) ⌝ }
+    ensures { λ _. ⌜ now (book .exit) ≡ enter (now (book .entry)) k owner w 1 ⌝ }
+{
+    let place = (owner - 1) as usize;
+    book[17 * k + place] = w;
+    book[17 * k + 16] = 1;
+}
+
 // Frame `k` becomes a data page of zeros.
 fn hold_zeroed(frames: &mut [u8], book: &mut [u64], k: usize, owner: u64, page: u64)
-    requires { ⌜ (length (now frames) ≡ 4096 * length (now book)) × (k < length (now book)) × (owner < 256) × (page < 2 ^ 63) ⌝ }
+    requires { ⌜ (length (now frames) ≡ 4096 * frameCount (now book)) × (k < frameCount (now book)) × (1 ≤ owner) × (owner ≤ 16) × (page < 2 ^ 63) ⌝ }
     ensures { λ _. ⌜ store (now (frames .exit)) (now (book .exit)) ≡ hold (store (now (frames .entry)) (now (book .entry))) owner (record { page = page; perm = 3; bytes = zeroPage page }) (some k) ⌝ }
 {
     crate::pages::zero_frame(frames, crate::frames::frame_addr(k));
-    book[k] = book::pack(page, owner, spec::DATA);
+    take_frame(book, k, owner, book::pack(page, owner, spec::DATA));
 }
 
 // Places a data page of zeros for each page in `range`, as `map_zeroed`.
@@ -47,7 +56,7 @@ pub fn map_zeroed(
     owner: u64,
     range: spec::VirtRange,
 ) -> usize
-    requires { ⌜ (length (now frames) ≡ 4096 * length (now book)) × (1 ≤ owner) × (owner < 256) ⌝ }
+    requires { ⌜ (length (now frames) ≡ 4096 * frameCount (now book)) × (1 ≤ owner) × (owner ≤ 16) ⌝ }
     requires { ⌜ (range .start % 4096 ≡ 0) × (range .end % 4096 ≡ 0) × (range .end < 2 ^ 63) ⌝ }
     requires { ⌜ Passed top (now book) ⌝ }
     ensures { λ _. ⌜ store (now (frames .exit)) (now (book .exit)) ≡ place (store (now (frames .entry)) (now (book .entry))) owner (pagesOf zeroPage (segment (range .start) (range .end) 3 ∷ [])) ⌝ }
@@ -78,12 +87,12 @@ fn hold_loaded(
     vaddr: u64,
     file: &[u8],
 )
-    requires { ⌜ (length (now frames) ≡ 4096 * length (now book)) × (k < length (now book)) × (owner < 256) × (perm < 16) × (page < 2 ^ 63) ⌝ }
+    requires { ⌜ (length (now frames) ≡ 4096 * frameCount (now book)) × (k < frameCount (now book)) × (1 ≤ owner) × (owner ≤ 16) × (perm < 16) × (page < 2 ^ 63) ⌝ }
     requires { ⌜ vaddr + length (now file) < 2 ^ 64 ⌝ }
     ensures { λ _. ⌜ store (now (frames .exit)) (now (book .exit)) ≡ hold (store (now (frames .entry)) (now (book .entry))) owner (record { page = page; perm = perm; bytes = pageBytes (fileAt vaddr (now (file .entry))) page }) (some k) ⌝ }
 {
     crate::pages::load_frame(frames, crate::frames::frame_addr(k), page, vaddr, file);
-    book[k] = book::pack(page, owner, perm);
+    take_frame(book, k, owner, book::pack(page, owner, perm));
 }
 
 // Places the pages of a recorded segment, holding the file bytes that stand from `vaddr` on and zero elsewhere, as `load_segment`.
@@ -96,7 +105,7 @@ pub fn load_segment(
     vaddr: u64,
     file: &[u8],
 ) -> usize
-    requires { ⌜ (length (now frames) ≡ 4096 * length (now book)) × (1 ≤ owner) × (owner < 256) × (recorded .perm < 16) ⌝ }
+    requires { ⌜ (length (now frames) ≡ 4096 * frameCount (now book)) × (1 ≤ owner) × (owner ≤ 16) × (recorded .perm < 16) ⌝ }
     requires { ⌜ (recorded .range .start % 4096 ≡ 0) × (recorded .range .end % 4096 ≡ 0) × (recorded .range .end < 2 ^ 63) × (vaddr + length (now file) < 2 ^ 64) ⌝ }
     requires { ⌜ Passed top (now book) ⌝ }
     ensures { λ _. ⌜ store (now (frames .exit)) (now (book .exit)) ≡ place (store (now (frames .entry)) (now (book .entry))) owner (pagesOf (pageBytes (fileAt vaddr (now (file .entry)))) (recorded ∷ [])) ⌝ }
@@ -128,8 +137,8 @@ pub fn hold_copied(
     perm: u64,
     page: u64,
 )
-    requires { ⌜ (length (now frames) ≡ 4096 * length (now book)) × (k < length (now book)) × (getD (now book) k 0 ≡ 0) ⌝ }
-    requires { ⌜ (from < length (now book)) × (getD (now book) from 0 ≡ 0 → ⊥) × (child < 256) × (perm < 16) × (page < 2 ^ 63) ⌝ }
+    requires { ⌜ (length (now frames) ≡ 4096 * frameCount (now book)) × (k < frameCount (now book)) × (holders (now book) k ≡ 0) ⌝ }
+    requires { ⌜ (from < frameCount (now book)) × (holders (now book) from ≡ 0 → ⊥) × (1 ≤ child) × (child ≤ 16) × (perm < 16) × (page < 2 ^ 63) ⌝ }
     ensures { λ _. ⌜ store (now (frames .exit)) (now (book .exit)) ≡ hold (store (now (frames .entry)) (now (book .entry))) child (record { page = page; perm = perm; bytes = frameBytes (now (frames .entry)) (some from) }) (some k) ⌝ }
 {
     crate::pages::copy_frame(
@@ -137,5 +146,5 @@ pub fn hold_copied(
         crate::frames::frame_addr(from),
         crate::frames::frame_addr(k),
     );
-    book[k] = book::pack(page, child, perm);
+    take_frame(book, k, child, book::pack(page, child, perm));
 }

@@ -5,6 +5,7 @@ ghost use mathlib.Core.Path.{_≡_};
 ghost use Prim.Native.Nat.{_+_, _*_, _^_, _≤_, _<_};
 ghost use lib.ListN.{length};
 ghost use Rattle.spec.specs.Numbers.{pageDown};
+ghost use Rattle.spec.specs.Book.{frameCount};
 ghost use Rattle.spec.specs.Frames.{put, pokes};
 ghost use Rattle.book.specs.Lent.{store};
 ghost use Rattle.pagealloc.specs.Lent.{Mapped};
@@ -29,7 +30,7 @@ fn phys(k: usize, offset: u64) -> mem::PhysAddr
 
 // The process's bytes from `addr` on become `bytes`, as `copy_to_user` copies.
 pub fn write_user(frames: &mut [u8], book: &[u64], owner: u64, addr: u64, bytes: &[u8])
-    requires { ⌜ (length (now frames) ≡ 4096 * length (now book)) × (1 ≤ owner) × (owner < 256) × (addr + length (now bytes) < 2 ^ 64) ⌝ }
+    requires { ⌜ (length (now frames) ≡ 4096 * frameCount (now book)) × (1 ≤ owner) × (owner ≤ 16) × (addr + length (now bytes) < 2 ^ 64) ⌝ }
     requires { ⌜ Mapped (now book) owner (pageDown addr) (addr + length (now bytes)) ⌝ }
     ensures { λ _. ⌜ store (now (frames .exit)) (now (book .entry)) ≡ pokes (store (now (frames .entry)) (now (book .entry))) owner addr (now (bytes .entry)) ⌝ }
 {

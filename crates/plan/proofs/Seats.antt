@@ -1,9 +1,9 @@
 -- An owner's segments ascend, unused places at the top, so that a search by halves finds the one that a word is of.
-use Prim.Native.Nat.{ℕ, zero, suc, _+_, _-_, _*_, _/_, _%_, _<_, _≤_}
+use Prim.Native.Nat.{ℕ, zero, suc, _+_, _%_, _<_, _≤_}
 use native.Mathlib.Omega.{arith}
 use native.Mathlib.Nat.{not-suc-le-zero, le-of-suc-le-suc}
-use mathlib.Core.Path.{_≡_, refl, sym, ap, _∙_}
-use mathlib.Core.Bool.{Bool, true, false, not, _&&_, _||_}
+use mathlib.Core.Path.{_≡_, refl, ap, _∙_}
+use mathlib.Core.Bool.{true, false, not}
 use mathlib.Core.List.{List, [], _∷_}
 use lib.Dec.{leb}
 use lib.ListN.{length, getD}
@@ -15,13 +15,13 @@ use Rattle.spec.specs.Sound.{bssOk}
 use Rattle.spec.specs.declared.VirtRange.{VirtRange}
 use Rattle.spec.specs.declared.UserSegment.{UserSegment}
 use Rattle.spec.specs.declared.Proc.{Proc}
-use Rattle.spec.proofs.Bools.{split, clash, both, not-true, or-fact, living-ok}
+use Rattle.spec.proofs.Bools.{split, clash, both, not-true, or-fact}
 use Rattle.spec.specs.declared.Setup.{Setup}
 use Rattle.laws.proofs.Lists.{by-order}
 use Rattle.laws.proofs.Record.{WholeProc, same-is, dead-zero}
 use Rattle.laws.proofs.Shape.{bss-means, image-first}
 use Rattle.records.specs.Records.{imageTest, shaped, passes}
-use Rattle.plan.specs.Plan.{seat, owner, hits, later, Ascending, Span, Plan}
+use Rattle.plan.specs.Plan.{seat, hits, later, Ascending, Span, Plan}
 use Rattle.plan.proofs.Within.{hit-fact}
 use Rattle.plan.proofs.Passing.{perm-means, shaped-means}
 

@@ -50,7 +50,7 @@ pub record Found (tags bases : List ℕ) (w k : ℕ) : Type 0 where
   pub has : hits tags bases w k ≡ true
   pub fact : Hit tags bases w k
   pub below : rank tags bases w k < getD bases 272 0
-  pub most : getD bases 272 0 ≤ 1024
+  pub most : getD bases 272 0 ≤ 16384
 
 pub found-part : (tags bases : List ℕ) → Plan tags bases → (w k : ℕ) → k < 272 → hits tags bases w k ≡ true → Found tags bases w k
 found-part tags bases plan w k h e = record { there = h; has = e; fact = hit-fact tags bases w k e; below = rank-below tags bases plan w k h e; most = plan .most }

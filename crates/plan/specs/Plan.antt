@@ -143,10 +143,10 @@ pub record Before (tags bases : List ℕ) (k l : ℕ) : Type 0 where
   pub tag-up : getD tags k 0 ≤ getD tags l 0
   pub end-up : getD tags k 0 + 4096 * (getD bases (k + 1) 0 - getD bases k 0) ≤ getD tags l 0 + 3
 
--- a plan of at most 1,024 pages: each part is of its owner, and each rank has a word of its own
+-- a plan of at most 16,384 pages, 1,024 for each process: each part is of its owner, and each rank has a word of its own
 pub record Plan (tags bases : List ℕ) : Type 0 where
   pub rising : Rising bases
-  pub most : getD bases 272 0 ≤ 1024
+  pub most : getD bases 272 0 ≤ 16384
   pub owner-is : (k : ℕ) → k < 272 → ownerOf (getD tags k 0) ≡ owner k
   pub ascends : (k l : ℕ) → owner k ≡ owner l → k < l → l < 272 → l % 17 < 16 → Before tags bases k l
   pub apart : (t u : ℕ) → t < getD bases 272 0 → u < getD bases 272 0 → nth tags bases t ≡ nth tags bases u → t ≡ u

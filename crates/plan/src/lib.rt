@@ -112,14 +112,11 @@ fn segment_of(tags: &[u64; 272], first: usize, w: u64) -> usize
     later(tags, pair, 1, w)
 }
 
-// The part that a word is of, or 272: part `hint`, where the word before it was, or else the bss or a segment of its owner.
-pub fn part_of(tags: &[u64; 272], bases: &[u64; 273], hint: usize, w: u64) -> usize
-    requires { ⌜ (hint < 272) × Plan (now tags) (now bases) ⌝ }
+// The part that a word is of, the bss or a segment of its owner, or 272.
+pub fn part_of(tags: &[u64; 272], bases: &[u64; 273], w: u64) -> usize
+    requires { ⌜ Plan (now tags) (now bases) ⌝ }
     ensures { λ r. ⌜ PartOf (now (tags .entry)) (now (bases .entry)) w r ⌝ }
 {
-    if hits(tags, bases, hint, w) {
-        return hint;
-    }
     let owner = (w % 4096 / 16) as usize;
     if owner == 0 {
         return 272;

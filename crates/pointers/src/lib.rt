@@ -5,6 +5,7 @@ ghost use mathlib.Core.Path.{_≡_};
 ghost use Prim.Native.Nat.{_+_, _*_, _≤_, _<_};
 ghost use lib.ListN.{length};
 ghost use Rattle.spec.specs.Numbers.{SetupOk, le};
+ghost use Rattle.spec.specs.Book.{frameCount};
 ghost use Rattle.spec.specs.Frames.{memOf};
 ghost use Rattle.sound.specs.Table.{Ready};
 ghost use Rattle.book.specs.Lent.{store};
@@ -58,11 +59,11 @@ pub fn read_pointer(
     book: &[u64],
     tags: &[u64; 272],
     bases: &[u64; 273],
-    table: &[u16; 1024],
+    table: &[u16; 16384],
     number: u64,
     at: u64,
 ) -> Pointer
-    requires { ⌜ (length (now frames) ≡ 4096 * length (now book)) × Ready (now book) (now tags) (now bases) (now table) ⌝ }
+    requires { ⌜ (length (now frames) ≡ 4096 * frameCount (now book)) × Ready (now book) (now tags) (now bases) (now table) × (1 ≤ number) × (number ≤ 16) ⌝ }
     requires { ⌜ SetupOk setup ⌝ }
     ensures { λ r. ⌜ r ≡ pointerAt setup (memOf (store (now (frames .entry)) (now (book .entry))) number) at ⌝ }
 {

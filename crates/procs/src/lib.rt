@@ -1,12 +1,11 @@
-// The records of processes by value: whether one lives, one read and set, and the pages of one. Every call takes all records and
+// The records of processes by value: whether one lives, one read and set, and the pages of its bss. Every call takes all records and
 // hands them back, so that what a call does to them is one equation.
 
 ghost use mathlib.Core.Path.{_≡_};
 ghost use mathlib.Core.Bool.{_&&_, true};
-ghost use mathlib.Core.List.{[], _∷_, _++_};
 ghost use Prim.Native.Nat.{_^_, _<_};
 ghost use Rattle.spec.specs.Numbers.{pageUp};
-ghost use Rattle.spec.specs.Book.{valid, lives as livesOf, zeroProc, procAt, bssSegment, pageCount};
+ghost use Rattle.spec.specs.Book.{valid, lives as livesOf, zeroProc, procAt, bssSegment};
 ghost use Rattle.spec.specs.World.{setProc};
 use spec::Proc;
 use spec::Procs;
@@ -79,16 +78,4 @@ pub fn bss_segment(bss: VirtRange) -> UserSegment
         range: mem::range(start, end),
         perm: spec::DATA,
     }
-}
-
-// How many pages a record's segments and bss have. Unused places have none.
-pub fn own_pages(p: Proc) -> u64
-    requires { ⌜ pageUp (p .bss .start) < 2 ^ 64 ⌝ }
-    ensures { λ r. ⌜ r ≡ pageCount (p .segments ++ bssSegment (p .bss) ∷ []) ⌝ }
-{
-    let segments = p.segments;
-    let bss = p.bss;
-    let s = bss_segment(bss);
-    let r = s.range;
-    mem::page_count(segments, 16) + mem::pages(r)
 }

@@ -28,7 +28,7 @@ pub fn push(
 {
     let mut tags = [0u64; 272];
     let mut bases = [0u64; 273];
-    let mut table = [0u16; 1024];
+    let mut table = [0u16; 16384];
     let fits = args::lengths_fit(bytes, lengths);
     let e = front::numbers::plain_ready(
         setup,

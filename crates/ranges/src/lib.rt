@@ -3,7 +3,7 @@
 
 ghost use mathlib.Core.Path.{_≡_};
 ghost use mathlib.Core.List.{List};
-ghost use Prim.Native.Nat.{ℕ};
+ghost use Prim.Native.Nat.{ℕ, _≤_};
 ghost use Rattle.spec.specs.Numbers.{SetupOk, pageDown};
 ghost use Rattle.spec.specs.Book.{frameOf};
 ghost use Rattle.spec.specs.Frames.{memOf};
@@ -17,11 +17,11 @@ pub fn frame_at(
     book: &[u64],
     tags: &[u64; 272],
     bases: &[u64; 273],
-    table: &[u16; 1024],
+    table: &[u16; 16384],
     number: u64,
     va: u64,
 ) -> spec::Found
-    requires { ⌜ Ready (now book) (now tags) (now bases) (now table) ⌝ }
+    requires { ⌜ Ready (now book) (now tags) (now bases) (now table) × (1 ≤ number) × (number ≤ 16) ⌝ }
     ensures { λ r. ⌜ r ≡ foundOf (frameOf (now (book .entry)) number (pageDown va)) ⌝ }
 {
     sound::frame_at(tags, bases, table, number as usize, mem::page_down(va))
@@ -32,18 +32,19 @@ fn user_page_ok(
     book: &[u64],
     tags: &[u64; 272],
     bases: &[u64; 273],
-    table: &[u16; 1024],
+    table: &[u16; 16384],
     number: u64,
     va: u64,
     write: bool,
 ) -> bool
-    requires { ⌜ Ready (now book) (now tags) (now bases) (now table) ⌝ }
+    requires { ⌜ Ready (now book) (now tags) (now bases) (now table) × (1 ≤ number) × (number ≤ 16) ⌝ }
     ensures { λ r. ⌜ ((frames : List ℕ) → r ≡ cellOk write (memOf (store frames (now (book .entry))) number va)) ⌝ }
 {
     let spec::Found::At(k) = frame_at(book, tags, bases, table, number, va) else {
         return false;
     };
-    !write | (book::perm_of(book[k]) == spec::DATA)
+    let place = (number - 1) as usize;
+    !write | (book::perm_of(book[17 * k + place]) == spec::DATA)
 }
 
 // Whether user mode could make the access to every byte from `addr` up to `addr + len`. A range of no bytes is fine if it's within
@@ -53,13 +54,13 @@ pub fn user_range_ok(
     book: &[u64],
     tags: &[u64; 272],
     bases: &[u64; 273],
-    table: &[u16; 1024],
+    table: &[u16; 16384],
     number: u64,
     addr: u64,
     len: u64,
     write: bool,
 ) -> bool
-    requires { ⌜ Ready (now book) (now tags) (now bases) (now table) ⌝ }
+    requires { ⌜ Ready (now book) (now tags) (now bases) (now table) × (1 ≤ number) × (number ≤ 16) ⌝ }
     requires { ⌜ SetupOk setup ⌝ }
     ensures { λ r. ⌜ ((frames : List ℕ) → r ≡ userRangeOk setup (memOf (store frames (now (book .entry))) number) write addr len) ⌝ }
 {

@@ -17,4 +17,4 @@ use Rattle.enter.specs.declared.Entered.{Entered}
 pub data Became (setup : Setup) (m : Store) (p : Proc) (n : ℕ) (image name : List ℕ) (read : Argv) (left : Store) (r : Entered) : Type 0 where
   bad : read .error ≡ 35 → left ≡ freed m n → r .proc ≡ zeroProc → r .answer ≡ Ended 35 → Became setup m p n image name read left r
   over : read .error ≡ 33 → left ≡ m → r .proc ≡ p → r .answer ≡ Refused 33 → Became setup m p n image name read left r
-  fine : read .error ≡ 0 → left ≡ entered setup m p n image (read .args) → r .proc ≡ next setup m p image name → r .answer ≡ entering setup m p image (read .args) → Became setup m p n image name read left r
+  fine : read .error ≡ 0 → left ≡ entered setup m n image (read .args) → r .proc ≡ next setup m n image name → r .answer ≡ entering setup m n image (read .args) → Became setup m p n image name read left r

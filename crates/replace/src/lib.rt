@@ -27,7 +27,7 @@ fn enter_argv(
     book: &mut [u64],
     tags: &[u64; 272],
     bases: &[u64; 273],
-    table: &[u16; 1024],
+    table: &[u16; 16384],
     p: Proc,
     number: u64,
     image: &[u8],
@@ -36,7 +36,7 @@ fn enter_argv(
     argv: u64,
 ) -> Entered
     requires { ⌜ Ready (now book) (now tags) (now bases) (now table) ⌝ }
-    requires { ⌜ Enterable setup (store (now frames) (now book)) p number (now image) plan ⌝ }
+    requires { ⌜ Enterable setup (store (now frames) (now book)) number (now image) plan ⌝ }
     ensures { λ r. ⌜ Became setup (store (now (frames .entry)) (now (book .entry))) p number (now (image .entry)) (now (name .entry)) (copyArgv setup (memOf (store (now (frames .entry)) (now (book .entry))) number) argv) (store (now (frames .exit)) (now (book .exit))) r ⌝ }
 {
     let mut buf = [0u8; args_into::BUFFER_SIZE];
@@ -52,7 +52,7 @@ fn enter_argv(
         &mut buf,
     );
     if read.error == spec::BAD_ADDRESS {
-        book::release_owner(book, number);
+        book::release_owner(book, number as usize);
         return Entered {
             proc: front::record::zero_proc(),
             answer: Answer::Ended(spec::BAD_ADDRESS),
@@ -71,7 +71,6 @@ fn enter_argv(
         setup,
         frames,
         book,
-        p,
         number,
         image,
         plan,
@@ -84,8 +83,8 @@ fn enter_argv(
 
 // Replaces the program of process `number` by an image, with the last element of `name` as its name and with the arguments that the
 // array of pointers at user address `argv` points to. Refused with 1, 38 or 2 to 4, with 30 or 31 for its image, or with 33 for its
-// arguments, it changes nothing. A bad address among the arguments, 35, ends the process, and so does 33 if its own and the free
-// frames don't hold the image's pages.
+// arguments, it changes nothing. A bad address among the arguments, 35, ends the process, and so does 33 if the frames that
+// it holds alone and the free ones don't hold the image's pages.
 pub fn replace(
     setup: Setup,
     frames: &mut [u8],
@@ -100,7 +99,7 @@ pub fn replace(
 {
     let mut tags = [0u64; 272];
     let mut bases = [0u64; 273];
-    let mut table = [0u16; 1024];
+    let mut table = [0u16; 16384];
     let e = front::numbers::plain_ready(
         setup,
         frames,

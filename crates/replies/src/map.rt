@@ -1,11 +1,12 @@
 // The table of a process: its name, its segments and its bss, each with its pages, and how many pages there are. All lines but the
-// first begin with a space. It shows where each page lies, with a torn book too.
+// first begin with a space. It shows where each page lies and who holds its frame, with a torn book too.
+ghost use Prim.Native.Nat.{_+_, _*_, _<_};
+ghost use lib.ListN.{length};
 use crate::answers::put_answer;
 use crate::texts::put;
 use crate::texts::put_named;
 use buffers::room::part;
 use spec::Answer;
-use spec::Found;
 use spec::VirtRange;
 
 // Writes a space and a name without the zeros at its end, with dots for what is no sign; nothing for no name.
@@ -27,27 +28,37 @@ fn put_name(name: [u8; 28]) {
     }
 }
 
-// The first frame of a process's page, in a book that may be torn.
-fn frame_of(book: &[u64], number: u64, page: u64) -> Found {
-    let mut i = 0;
-    while i < book.len() {
-        let w = book[i];
-        if (book::page_of(w) == page) & (book::owner_of(w) == number) {
-            return Found::At(i);
-        }
+// Writes the holders of frame `k`: the numbers of its places that are not 0.
+fn put_holders(book: &[u64], k: usize)
+    requires { ⌜ 17 * k + 16 < length (now book) ⌝ }
+{
+    put(b" holders");
+    let mut i: usize = 0;
+    while i < 16 {
+        let w = book[17 * k + i];
         i += 1;
+        if w != 0 {
+            put_named(b" ", i as u64);
+        }
     }
-    Found::Nothing
 }
 
-// Writes the line of a page: its address and its frame.
+// Writes the line of a page: its address, and the first frame that has it in its process's place, with the frame's holders.
 fn put_page(book: &[u64], number: u64, page: u64) {
+    let place = (std::num::wrapping_sub_u64(number, 1) % 16) as usize;
+    let frames = book.len() / 17;
     put_named(b"\n    page ", page);
-    let found = frame_of(book, number, page);
-    match found {
-        Found::At(i) => put_named(b" frame ", i as u64),
-        Found::Nothing => put(b" frame none"),
+    let mut k = 0;
+    while k < frames {
+        let w = book[17 * k + place];
+        if (book::page_of(w) == page) & (book::owner_of(w) == number) {
+            put_named(b" frame ", k as u64);
+            put_holders(book, k);
+            return;
+        }
+        k += 1;
     }
+    put(b" frame none");
 }
 
 // Writes the lines of a range's pages, and answers how many there are.

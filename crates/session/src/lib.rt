@@ -10,7 +10,7 @@ use spec::Setup;
 // The program's buffers of frames' bytes and of words of their book.
 pub const FRAME_BYTES: usize = 4096;
 
-pub const BOOK_WORDS: usize = 1;
+pub const BOOK_WORDS: usize = 17;
 
 pub const FRAMES_SIZE: usize = FRAMES_MAX * FRAME_BYTES;
 

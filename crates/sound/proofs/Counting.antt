@@ -1,14 +1,11 @@
--- Counting: numbers that pass a test are as many as a list of them, without repetition, is long; and free frames are the others.
-use Prim.Native.Nat.{ℕ, zero, suc, _+_, _-_, _<_, _≤_}
+-- Counting: numbers that pass a test are as many as a list of them, without repetition, is long.
+use Prim.Native.Nat.{ℕ, zero, suc, _+_, _<_, _≤_}
 use native.Mathlib.Omega.{arith}
 use mathlib.Core.Path.{_≡_, refl, sym, ap, _∙_}
-use mathlib.Core.Bool.{Bool, true, false, not}
-use mathlib.Core.List.{List, [], _∷_}
+use mathlib.Core.Bool.{Bool, true, false}
 use lib.Dec.{eqb}
-use lib.ListN.{length, getD}
 use borrow.Author.Tests.{eqb-true, eqb-false, eq-eqb, ne-eqb}
-use Rattle.spec.specs.Tests.{_is_, _isnt_, _⇒_else_}
-use Rattle.spec.specs.Book.{free}
+use Rattle.spec.specs.Tests.{_is_, _⇒_else_}
 use Rattle.spec.proofs.Bools.{split, clash}
 
 -- how many numbers below n pass
@@ -16,22 +13,10 @@ unfoldable pub count : (ℕ → Bool) → ℕ → ℕ
 count t zero = 0
 count t (suc n) = t n ⇒ count t n + 1 else count t n
 
-count-first : (t : ℕ → Bool) (n : ℕ) → count t (suc n) ≡ (t 0 ⇒ count (λ k. t (suc k)) n + 1 else count (λ k. t (suc k)) n)
+pub count-le : (t : ℕ → Bool) (n : ℕ) → count t n ≤ n
 unfolding count
-count-first t zero = refl
-count-first t (suc n) =
-    split (t (suc n))
-    (λ q. rw (q, count-first t n) (split (t 0) (λ z. rw z refl) (λ z. rw z refl)))
-    (λ q. rw (q, count-first t n) (split (t 0) (λ z. rw z refl) (λ z. rw z refl)))
-
--- frames are free or used
-pub free-used : (book : List ℕ) → free book + count (λ k. getD book k 0 isnt 0) (length book) ≡ length book
-unfolding count
-free-used [] = refl
-free-used (w ∷ ws) =
-    let r = free-used ws in
-    rw (count-first (λ k. getD (w ∷ ws) k 0 isnt 0) (length ws))
-    (split (w is 0) (λ q. rw q (omega arith)) (λ q. rw q (omega arith)))
+count-le t zero = omega arith
+count-le t (suc n) = let h = count-le t n in split (t n) (λ q. rw q (omega arith)) (λ q. rw q (omega arith))
 
 -- f lists what passes below N, without repetition and without omission
 pub record Lists (t : ℕ → Bool) (N T : ℕ) (f : ℕ → ℕ) : Type 0 where

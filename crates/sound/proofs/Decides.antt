@@ -1,71 +1,73 @@
 -- The check decides soundness: what the pass finds tells that the book is sound, and a sound book passes.
-use Prim.Native.Nat.{ℕ, zero, suc, _+_, _-_, _*_, _/_, _%_, _<_, _≤_}
+use Prim.Native.Nat.{ℕ, _+_, _-_, _*_, _/_, _%_, _<_, _≤_}
 use native.Mathlib.Omega.{arith}
 use mathlib.Core.Path.{_≡_, refl, sym, ap, subst, _∙_}
 use mathlib.Core.Bool.{Bool, true, false, not}
 use mathlib.Core.Option.{Option, none, some}
 use mathlib.Core.List.{List}
-use lib.Dec.{ltb}
-use lib.ListN.{length, getD, replicate}
-use borrow.Author.Tests.{ltb-true, ltb-false, eqb-false, ne-eqb, not-true}
+use lib.ListN.{length, getD}
+use borrow.Author.Tests.{eqb-false, ne-eqb, not-true}
 use Rattle.spec.specs.Tests.{_is_, _isnt_, all, allBelow}
-use Rattle.spec.specs.Book.{wordOf, pageOf, ownerOf, permOf, valid, frameOf, permIn, bookPerm, free, zeroSegment, zeroProc, lives, permAt, procAt, piecesOf}
+use Rattle.spec.specs.Book.{wordOf, pageOf, ownerOf, permOf, valid, frameCount, mapping, frameOf, permIn, bookPerm, zeroSegment, zeroProc, permAt, procAt, piecesOf}
 use Rattle.spec.specs.Numbers.{SetupOk}
-use Rattle.spec.specs.Sound.{soundBook, Word, Sound}
+use Rattle.spec.specs.Sound.{soundBook, Word, Mappings, Sound}
 use Rattle.spec.specs.declared.Setup.{Setup}
-use Rattle.spec.specs.declared.UserSegment.{UserSegment}
 use Rattle.spec.specs.declared.Proc.{Proc}
 use Rattle.spec.specs.declared.Procs.{Procs}
-use Rattle.spec.proofs.Bools.{split, all-at, all-test, below-at, below-test, within-test}
-use Rattle.spec.proofs.Words.{unpack, repack}
-use Rattle.laws.proofs.Record.{Whole, WholeProc}
+use Rattle.spec.proofs.Bools.{all-at, all-test, below-at, below-test, within-test}
+use Rattle.spec.proofs.Words.{unpack, repack, used-word}
+use Rattle.laws.proofs.Record.{Whole}
 use Rattle.laws.proofs.Lists.{by-order}
-use Rattle.laws.proofs.Frame.{Owns, frame-found, frame-none, frame-perm, Once, once-means, once-words, frame-is}
-use Rattle.laws.proofs.Owned.{valid-means, valid-test, in-range}
-use Rattle.laws.proofs.Exact.{some-none}
+use Rattle.laws.proofs.Frame.{frame-found, frame-none, frame-perm, once-means, frame-is}
+use Rattle.laws.proofs.Owned.{valid-means, valid-test}
 use Rattle.laws.proofs.Facts.{sound-facts, facts-sound, sound-between}
 use Rattle.records.specs.Records.{passes}
-use Rattle.plan.specs.Plan.{rank, nth, Plan, LaidAll}
-use Rattle.table.specs.Table.{frameWith, entry, Planned, Tabled, marked}
-use Rattle.sound.proofs.Counting.{count, free-used, Lists, counted}
+use Rattle.plan.specs.Plan.{hits, rank, nth, LaidAll}
+use Rattle.table.specs.Table.{placeAt, placeWith, entry, Planned, Tabled, FramedAll, marked}
+use Rattle.sound.proofs.Counting.{count-le, Lists, counted}
 use Rattle.plan.proofs.Within.{rank-below, rank-word}
+use Rattle.lookup.proofs.Entries.{place-of}
 use Rattle.table.proofs.Pass.{with-found, with-missing, entry-none, option-some}
 use Rattle.plan.proofs.Parts.{each-made, parts-of, place-gives}
 use Rattle.plan.proofs.Passing.{Mapped, shape-pass, pass-shape}
-use Rattle.sound.proofs.Planning.{Made, base-total, rank-hits, rank-good, rank-gives, gives-rank, nth-apart, plan}
+use Rattle.sound.proofs.Planning.{Good, Made, base-total, rank-hits, rank-good, rank-gives, gives-rank, nth-apart, plan}
 
--- ---- used frames are as many as ranks
+-- ---- places in use are as many as ranks
 
--- each rank's word stands in the book, and the book's words are ranks' words, each once
-pub record Matched (b : List ℕ) (word : ℕ → ℕ) (T : ℕ) : Type 0 where
+-- each rank's word stands in a place, and the places' words are ranks' words, each once
+pub record Matched (b : List ℕ) (word : ℕ → ℕ) (N T : ℕ) : Type 0 where
   pub apart : (t u : ℕ) → t < T → u < T → word t ≡ word u → t ≡ u
   pub some : (t : ℕ) → t < T → word t ≡ 0 → ⊥
-  pub full : (t : ℕ) → t < T → frameWith b (length b) (word t) ≡ none → ⊥
-  pub fits : (i : ℕ) → (getD b i 0 ≡ 0 → ⊥) → (t : ℕ) × (t < T) × (word t ≡ getD b i 0)
-  pub once : (i j : ℕ) → (getD b i 0 ≡ 0 → ⊥) → getD b i 0 ≡ getD b j 0 → i ≡ j
+  pub full : (t : ℕ) → t < T → placeWith b N (word t) ≡ none → ⊥
+  pub fits : (i : ℕ) → i < N → (placeAt b i ≡ 0 → ⊥) → (t : ℕ) × (t < T) × (word t ≡ placeAt b i)
+  pub once : (i j : ℕ) → i < N → j < N → (placeAt b i ≡ 0 → ⊥) → placeAt b i ≡ placeAt b j → i ≡ j
 
-pub free-matched : (b : List ℕ) (word : ℕ → ℕ) (T : ℕ) → Matched b word T → free b + T ≡ length b
-free-matched b word T m = omega (arith, free-used b, counted (λ k. getD b k 0 isnt 0) (length b) T frame lists)
+pub few-matched : (b : List ℕ) (word : ℕ → ℕ) (N T : ℕ) → Matched b word N T → T ≤ N
+few-matched b word N T m = omega (arith, counted (λ k. placeAt b k isnt 0) N T place lists, count-le (λ k. placeAt b k isnt 0) N)
   where
-    frame : ℕ → ℕ
-    frame t = entry (frameWith b (length b) (word t)) - 1
+    index : Option ℕ → ℕ
+    index none = 0
+    index (some i) = i
 
-    holds : (t : ℕ) → t < T → (frame t < length b) × (getD b (frame t) 0 ≡ word t)
+    place : ℕ → ℕ
+    place t = index (placeWith b N (word t))
+
+    holds : (t : ℕ) → t < T → (place t < N) × (placeAt b (place t) ≡ word t)
     holds t h =
-        let o = option-some (frameWith b (length b) (word t)) (m .full t h) in
-        let f = with-found b (word t) (length b) (o .0) (o .1) in
-        let e : o .0 ≡ frame t = (let d : o .0 ≡ o .0 + 1 - 1 = omega arith in d ∙ ap (λ (x : Option ℕ). entry x - 1) (sym (o .1))) in
+        let o = option-some (placeWith b N (word t)) (m .full t h) in
+        let f = with-found b (word t) N (o .0) (o .1) in
+        let e : o .0 ≡ place t = ap index (sym (o .1)) in
         rw e at f
 
-    lists : Lists (λ k. getD b k 0 isnt 0) (length b) T frame
+    lists : Lists (λ k. placeAt b k isnt 0) N T place
     lists = record {
       below = λ t h. holds t h .0;
-      pass = λ t h. ap not (ne-eqb (getD b (frame t) 0) 0 (λ z. m .some t h (sym (holds t h .1) ∙ z)));
-      apart = λ t u h l e. m .apart t u h l (sym (holds t h .1) ∙ ap (λ (i : ℕ). getD b i 0) e ∙ holds u l .1);
+      pass = λ t h. ap not (ne-eqb (placeAt b (place t)) 0 (λ z. m .some t h (sym (holds t h .1) ∙ z)));
+      apart = λ t u h l e. m .apart t u h l (sym (holds t h .1) ∙ ap (placeAt b) e ∙ holds u l .1);
       onto = λ i h p.
-          let nz = eqb-false (getD b i 0) 0 (not-true _ p) in
-          let r = m .fits i nz in
-          (r .0, r .1, sym (m .once i (frame (r .0)) nz (sym (r .2) ∙ sym (holds (r .0) (r .1) .1))));
+          let nz = eqb-false (placeAt b i) 0 (not-true _ p) in
+          let r = m .fits i h nz in
+          (r .0, r .1, sym (m .once i (place (r .0)) h (holds (r .0) (r .1) .0) nz (sym (r .2) ∙ sym (holds (r .0) (r .1) .1))));
     }
 
 -- ---- records that a sound book goes with pass
@@ -89,111 +91,172 @@ records-of {setup} b ps w s = all-test (passes setup) zeroProc (ps .all) (λ k h
 -- ---- against a plan that is laid
 
 module _ {setup : Setup} {ps : Procs} {tags bases : List ℕ} {total : ℕ} (m : Made setup ps tags bases total) (b : List ℕ) where
+  abbrev N : ℕ
+  N = 16 * frameCount b
+
   abbrev Full : Type 0
-  Full = (t : ℕ) → t < getD bases 272 0 → frameWith b (length b) (nth tags bases t) ≡ none → ⊥
+  Full = (t : ℕ) → t < getD bases 272 0 → placeWith b (16 * frameCount b) (nth tags bases t) ≡ none → ⊥
 
   abbrev Ranked : ℕ → Type 0
   Ranked w = (t : ℕ) × (t < getD bases 272 0) × (nth tags bases t ≡ w)
 
   -- what the pass finds tells that the book is sound
-  module _ (most : total ≤ 1024) (planned : Planned b tags bases (length b)) (full : Full) where
-    ranked : (i : ℕ) → (getD b i 0 ≡ 0 → ⊥) → Ranked (getD b i 0)
-    ranked i nz =
-        let f = planned .fits i (in-range b i nz) nz in
+  module _ (most : total ≤ 16384) (planned : Planned b tags bases (16 * frameCount b)) (framed : FramedAll b (frameCount b)) (full : Full) where
+    -- of a mapping
+    index : (k n : ℕ) → k < frameCount b → valid n ≡ true → 16 * k + (n - 1) < 16 * frameCount b
+    index k n l v = omega (arith, valid-means n v .0, valid-means n v .1)
+
+    is-place : (k n : ℕ) → valid n ≡ true → placeAt b (16 * k + (n - 1)) ≡ mapping b k n
+    is-place k n v = place-of b k n (valid-means n v .0) (valid-means n v .1)
+
+    ranked : (k n : ℕ) → k < frameCount b → valid n ≡ true → ¬ (mapping b k n ≡ 0) → Ranked (mapping b k n)
+    ranked k n l v nz =
+        let e = is-place k n v in
+        let f = planned .fits (16 * k + (n - 1)) (index k n l v) (λ z. nz (sym e ∙ z)) in
+        let h : hits tags bases (mapping b k n) (f .0) ≡ true = subst (λ (x : ℕ). hits tags bases x (f .0) ≡ true) e (f .2) in
         let p = plan m most in
-        (rank tags bases (getD b i 0) (f .0), rank-below tags bases p (getD b i 0) (f .0) (f .1) (f .2), rank-word tags bases p (getD b i 0) (f .0) (f .1) (f .2))
+        (rank tags bases (mapping b k n) (f .0), rank-below tags bases p (mapping b k n) (f .0) (f .1) h, rank-word tags bases p (mapping b k n) (f .0) (f .1) h)
 
-    good : (i : ℕ) → (getD b i 0 ≡ 0 → ⊥) → Word setup (getD b i 0)
-    good i nz = let r = ranked i nz in subst (Word setup) (r .2) (rank-good m (r .0) (r .1))
+    own : (k n : ℕ) → k < frameCount b → valid n ≡ true → ¬ (mapping b k n ≡ 0) → ownerOf (mapping b k n) ≡ n
+    own k n l v nz = framed k l .owner n v nz
 
-    gives : (i : ℕ) → (getD b i 0 ≡ 0 → ⊥) → permAt (piecesOf (procAt ps (ownerOf (getD b i 0)))) (pageOf (getD b i 0)) ≡ some (permOf (getD b i 0))
-    gives i nz = let r = ranked i nz in subst (λ (w : ℕ). permAt (piecesOf (procAt ps (ownerOf w))) (pageOf w) ≡ some (permOf w)) (r .2) (rank-gives m (r .0) (r .1))
+    good : (k n : ℕ) → k < frameCount b → valid n ≡ true → ¬ (mapping b k n ≡ 0) → Word setup n (mapping b k n)
+    good k n l v nz =
+        let r = ranked k n l v nz in
+        let g = subst (Good setup) (r .2) (rank-good m (r .0) (r .1)) in
+        record { owner = own k n l v nz; perm = g .perm; page = g .page }
 
-    same-word : (i j : ℕ) → (getD b i 0 ≡ 0 → ⊥) → (getD b j 0 ≡ 0 → ⊥) → getD b i 0 ≡ getD b j 0 → i ≡ j
-    same-word i j u v e =
+    gives : (k n : ℕ) → k < frameCount b → valid n ≡ true → ¬ (mapping b k n ≡ 0) → permAt (piecesOf (procAt ps n)) (pageOf (mapping b k n)) ≡ some (permOf (mapping b k n))
+    gives k n l v nz =
+        let r = ranked k n l v nz in
+        let g = subst (λ (w : ℕ). permAt (piecesOf (procAt ps (ownerOf w))) (pageOf w) ≡ some (permOf w)) (r .2) (rank-gives m (r .0) (r .1)) in
+        subst (λ (o : ℕ). permAt (piecesOf (procAt ps o)) (pageOf (mapping b k n)) ≡ some (permOf (mapping b k n))) (own k n l v nz) g
+
+    -- no word stands twice
+    same-index : (i j : ℕ) → i < 16 * frameCount b → j < 16 * frameCount b → (placeAt b i ≡ 0 → ⊥) → placeAt b i ≡ placeAt b j → i ≡ j
+    same-index i j li lj u e =
         by-order i j
-        (λ l. absurd (planned .once i j l (in-range b j v) u e))
-        (λ g. by-order j i (λ l. absurd (planned .once j i l (in-range b i u) v (sym e))) (λ h. omega arith))
+        (λ l. absurd (planned .once i j l lj u e))
+        (λ g. by-order j i (λ l. absurd (planned .once j i l li (λ z. u (e ∙ z)) (sym e))) (λ h. omega arith))
 
     -- an owner's page has one permission, so one word
-    owned : (n page i : ℕ) → Owns n page (getD b i 0) → permAt (piecesOf (procAt ps n)) page ≡ some (permOf (getD b i 0))
-    owned n page i o = rw (o .owner, o .page) at (gives i (o .used))
+    once : (n j k : ℕ) → valid n ≡ true → j < frameCount b → k < frameCount b → ¬ (mapping b j n ≡ 0) → ¬ (mapping b k n ≡ 0) → pageOf (mapping b j n) ≡ pageOf (mapping b k n) → j ≡ k
+    once n j k v lj lk uj uk p =
+        let q : some (permOf (mapping b j n)) ≡ some (permOf (mapping b k n)) = sym (gives j n lj v uj) ∙ ap (permAt (piecesOf (procAt ps n))) p ∙ gives k n lk v uk in
+        let r : permOf (mapping b j n) ≡ permOf (mapping b k n) = cc in
+        let w : mapping b j n ≡ mapping b k n = one-word (mapping b j n) (mapping b k n) (own j n lj v uj ∙ sym (own k n lk v uk)) p r in
+        let e = same-index (16 * j + (n - 1)) (16 * k + (n - 1)) (index j n lj v) (index k n lk v) (λ z. uj (sym (is-place j n v) ∙ z)) (is-place j n v ∙ w ∙ sym (is-place k n v)) in
+        omega (arith, e)
+      where
+        one-word : (x y : ℕ) → ownerOf x ≡ ownerOf y → pageOf x ≡ pageOf y → permOf x ≡ permOf y → x ≡ y
+        one-word x y o p q = repack x ∙ ap (λ (a : ℕ). wordOf a (ownerOf x) (permOf x)) p ∙ ap (λ (a : ℕ). wordOf (pageOf y) a (permOf x)) o ∙ ap (wordOf (pageOf y) (ownerOf y)) q ∙ sym (repack y)
 
-    once : Once b
-    once n page i j o p =
-        let q : some (permOf (getD b i 0)) ≡ some (permOf (getD b j 0)) = sym (owned n page i o) ∙ owned n page j p in
-        let r : permOf (getD b i 0) ≡ permOf (getD b j 0) = cc in
-        same-word i j (o .used) (p .used) (omega (arith, o .owner, o .page, p .owner, p .page, r))
+    mappings : Mappings setup b
+    mappings = record { words = good; once = once; beside = λ k p q l. framed k l .beside p q; counts = λ k l. framed k l .count }
 
     exact : (n page : ℕ) → valid n ≡ true → page % 4096 ≡ 0 → bookPerm b n page ≡ permAt (piecesOf (procAt ps n)) page
     exact n page v al = go (frameOf b n page) refl (permAt (piecesOf (procAt ps n)) page) refl
       where
         go : (f : Option ℕ) → frameOf b n page ≡ f → (o : Option ℕ) → permAt (piecesOf (procAt ps n)) page ≡ o → bookPerm b n page ≡ permAt (piecesOf (procAt ps n)) page
-        go none e none h = ap (permIn b) e ∙ sym h
+        go none e none h = ap (permIn b n) e ∙ sym h
         go none e (some q) h =
             let t = gives-rank m n page q v al h in
-            let o = option-some (frameWith b (length b) (nth tags bases (t .0))) (full (t .0) (t .1)) in
-            let w : getD b (o .0) 0 ≡ wordOf page n q = with-found b (nth tags bases (t .0)) (length b) (o .0) (o .1) .1 ∙ t .2 in
+            let o = option-some (placeWith b (16 * frameCount b) (nth tags bases (t .0))) (full (t .0) (t .1)) in
+            let f = with-found b (nth tags bases (t .0)) (16 * frameCount b) (o .0) (o .1) in
+            let w : placeAt b (o .0) ≡ wordOf page n q = f .1 ∙ t .2 in
             let u = unpack page n q al (omega (arith, valid-means n v .1)) (omega (arith, t .3)) in
-            absurd (frame-none b n page e (o .0) (record { used = λ z. omega (arith, w, valid-means n v .0); owner = ap ownerOf w ∙ u .1; page = ap pageOf w ∙ u .0 }))
-        go (some k) e o h = ap (permIn b) e ∙ sym (owned n page k (frame-found b n page k e .1))
+            let l : o .0 / 16 < frameCount b = omega (arith, f .0) in
+            let nz : placeAt b (o .0) ≡ 0 → ⊥ = λ z. used-word page n q (valid-means n v .0) (sym w ∙ z) in
+            let at : o .0 % 16 + 1 ≡ n = sym (own (o .0 / 16) (o .0 % 16 + 1) l (valid-test (o .0 % 16 + 1) (omega arith) (omega arith)) nz) ∙ ap ownerOf w ∙ u .1 in
+            let w′ : mapping b (o .0 / 16) n ≡ wordOf page n q = ap (mapping b (o .0 / 16)) (sym at) ∙ w in
+            absurd (frame-none b n page e (o .0 / 16) l (record { used = λ z. used-word page n q (valid-means n v .0) (sym w′ ∙ z); owner = ap ownerOf w′ ∙ u .1; page = ap pageOf w′ ∙ u .0 }))
+        go (some k) e o h =
+            let f = frame-found b n page k e in
+            ap (permIn b n) e ∙ sym (gives k n (f .0) v (f .1 .used)) ∙ ap (permAt (piecesOf (procAt ps n))) (f .1 .page)
 
     pub tells : Sound setup b ps
-    tells = record { accepted = m .accepted; words = good; once = once-words b (λ k nz. good k nz .owner .0) once; shape = λ n v. pass-shape setup (procAt ps n) (m .whole .each (n - 1)) (m .ok n v); exact = exact }
+    tells = record { accepted = m .accepted; mappings = mappings; shape = λ n v. pass-shape setup (procAt ps n) (m .whole .each (n - 1)) (m .ok n v); exact = exact }
 
   -- and a sound book passes
   module _ (s : Sound setup b ps) where
-    word-rank : (i : ℕ) → (getD b i 0 ≡ 0 → ⊥) → Ranked (getD b i 0)
-    word-rank i nz =
-        let w : ℕ = getD b i 0 in
-        let g = s .words i nz in
-        let v = valid-test (ownerOf w) (g .owner .0) (g .owner .1) in
-        let e : permAt (piecesOf (procAt ps (ownerOf w))) (pageOf w) ≡ some (permOf w) = sym (s .exact (ownerOf w) (pageOf w) v (omega arith)) ∙ ap (permIn b) (frame-is b (ownerOf w) (pageOf w) i (once-means b (s .once)) (record { used = nz; owner = refl; page = refl })) in
-        let r = gives-rank m (ownerOf w) (pageOf w) (permOf w) v (omega arith) e in
-        (r .0, r .1, r .2 ∙ sym (repack w))
+    h : Mappings setup b
+    h = s .mappings
 
-    pub planned-of : Planned b tags bases (length b)
+    num : (i : ℕ) → valid (i % 16 + 1) ≡ true
+    num i = valid-test (i % 16 + 1) (omega arith) (omega arith)
+
+    low : (i : ℕ) → i < 16 * frameCount b → i / 16 < frameCount b
+    low i l = omega arith
+
+    word-rank : (i : ℕ) → i < 16 * frameCount b → (placeAt b i ≡ 0 → ⊥) → Ranked (placeAt b i)
+    word-rank i l nz = go (i / 16) (i % 16 + 1) (low i l) (num i) nz
+      where
+        go : (k n : ℕ) → k < frameCount b → valid n ≡ true → ¬ (mapping b k n ≡ 0) → Ranked (mapping b k n)
+        go k n l v nz =
+            let w : ℕ = mapping b k n in
+            let g = h .words k n l v nz in
+            let e : permAt (piecesOf (procAt ps n)) (pageOf w) ≡ some (permOf w) = sym (s .exact n (pageOf w) v (omega arith)) ∙ ap (permIn b n) (frame-is b n (pageOf w) k (once-means b h n v) l (record { used = nz; owner = g .owner; page = refl })) in
+            let r = gives-rank m n (pageOf w) (permOf w) v (omega arith) e in
+            (r .0, r .1, r .2 ∙ ap (λ (o : ℕ). wordOf (pageOf w) o (permOf w)) (sym (g .owner)) ∙ sym (repack w))
+
+    one-place : (i j : ℕ) → i < 16 * frameCount b → j < 16 * frameCount b → (placeAt b i ≡ 0 → ⊥) → placeAt b i ≡ placeAt b j → i ≡ j
+    one-place i j li lj u e =
+        let uj : placeAt b j ≡ 0 → ⊥ = λ z. u (e ∙ z) in
+        let n : i % 16 + 1 ≡ j % 16 + 1 = sym (h .words (i / 16) (i % 16 + 1) (low i li) (num i) u .owner) ∙ ap ownerOf e ∙ h .words (j / 16) (j % 16 + 1) (low j lj) (num j) uj .owner in
+        let ej : mapping b (j / 16) (i % 16 + 1) ≡ placeAt b j = ap (mapping b (j / 16)) n in
+        let k : i / 16 ≡ j / 16 = h .once (i % 16 + 1) (i / 16) (j / 16) (num i) (low i li) (low j lj) u (λ z. uj (sym ej ∙ z)) (ap pageOf (e ∙ sym ej)) in
+        both-same i j k n
+      where
+        both-same : (i j : ℕ) → i / 16 ≡ j / 16 → i % 16 + 1 ≡ j % 16 + 1 → i ≡ j
+        both-same i j p q = omega arith
+
+    pub planned-of : Planned b tags bases (16 * frameCount b)
     planned-of = record {
-      fits = λ i h u.
-          let r = word-rank i u in
+      fits = λ i l u.
+          let r = word-rank i l u in
           let k = rank-hits m (r .0) (r .1) in
-          (k .0, k .1, rw (r .2) at (k .2));
-      once = λ i j l h u e. let x = s .once i j u (ap ownerOf e) (ap pageOf e) in omega arith;
+          (k .0, k .1, subst (λ (x : ℕ). hits tags bases x (k .0) ≡ true) (r .2) (k .2));
+      once = λ i j l lj u e. let x = one-place i j (omega arith) lj u e in omega arith;
     }
+
+    pub framed-of : FramedAll b (frameCount b)
+    framed-of k l = record { owner = λ n v nz. h .words k n l v nz .owner; beside = λ p q. h .beside k p q l; count = h .counts k l }
 
     pub full-of : Full
-    full-of t h z =
+    full-of t ht z =
         let w : ℕ = nth tags bases t in
-        let g = rank-good m t h in
-        let v = valid-test (ownerOf w) (g .owner .0) (g .owner .1) in
-        let e : bookPerm b (ownerOf w) (pageOf w) ≡ some (permOf w) = s .exact (ownerOf w) (pageOf w) v (omega arith) ∙ rank-gives m t h in
-        let k = frame-perm b (ownerOf w) (pageOf w) (permOf w) e in
-        let f = frame-found b (ownerOf w) (pageOf w) (k .0) (k .1) in
-        let q : some (permOf (getD b (k .0) 0)) ≡ some (permOf w) = sym (ap (permIn b) (k .1)) ∙ e in
-        let r : permOf (getD b (k .0) 0) ≡ permOf w = cc in
-        with-missing b w (length b) (k .0) (f .0) (omega (arith, f .1 .owner, f .1 .page, r)) z
+        let g = rank-good m t ht in
+        let n : ℕ = ownerOf w in
+        let v = valid-test n (g .owner .0) (g .owner .1) in
+        let e : bookPerm b n (pageOf w) ≡ some (permOf w) = s .exact n (pageOf w) v (omega arith) ∙ rank-gives m t ht in
+        let k = frame-perm b n (pageOf w) (permOf w) e in
+        let f = frame-found b n (pageOf w) (k .0) (k .1) in
+        let q : some (permOf (mapping b (k .0) n)) ≡ some (permOf w) = sym (ap (permIn b n) (k .1)) ∙ e in
+        let r : permOf (mapping b (k .0) n) ≡ permOf w = cc in
+        let same : mapping b (k .0) n ≡ w = repack (mapping b (k .0) n) ∙ ap (λ (a : ℕ). wordOf a (ownerOf (mapping b (k .0) n)) (permOf (mapping b (k .0) n))) (f .1 .page) ∙ ap (λ (a : ℕ). wordOf (pageOf w) a (permOf (mapping b (k .0) n))) (f .1 .owner) ∙ ap (wordOf (pageOf w) n) r ∙ sym (repack w) in
+        with-missing b w (16 * frameCount b) (16 * k .0 + (n - 1)) (fewer (k .0) n (frameCount b) (f .0) (g .owner .0) (g .owner .1)) (place-of b (k .0) n (g .owner .0) (g .owner .1) ∙ same) z
+      where
+        fewer : (k n c : ℕ) → k < c → 1 ≤ n → n ≤ 16 → 16 * k + (n - 1) < 16 * c
+        fewer k n c l a d = omega arith
 
-    matched-of : Matched b (nth tags bases) (getD bases 272 0)
-    matched-of = record {
+    -- there are no more pages than places
+    pub total-of : total ≤ 16 * frameCount b
+    total-of = rw (base-total m) at (few-matched b (nth tags bases) (16 * frameCount b) (getD bases 272 0) (record {
       apart = nth-apart m;
-      some = λ t h z. omega (arith, ap ownerOf z, rank-good m t h .owner .0);
+      some = λ t l z. omega (arith, ap ownerOf z, rank-good m t l .owner .0);
       full = full-of;
       fits = word-rank;
-      once = λ i j u e. s .once i j u (ap ownerOf e) (ap pageOf e);
-    }
-
-    -- there are no more pages than frames
-    pub total-of : total ≤ length b
-    total-of = omega (arith, free-matched b (nth tags bases) (getD bases 272 0) matched-of, base-total m)
+      once = one-place;
+    }))
 
 -- ---- the last test, of all ranks
 
-module _ (b tags bases table : List ℕ) (tab : Tabled b tags bases table (length b)) where
-  full-fact : allBelow (getD bases 272 0) (marked table) ≡ true → (t : ℕ) → t < getD bases 272 0 → frameWith b (length b) (nth tags bases t) ≡ none → ⊥
+module _ (b tags bases table : List ℕ) (tab : Tabled b tags bases table (16 * frameCount b)) where
+  full-fact : allBelow (getD bases 272 0) (marked table) ≡ true → (t : ℕ) → t < getD bases 272 0 → placeWith b (16 * frameCount b) (nth tags bases t) ≡ none → ⊥
   full-fact e t h z = eqb-false (getD table t 0) 0 (not-true _ (below-at (getD bases 272 0) (marked table) e t h)) (tab t h ∙ ap entry z)
 
-  full-test : ((t : ℕ) → t < getD bases 272 0 → frameWith b (length b) (nth tags bases t) ≡ none → ⊥) → allBelow (getD bases 272 0) (marked table) ≡ true
-  full-test f = below-test (getD bases 272 0) (marked table) (λ t h. ap not (ne-eqb (getD table t 0) 0 (λ z. f t h (entry-none (frameWith b (length b) (nth tags bases t)) (sym (tab t h) ∙ z)))))
+  full-test : ((t : ℕ) → t < getD bases 272 0 → placeWith b (16 * frameCount b) (nth tags bases t) ≡ none → ⊥) → allBelow (getD bases 272 0) (marked table) ≡ true
+  full-test f = below-test (getD bases 272 0) (marked table) (λ t h. ap not (ne-eqb (getD table t 0) 0 (λ z. f t h (entry-none (placeWith b (16 * frameCount b) (nth tags bases t)) (sym (tab t h) ∙ z)))))
 
 pub made : (setup : Setup) → SetupOk setup → (ps : Procs) → Whole ps → all (passes setup) (ps .all) ≡ true → (tags bases : List ℕ) (total : ℕ) → LaidAll ps tags bases total → Made setup ps tags bases total
 made setup ok ps w e tags bases total laid = record {
@@ -204,12 +267,12 @@ made setup ok ps w e tags bases total laid = record {
 }
 
 -- what it answers decides
-pub decided : {setup : Setup} (ps : Procs) (tags bases : List ℕ) (total : ℕ) → Made setup ps tags bases total → total ≤ 1024
-    → (b table : List ℕ) → Planned b tags bases (length b) → Tabled b tags bases table (length b) → (r : Bool) → r ≡ allBelow total (marked table)
+pub decided : {setup : Setup} (ps : Procs) (tags bases : List ℕ) (total : ℕ) → Made setup ps tags bases total → total ≤ 16384
+    → (b table : List ℕ) → Planned b tags bases (16 * frameCount b) → Tabled b tags bases table (16 * frameCount b) → FramedAll b (frameCount b) → (r : Bool) → r ≡ allBelow total (marked table)
     → (r ≡ true → Sound setup b ps) × (Sound setup b ps → r ≡ true)
-decided ps tags bases total m most b table planned tab r q =
+decided ps tags bases total m most b table planned tab framed r q =
     let d : total ≡ getD bases 272 0 = sym (base-total m) in (
-      λ x. tells m b most planned (full-fact b tags bases table tab (ap (λ (n : ℕ). allBelow n (marked table)) (sym d) ∙ sym q ∙ x)),
+      λ x. tells m b most planned framed (full-fact b tags bases table tab (ap (λ (n : ℕ). allBelow n (marked table)) (sym d) ∙ sym q ∙ x)),
       λ s. q ∙ ap (λ (n : ℕ). allBelow n (marked table)) d ∙ full-test b tags bases table tab (full-of m b s),
     )
 

@@ -1,22 +1,21 @@
 -- The plan that is laid: its ranks are exactly the pages that the records call for, and no two ranks have one page.
-use Prim.Native.Nat.{ℕ, zero, suc, _+_, _-_, _*_, _/_, _%_, _<_, _≤_}
+use Prim.Native.Nat.{ℕ, _+_, _-_, _*_, _/_, _%_, _<_, _≤_}
 use native.Mathlib.Omega.{arith}
-use mathlib.Core.Path.{_≡_, refl, sym, ap, subst, _∙_}
-use mathlib.Core.Bool.{Bool, true, false}
-use mathlib.Core.Option.{Option, none, some}
+use mathlib.Core.Path.{_≡_, refl, sym, ap, _∙_}
+use mathlib.Core.Bool.{true}
+use mathlib.Core.Option.{some}
 use mathlib.Core.List.{List}
-use lib.ListN.{length, getD}
+use lib.ListN.{getD}
 use borrow.Author.Tests.{eqb-true, eqb-false}
 use Rattle.spec.specs.Tests.{_is_}
 use Rattle.spec.specs.Book.{zeroSegment, wordOf, pageOf, ownerOf, permOf, valid, inSegment, permAt, procAt, piecesOf}
 use Rattle.spec.specs.Numbers.{SetupOk}
-use Rattle.spec.specs.Sound.{Word}
 use Rattle.spec.specs.declared.Setup.{Setup}
 use Rattle.spec.specs.declared.UserSegment.{UserSegment}
 use Rattle.spec.specs.declared.Procs.{Procs}
 use Rattle.spec.proofs.Bools.{split, within-means, within-test}
 use Rattle.laws.proofs.Lists.{Each}
-use Rattle.laws.proofs.Record.{Whole, WholeProc}
+use Rattle.laws.proofs.Record.{Whole}
 use Rattle.laws.proofs.Owned.{valid-means, valid-test}
 use Rattle.records.specs.Records.{passes}
 use Rattle.plan.specs.Plan.{seat, part, tag, size, owner, partAt, hits, nth, Before, Plan, LaidAll}
@@ -41,6 +40,12 @@ take-apart g n w r p q hn hr e = record {
   perm-is = omega (arith, p .start-page, q .high);
   to = omega (arith, p .ordered);
 }
+
+-- a word as a sound book has it
+pub record Good (setup : Setup) (w : ℕ) : Type 0 where
+  pub owner : (1 ≤ ownerOf w) × (ownerOf w ≤ 16)
+  pub perm : (1 ≤ permOf w) × (permOf w ≤ 3)
+  pub page : (setup .utzero ≤ pageOf w) × (pageOf w < setup .uaddrtop)
 
 -- records that pass, and their plan
 pub record Made (setup : Setup) (ps : Procs) (tags bases : List ℕ) (total : ℕ) : Type 0 where
@@ -124,7 +129,7 @@ module _ {setup : Setup} {ps : Procs} {tags bases : List ℕ} {total : ℕ} (m :
       )
 
   -- it is a sound book's word
-  pub rank-good : (t : ℕ) → t < base 272 → Word setup (nth tags bases t)
+  pub rank-good : (t : ℕ) → t < base 272 → Good setup (nth tags bases t)
   rank-good t h =
       let x = rank-of t h in
       let p = fact (x .k) (x .there) in
@@ -225,7 +230,7 @@ module _ {setup : Setup} {ps : Procs} {tags bases : List ℕ} {total : ℕ} (m :
         end-up = omega (arith, base-step k hk, x .ordered, x .start-page, x .end-page, y .high);
       }
 
-  pub plan : total ≤ 1024 → Plan tags bases
+  pub plan : total ≤ 16384 → Plan tags bases
   plan most = record {
     rising = rising;
     most = omega (arith, base-total);

@@ -4,11 +4,9 @@
 
 ghost use mathlib.Core.Path.{_≡_};
 ghost use mathlib.Core.Bool.{true};
-ghost use mathlib.Core.List.{List};
-ghost use Prim.Native.Nat.{ℕ, _≤_};
-ghost use lib.ListN.{length, getD};
+ghost use Prim.Native.Nat.{_≤_};
+ghost use lib.ListN.{length};
 ghost use Rattle.spec.specs.Numbers.{SetupOk};
-ghost use Rattle.spec.specs.Book.{free};
 ghost use Rattle.spec.specs.Sound.{soundBook};
 ghost use Rattle.table.specs.Table.{Blank};
 ghost use Rattle.lookup.specs.Ready.{Ready};
@@ -25,9 +23,9 @@ fn is_sound(
     procs: Procs,
     tags: &mut [u64; 272],
     bases: &mut [u64; 273],
-    table: &mut [u16; 1024],
+    table: &mut [u16; 16384],
 ) -> bool
-    requires { ⌜ (length (now book) ≤ 1024) × (length (now tags) ≡ 272) × (length (now bases) ≡ 273) × (length (now table) ≡ 1024) × Blank (now table) ⌝ }
+    requires { ⌜ (length (now book) ≤ 17408) × (length (now tags) ≡ 272) × (length (now bases) ≡ 273) × (length (now table) ≡ 16384) × Blank (now table) ⌝ }
     requires { ⌜ SetupOk setup ⌝ }
     ensures { λ r. ⌜ r ≡ soundBook setup (now (book .entry)) procs ⌝ }
     ensures { λ r. ⌜ (r ≡ true → Ready (now (book .entry)) (now (tags .exit)) (now (bases .exit)) (now (table .exit))) ⌝ }
@@ -36,7 +34,8 @@ fn is_sound(
         return false;
     }
     let total = plan::lay_all(tags, bases, procs);
-    if (book.len() as u64) < total {
+    let places = 16 * (book.len() / 17) as u64;
+    if places < total {
         return false;
     }
     if !table::mark(book, tags, bases, table) {
@@ -52,9 +51,9 @@ pub fn prepare(
     procs: Procs,
     tags: &mut [u64; 272],
     bases: &mut [u64; 273],
-    table: &mut [u16; 1024],
+    table: &mut [u16; 16384],
 ) -> u64
-    requires { ⌜ (length (now book) ≤ 1024) × (length (now tags) ≡ 272) × (length (now bases) ≡ 273) × (length (now table) ≡ 1024) × Blank (now table) ⌝ }
+    requires { ⌜ (length (now book) ≤ 17408) × (length (now tags) ≡ 272) × (length (now bases) ≡ 273) × (length (now table) ≡ 16384) × Blank (now table) ⌝ }
     ensures { λ r. ⌜ r ≡ soundError setup (now (book .entry)) procs ⌝ }
     ensures { λ r. ⌜ (r ≡ 0 → Ready (now (book .entry)) (now (tags .exit)) (now (bases .exit)) (now (table .exit))) ⌝ }
 {
@@ -69,19 +68,11 @@ pub fn prepare(
 
 // The same for a call that looks up no page.
 pub fn sound_error(setup: Setup, book: &[u64], procs: Procs) -> u64
-    requires { ⌜ length (now book) ≤ 1024 ⌝ }
+    requires { ⌜ length (now book) ≤ 17408 ⌝ }
     ensures { λ r. ⌜ r ≡ soundError setup (now (book .entry)) procs ⌝ }
 {
     let mut tags = [0u64; 272];
     let mut bases = [0u64; 273];
-    let mut table = [0u16; 1024];
+    let mut table = [0u16; 16384];
     prepare(setup, book, procs, &mut tags, &mut bases, &mut table)
-}
-
-// How many frames are free of a book that the lists are ready for: those that are no page's.
-pub fn free_frames(book: &[u64], bases: &[u64; 273]) -> usize
-    requires { ⌜ getD (now bases) 272 0 ≤ length (now book) ⌝ }
-    ensures { λ r. ⌜ ((tags table : List ℕ) → Ready (now (book .entry)) tags (now (bases .entry)) table → r ≡ free (now (book .entry))) ⌝ }
-{
-    book.len() - bases[272] as usize
 }

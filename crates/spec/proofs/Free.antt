@@ -1,55 +1,49 @@
 -- Each placed page takes a free frame; bytes written take none. How many pages pieces have.
 use Prim.Native.Nat.{ℕ, zero, suc, _+_, _-_, _/_, _≤_, _<_}
 use native.Mathlib.Omega.{arith}
-use native.Mathlib.Nat.{not-suc-le-zero, le-of-suc-le-suc, add-assoc, add-zero}
+use native.Mathlib.Nat.{add-assoc, add-zero}
 use mathlib.Core.Path.{_≡_, refl, sym, ap, ap₂, _∙_}
-use mathlib.Core.Bool.{false}
 use mathlib.Core.Option.{Option, none, some}
 use mathlib.Core.List.{List, [], _∷_, _++_}
-use lib.Dec.{eqb}
-use lib.ListN.{length, getD, set, take, length-append}
+use lib.ListN.{length, getD, take, length-append}
 use borrow.Author.Tests.{eqb-true, ne-eqb, eq-eqb}
-use Rattle.spec.proofs.Bools.{split}
 use Rattle.spec.proofs.Lists.{take-next}
 use Rattle.spec.proofs.Search.{hit, miss}
-use Rattle.spec.proofs.Words.{used-word}
+use Rattle.spec.proofs.Counts.{count-none, count-flip}
+use Rattle.spec.proofs.Enter.{enter-count, holders-here, holders-else}
 use Rattle.spec.specs.Tests.{_is_}
 use Rattle.spec.specs.Numbers.{pageDown}
-use Rattle.spec.specs.Book.{wordOf, freeFrame, frameOf, free, pageCount}
-use Rattle.spec.specs.Frames.{Store, Page, pagesFrom, pagesOf, hold, place, poke, pokes}
+use Rattle.spec.specs.Book.{wordOf, frameCount, holders, countBelow, isFree, freeFrame, frameOf, free, pageCount}
+use Rattle.spec.specs.Frames.{Store, Page, pagesFrom, pagesOf, enter, hold, place, poke, pokes}
 use Rattle.spec.specs.declared.UserSegment.{UserSegment}
 
 -- the frame that a search finds is free, and one is found while one is free
-pub free-frame : (book : List ℕ) (k : ℕ) → freeFrame book ≡ some k → (k < length book) × (getD book k 0 ≡ 0)
-free-frame book k e = let r = hit (λ j. getD book j 0 is 0) (length book) k e in (r .0, eqb-true (getD book k 0) 0 (r .1))
+pub free-frame : (book : List ℕ) (k : ℕ) → freeFrame book ≡ some k → (k < frameCount book) × (holders book k ≡ 0)
+free-frame book k e = let r = hit (isFree book) (frameCount book) k e in (r .0, eqb-true (holders book k) 0 (r .1))
 
 pub none-free : (book : List ℕ) → freeFrame book ≡ none → free book ≡ 0
-none-free book e = go book (miss (λ j. getD book j 0 is 0) (length book) e)
-  where
-    go : (l : List ℕ) → ((k : ℕ) → k < length l → (getD l k 0 is 0) ≡ false) → free l ≡ 0
-    go [] h = refl
-    go (w ∷ ws) h = rw (h 0 (omega arith)) (go ws (λ k l. h (suc k) (omega arith)))
+none-free book e = count-none (isFree book) (frameCount book) (miss (isFree book) (frameCount book) e)
 
--- a word set in a free frame takes it
-pub free-set : (book : List ℕ) (k w : ℕ) → k < length book → getD book k 0 ≡ 0 → (w ≡ 0 → ⊥) → free (set book k w) + 1 ≡ free book
-free-set [] k w l z ne = absurd (not-suc-le-zero l)
-free-set (x ∷ xs) zero w l z ne = rw (ne-eqb w 0 ne, eq-eqb x 0 z)
-free-set (x ∷ xs) (suc k) w l z ne =
-    let ih = free-set xs k w (le-of-suc-le-suc l) z ne in
-    split (eqb x 0) (λ q. rw q (omega arith)) (λ q. rw q ih)
+-- a free frame that is entered with a holder is taken
+pub free-enter : (book : List ℕ) (k n w c : ℕ) → k < frameCount book → n ≤ 16 → holders book k ≡ 0 → (c ≡ 0 → ⊥) → free (enter book k n w c) + 1 ≡ free book
+free-enter book k n w c low hi z ne =
+    ap (λ (x : ℕ). countBelow (isFree (enter book k n w c)) x + 1) (enter-count book k n w c)
+    ∙ sym (count-flip (isFree (enter book k n w c)) (isFree book) (frameCount book) k low
+    (rw (holders-here book k n w c low hi) (ne-eqb c 0 ne)) (eq-eqb (holders book k) 0 z)
+    (λ j l other. ap (λ (x : ℕ). x is 0) (holders-else book k n w c low hi j other)))
 
 -- each page takes a free frame
-pub free-place : (m : Store) (n : ℕ) (ps : List Page) → 1 ≤ n → length ps ≤ free (m .book) → free (place m n ps .book) + length ps ≡ free (m .book)
+pub free-place : (m : Store) (n : ℕ) (ps : List Page) → n ≤ 16 → length ps ≤ free (m .book) → free (place m n ps .book) + length ps ≡ free (m .book)
 unfolding place
-free-place m n [] lo room = omega arith
-free-place m n (p ∷ ps) lo room = go (freeFrame (m .book)) refl (λ t. free-place t n ps lo)
+free-place m n [] hi room = omega arith
+free-place m n (p ∷ ps) hi room = go (freeFrame (m .book)) refl (λ t. free-place t n ps hi)
   where
     go : (o : Option ℕ) → freeFrame (m .book) ≡ o → ((t : Store) → length ps ≤ free (t .book) → free (place t n ps .book) + length ps ≡ free (t .book))
         → free (place (hold m n p o) n ps .book) + length (p ∷ ps) ≡ free (m .book)
     go none e more = absurd (omega (arith, none-free (m .book) e))
     go (some k) e more =
         let r = free-frame (m .book) k e in
-        let f = free-set (m .book) k (wordOf (p .page) n (p .perm)) (r .0) (r .1) (used-word (p .page) n (p .perm) lo) in
+        let f = free-enter (m .book) k n (wordOf (p .page) n (p .perm)) 1 (r .0) hi (r .1) (λ z. omega arith) in
         let ih = more (hold m n p (some k)) (omega arith) in
         omega arith
 

@@ -2,6 +2,8 @@
 pub mod Bools
 pub mod Lists
 pub mod Search
+pub mod Counts
+pub mod Enter
 pub mod Words
 pub mod Setups
 pub mod Chain

@@ -28,7 +28,7 @@ pub bad-setup : (s : State) (c : Call) → sized (s .store) ≡ true → lengths
 unfolding answer
 bad-setup s c p q r = rw (p, q, r)
 
-loaded-frames : (s : State) (n : ℕ) (image name : List ℕ) (args : List (List ℕ)) → 1 ≤ n → pageCount (startPieces (s .setup) image) ≤ free (s .store .book)
+loaded-frames : (s : State) (n : ℕ) (image name : List ℕ) (args : List (List ℕ)) → n ≤ 16 → pageCount (startPieces (s .setup) image) ≤ free (s .store .book)
     → free (load s n image name args .store .book) + pageCount (startPieces (s .setup) image) ≡ free (s .store .book)
 loaded-frames s n image name args h l =
     let f : ℕ → List ℕ = pageBytes (fileByte (segmentsOf image)) in
@@ -71,4 +71,5 @@ start-takes s n image name bytes lengths e =
     let p6 = passed-answer (argsError (s .setup) args isnt 0) (argsError (s .setup) args) a6 (p5 .1) in
     let p7 = passed-answer (imageError (s .setup) image isnt 0) (imageError (s .setup) image) a7 (p6 .1) in
     let p8 = passed-answer (pageCount (startPieces (s .setup) image) above free (s .store .book)) 33 a8 (p7 .1) in
-    rw e (loaded-frames s n image name args (within-means 1 17 n (un-not (valid n) (p4 .0)) .0) (ltb-false _ _ (p8 .0)))
+    let hi : n ≤ 16 = omega (arith, within-means 1 17 n (un-not (valid n) (p4 .0)) .1) in
+    rw e (loaded-frames s n image name args hi (ltb-false _ _ (p8 .0)))

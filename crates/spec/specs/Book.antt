@@ -1,12 +1,12 @@
--- Item 2, frames and book: book words, process records and their pages. A word says which page of which process a frame holds; a
--- record says which pages its process has.
+-- Item 2, frames and book: book words, process records and their pages. A mapping says that a frame holds a page of a process; text
+-- and rodata frames may have several, one for each of their holders. A record says which pages its process has.
 -- Assumes nothing.
 use Prim.Native.Nat.{ℕ, zero, suc, _+_, _*_, _-_, _/_, _%_}
-use mathlib.Core.Bool.{Bool, true, false, not, _&&_}
+use mathlib.Core.Bool.{Bool, not, _&&_}
 use mathlib.Core.Option.{Option, none, some}
 use mathlib.Core.List.{List, [], _∷_, _++_}
 use lib.ListN.{length, getD, replicate}
-use Rattle.spec.specs.Tests.{_is_, _isnt_, within, _⇒_else_, all}
+use Rattle.spec.specs.Tests.{_is_, _isnt_, within, _⇒_else_, all, filter}
 use Rattle.spec.specs.Numbers.{maxProcs, pageUp, pageDown}
 use Rattle.spec.specs.declared.Setup.{Setup}
 use Rattle.spec.specs.declared.VirtRange.{VirtRange}
@@ -16,7 +16,7 @@ use Rattle.spec.specs.declared.Procs.{Procs}
 
 -- ---- book words
 
--- page address + 16 × owner + permission (1 text, 2 rodata, 3 data); a word of 0 is a free frame
+-- a mapping: page address + 16 × owner + permission (1 text, 2 rodata, 3 data)
 abbrev pub wordOf : ℕ → ℕ → ℕ → ℕ
 wordOf page owner perm = page + 16 * owner + perm
 
@@ -34,34 +34,60 @@ permOf w = w % 16
 abbrev pub valid : ℕ → Bool
 valid n = within 1 (maxProcs + 1) n
 
+-- 02, 10/13: seventeen words a frame, places 1 to 16, then the count, frame after frame
+abbrev pub frameCount : List ℕ → ℕ
+frameCount book = length book / 17
+
+-- the word in frame k's place numbered n: a mapping of owner n, or 0
+abbrev pub mapping : List ℕ → ℕ → ℕ → ℕ
+mapping book k n = getD book (17 * k + (n - 1)) 0
+
+-- the holder count of frame k
+abbrev pub holders : List ℕ → ℕ → ℕ
+holders book k = getD book (17 * k + 16) 0
+
 -- the highest number below c that passes the test
 abbrev pub highest : (ℕ → Bool) → ℕ → Option ℕ
 highest t zero = none
 highest t (suc c) = t c ⇒ some c else highest t c
 
--- the highest-numbered free frame
+-- how many numbers below c pass the test
+abbrev pub countBelow : (ℕ → Bool) → ℕ → ℕ
+countBelow t zero = 0
+countBelow t (suc c) = t c ⇒ countBelow t c + 1 else countBelow t c
+
+-- a frame is free when no mapping names it: its count is 0
+abbrev pub isFree : List ℕ → ℕ → Bool
+isFree book k = holders book k is 0
+
+-- the highest-numbered free frame, and how many frames are free
 abbrev pub freeFrame : List ℕ → Option ℕ
-freeFrame book = highest (λ k. getD book k 0 is 0) (length book)
+freeFrame book = highest (isFree book) (frameCount book)
+
+abbrev pub free : List ℕ → ℕ
+free book = countBelow (isFree book) (frameCount book)
 
 -- whether a word names an owner's page, and the frame of that page
 abbrev pub owns : ℕ → ℕ → ℕ → Bool
 owns n page w = w isnt 0 && ownerOf w is n && pageOf w is page
 
 abbrev pub frameOf : List ℕ → ℕ → ℕ → Option ℕ
-frameOf book n page = highest (λ k. owns n page (getD book k 0)) (length book)
+frameOf book n page = highest (λ k. owns n page (mapping book k n)) (frameCount book)
 
 -- the permission that the book gives an owner's page
-abbrev pub permIn : List ℕ → Option ℕ → Option ℕ
-permIn book none = none
-permIn book (some k) = some (permOf (getD book k 0))
+abbrev pub permIn : List ℕ → ℕ → Option ℕ → Option ℕ
+permIn book n none = none
+permIn book n (some k) = some (permOf (mapping book k n))
 
 abbrev pub bookPerm : List ℕ → ℕ → ℕ → Option ℕ
-bookPerm book n page = permIn book (frameOf book n page)
+bookPerm book n page = permIn book n (frameOf book n page)
 
--- how many frames are free
-abbrev pub free : List ℕ → ℕ
-free [] = 0
-free (w ∷ ws) = w is 0 ⇒ free ws + 1 else free ws
+-- 02, 10/13: how many frames a process holds alone
+abbrev pub isAlone : List ℕ → ℕ → ℕ → Bool
+isAlone book n k = mapping book k n isnt 0 && holders book k is 1
+
+abbrev pub alone : List ℕ → ℕ → ℕ
+alone book n = countBelow (isAlone book n) (frameCount book)
 
 -- ---- process records
 
@@ -124,6 +150,13 @@ pageCount (g ∷ gs) = (g .range .end - g .range .start) / 4096 + pageCount gs
 -- the record of process n
 abbrev pub procAt : Procs → ℕ → Proc
 procAt ps n = getD (ps .all) (n - 1) zeroProc
+
+-- 02, 10/13: data, bss and stack, which fork copies; text and rodata, which it shares
+abbrev pub dataOnly : List UserSegment → List UserSegment
+dataOnly gs = filter (λ g. g .perm is 3) gs
+
+abbrev pub textOnly : List UserSegment → List UserSegment
+textOnly gs = filter (λ g. g .perm isnt 3) gs
 
 -- segment pages and the bss from its rounded start make up a record's pages
 abbrev pub piecesOf : Proc → List UserSegment

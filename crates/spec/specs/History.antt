@@ -13,10 +13,8 @@ use Rattle.spec.specs.Book.{valid, free, pieces, permAt}
 use Rattle.spec.specs.Frames.{Cell, Mem, sized}
 use Rattle.spec.specs.Exec.{argsOf, copyArgv}
 use Rattle.spec.specs.Machine.{Ask, start, replace, push, break, fork, end, user-range-ok, copy-from-user, copy-to-user, try-copy-str-from-user, Call, Kind, begins, forks, plain, kind, Outcome, accepted, refused, ended, Reply, outcome, Machine, off, feed, judge}
-use Rattle.spec.specs.World.{State, sound, taken, view, answer, readable, after, Does}
+use Rattle.spec.specs.World.{State, sound, taken, view, aloneFor, answer, readable, after, Does}
 use Rattle.spec.specs.declared.Setup.{Setup}
-use Rattle.spec.specs.declared.Proc.{Proc}
-use Rattle.spec.specs.declared.Procs.{Procs}
 use Rattle.spec.specs.declared.UserRegs.{UserRegs}
 use Rattle.spec.specs.declared.Answer.the-variants.{Regs}
 
@@ -27,10 +25,11 @@ state s (c ∷ earlier) = after (state s earlier) c
 
 -- ---- lines
 
--- a call of a line with its arguments, and the free frames and the numbers taken before it
+-- a call of a line with its arguments, and the free frames, of replace those held alone, and the numbers taken before it
 pub record Asked : Type 0 where
   pub call : Call
   pub free-before : ℕ
+  pub alone-before : ℕ
   pub taken-before : ℕ → Bool
 
 -- and, apart, its answer
@@ -39,7 +38,10 @@ pub record Entry : Type 0 where
   pub answered : Reply
 
 abbrev pub entry : State → Call → Reply → Entry
-entry s c r = record { asked = record { call = c; free-before = free (s .store .book); taken-before = taken s }; answered = r }
+entry s c r = record {
+  asked = record { call = c; free-before = free (s .store .book); alone-before = aloneFor s c; taken-before = taken s };
+  answered = r;
+}
 
 -- the entries of a list of calls
 abbrev pub entries : State → List Call → List Entry
@@ -97,12 +99,13 @@ permIn (some c) = some (c .perm)
 abbrev pub heldPerm : Machine → ℕ → Option ℕ
 heldPerm m a = permIn (m .mem a)
 
--- each answer of a line is what items 3 to 6 and the table give over what the machine held, the free frames and the numbers taken
--- before the call
+-- each answer of a line is what items 3 to 6 and the table give over what the machine held, the free frames, of replace those held
+-- alone, and the numbers taken before the call
 abbrev pub Explained : Setup → List Entry → Type 0
 Explained setup [] = Unit {0}
 Explained setup (e ∷ earlier) =
-    (e .answered ≡ judge (machine setup earlier) (e .asked .free-before) (e .asked .taken-before) (e .asked .call)) × Explained setup earlier
+    (e .answered ≡ judge (machine setup earlier) (e .asked .free-before) (e .asked .alone-before) (e .asked .taken-before) (e .asked .call))
+    × Explained setup earlier
 
 -- ---- demand 3
 
@@ -131,8 +134,8 @@ pub record Claim : Type 0 where
       → taken (state s h) n ≡ not (length (machine (s .setup) (lines s h n) .segments) is 0)
   -- each answer of each line is what the table gives over that machine
   pub answers : (s : State) → Begin s → (h : List Call) (n : ℕ) → Explained (s .setup) (lines s h n)
-  -- two histories with the same setup and the same line, equally many free frames and the same numbers taken before each call of it,
-  -- give equal answers and equal bytes
+  -- two histories with the same setup and the same line, equally many free frames, for replace equally many held alone, and the same
+  -- numbers taken before each call of it, give equal answers and equal bytes
   pub alike : (s t : State) → Begin s → Begin t → s .setup ≡ t .setup → (h g : List Call) (n : ℕ) → valid n ≡ true
       → map (λ e. e .asked) (lines s h n) ≡ map (λ e. e .asked) (lines t g n)
       → (map (λ e. e .answered) (lines s h n) ≡ map (λ e. e .answered) (lines t g n))
@@ -184,14 +187,15 @@ pub record Runs : Type 0 where
   -- a number is taken while that machine holds segments
   pub numbers : (s t : State) → Begin s → (h : List Entry) → Ran s h t → (n : ℕ) → valid n ≡ true
       → taken t n ≡ not (length (machine (s .setup) (linesOf h n) .segments) is 0)
-  -- what a function answers next is what the table gives over that machine, the free frames and the numbers taken
+  -- what a function answers next is what the table gives over that machine, the free frames, of replace those held alone, and the
+  -- numbers taken
   pub answers : (s t u : State) → Begin s → (h : List Entry) → Ran s h t → (c : Call) (r : Reply) → Does t c u r
-      → r ≡ judge (machine (s .setup) (linesOf h (c .number))) (free (t .store .book)) (taken t) c
+      → r ≡ judge (machine (s .setup) (linesOf h (c .number))) (free (t .store .book)) (aloneFor t c) (taken t) c
   -- registers that it answers tell of the arguments
   pub arguments : (s t u : State) → Begin s → (h : List Entry) → Ran s h t → (c : Call) (r : Reply) (regs : UserRegs) → Does t c u r → r .says ≡ Regs regs
       → ArgsRead (view t (c .number)) (c .ask) (view u (c .number) .mem) regs
-  -- two runs with the same setup and the same line, equally many free frames and the same numbers taken before each call of it, have
-  -- had equal answers to it from the functions and end with equal bytes
+  -- two runs with the same setup and the same line, equally many free frames, for replace equally many held alone, and the same numbers
+  -- taken before each call of it, have had equal answers to it from the functions and end with equal bytes
   pub alike : (s t u v : State) → Begin s → Begin u → s .setup ≡ u .setup → (h g : List Entry) → Ran s h t → Ran u g v → (n : ℕ) → valid n ≡ true
       → map (λ e. e .asked) (linesOf h n) ≡ map (λ e. e .asked) (linesOf g n)
       → (map (λ e. e .answered) (linesOf h n) ≡ map (λ e. e .answered) (linesOf g n))

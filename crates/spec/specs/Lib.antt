@@ -13,5 +13,6 @@ pub mod Segment
 pub mod Machine
 pub mod World
 pub mod History
+pub mod Sharing
 pub mod Listing
 pub mod SetupText

@@ -2,12 +2,12 @@
 -- Nothing here knows of frames, a book or other processes. Assumes nothing.
 use Prim.Native.Nat.{ℕ, _+_, _%_}
 use mathlib.Core.Bool.{Bool, true, false, not, _&&_, _||_}
-use mathlib.Core.Option.{Option, none, some}
+use mathlib.Core.Option.{none, some}
 use mathlib.Core.List.{List, [], _∷_, _++_}
 use lib.ListN.{length}
 use Rattle.spec.specs.Tests.{_is_, _isnt_, _above_, _⇒_else_, same, sum}
 use Rattle.spec.specs.Numbers.{pageUp}
-use Rattle.spec.specs.Book.{valid, range, stack, sameSegment, pieces, pageCount}
+use Rattle.spec.specs.Book.{valid, range, stack, sameSegment, dataOnly, pieces, pageCount}
 use Rattle.spec.specs.Frames.{Mem}
 use Rattle.spec.specs.Access.{userRangeOk, bytesAt, write, Str, copyStr}
 use Rattle.spec.specs.Elf.{entry}
@@ -35,7 +35,7 @@ pub data Ask : Type 0 where
   copy-to-user : (dst : ℕ) (bytes : List ℕ) → Ask
   try-copy-str-from-user : (buffer : List ℕ) (src : ℕ) → Ask
 
--- all that a call is given but frames, book and records
+-- all that a call is given but setup, frames, book and records
 pub record Call : Type 0 where
   pub number : ℕ  -- the process's; of fork the parent's
   pub ask : Ask
@@ -119,7 +119,7 @@ pub record Machine : Type 0 where
 abbrev pub off : Setup → Machine
 off setup = record { setup = setup; segments = []; bss = range 0 0; mem = λ a. none }
 
--- ---- what a call answers, over what the machine holds, the free frames and the numbers taken
+-- ---- what a call answers, over what the machine holds, the free frames, for replace those held alone, and the numbers taken
 
 -- 1: argument lengths sum to their bytes
 abbrev pub lengthsFit : Ask → Bool
@@ -176,9 +176,22 @@ unclaimed taken n begins = not (taken n)
 unclaimed taken n (forks child segments) = not (taken child)
 unclaimed taken n plain = true
 
--- the process's own frames
-abbrev pub own : Machine → ℕ
-own m = pageCount (pieces (m .segments) (m .bss))
+-- 02, 10/13: what fork copies: data, bss and stack
+abbrev pub copied : Machine → ℕ
+copied m = pageCount (dataOnly (pieces (m .segments) (m .bss)))
+
+-- 02, 10/13: whether a call is a replace, the only one that weighs the frames that its process holds alone
+abbrev pub replaces : Ask → Bool
+replaces (start image name bytes lengths) = false
+replaces (replace image name argv) = true
+replaces (push pc top bytes lengths) = false
+replaces (break addr) = false
+replaces (fork child segments) = false
+replaces end = false
+replaces (user-range-ok addr len write) = false
+replaces (copy-from-user buffer src) = false
+replaces (copy-to-user dst bytes) = false
+replaces (try-copy-str-from-user buffer src) = false
 
 -- start (`exec`): 32, 33 arguments, 30, 31, 33 frames
 abbrev pub weighStart : Setup → ℕ → List ℕ → List (List ℕ) → Answer
@@ -188,15 +201,15 @@ weighStart setup free image args =
     pageCount (startPieces setup image) above free ⇒ Refused 33 else
     Regs (registers (entry image) (setup .ustktop) args)
 
--- replace (`sysexec` after reading): 30, 31, then `copy_argv`'s 35 or 33 in reading order, then 33 if own and free frames don't suffice;
--- 35 and the last 33 end the process
-abbrev pub weighReplace : Machine → ℕ → List ℕ → Argv → Answer
-weighReplace m free image read =
-    imageError (m .setup) image isnt 0 ⇒ Refused (imageError (m .setup) image) else
+-- replace (`sysexec` after reading): 30, 31, then `copy_argv`'s 35 or 33 in reading order, then 33 if the frames that it holds alone
+-- and the free ones don't suffice; 35 and the last 33 end the process
+abbrev pub weighReplace : Setup → ℕ → ℕ → List ℕ → Argv → Answer
+weighReplace setup free alone image read =
+    imageError setup image isnt 0 ⇒ Refused (imageError setup image) else
     read .error is 35 ⇒ Ended 35 else
     read .error is 33 ⇒ Refused 33 else
-    pageCount (startPieces (m .setup) image) above own m + free ⇒ Ended 33 else
-    Regs (registers (entry image) (m .setup .ustktop) (read .args))
+    pageCount (startPieces setup image) above alone + free ⇒ Ended 33 else
+    Regs (registers (entry image) (setup .ustktop) (read .args))
 
 -- push: 36, 32, 33, 35
 abbrev pub weighPush : Machine → ℕ → ℕ → List (List ℕ) → Answer
@@ -219,31 +232,31 @@ weighStr s =
     Value (s .size)
 
 -- after 1 to 5, each call's own numbers in its order
-abbrev pub weigh : Machine → ℕ → Ask → Reply
-weigh m free (start image name bytes lengths) = plainly (weighStart (m .setup) free image (argsOf bytes lengths))
-weigh m free (replace image name argv) = plainly (weighReplace m free image (copyArgv (m .setup) (m .mem) argv))
-weigh m free (push pc top bytes lengths) = plainly (weighPush m pc top (argsOf bytes lengths))
-weigh m free (break addr) = plainly (weighBreak (ibrk (m .setup) (some (m .bss)) addr free))
-weigh m free (fork child segments) = plainly (own m above free ⇒ Refused 33 else Done)
-weigh m free end = plainly Done
-weigh m free (user-range-ok addr len write) = plainly (Value (userRangeOk (m .setup) (m .mem) write addr len ⇒ 1 else 0))
-weigh m free (copy-from-user buffer src) =
+abbrev pub weigh : Machine → ℕ → ℕ → Ask → Reply
+weigh m free alone (start image name bytes lengths) = plainly (weighStart (m .setup) free image (argsOf bytes lengths))
+weigh m free alone (replace image name argv) = plainly (weighReplace (m .setup) free alone image (copyArgv (m .setup) (m .mem) argv))
+weigh m free alone (push pc top bytes lengths) = plainly (weighPush m pc top (argsOf bytes lengths))
+weigh m free alone (break addr) = plainly (weighBreak (ibrk (m .setup) (some (m .bss)) addr free))
+weigh m free alone (fork child segments) = plainly (copied m above free ⇒ Refused 33 else Done)
+weigh m free alone end = plainly Done
+weigh m free alone (user-range-ok addr len write) = plainly (Value (userRangeOk (m .setup) (m .mem) write addr len ⇒ 1 else 0))
+weigh m free alone (copy-from-user buffer src) =
     not (userRangeOk (m .setup) (m .mem) false src (length buffer)) ⇒ record { says = Ended 35; buffer = buffer } else
     record { says = Done; buffer = bytesAt (m .mem) src (length buffer) }
-weigh m free (copy-to-user dst bytes) = plainly (not (userRangeOk (m .setup) (m .mem) true dst (length bytes)) ⇒ Ended 35 else Done)
-weigh m free (try-copy-str-from-user buffer src) =
+weigh m free alone (copy-to-user dst bytes) = plainly (not (userRangeOk (m .setup) (m .mem) true dst (length bytes)) ⇒ Ended 35 else Done)
+weigh m free alone (try-copy-str-from-user buffer src) =
     let str : Str = copyStr (m .setup) (m .mem) buffer src in
     record { says = weighStr str; buffer = str .buffer }
 
 -- the table: 1 to 5 come first, in that order
-unfoldable pub judge : Machine → ℕ → (ℕ → Bool) → Call → Reply
-judge m free taken c =
+unfoldable pub judge : Machine → ℕ → ℕ → (ℕ → Bool) → Call → Reply
+judge m free alone taken c =
     not (lengthsFit (c .ask)) ⇒ refuse 1 (c .ask) else
     not (listFits m (c .number) (kind (c .ask))) ⇒ refuse 2 (c .ask) else
     not (numbered (c .number) (kind (c .ask))) ⇒ refuse 3 (c .ask) else
     not (living taken (c .number) (kind (c .ask))) ⇒ refuse 4 (c .ask) else
     not (unclaimed taken (c .number) (kind (c .ask))) ⇒ refuse 5 (c .ask) else
-    weigh m free (c .ask)
+    weigh m free alone (c .ask)
 
 -- ---- what a call makes of the machine
 

@@ -1,15 +1,15 @@
 -- Item 2: a sound book, as a test that can be run and as facts. A call is judged by the test; proofs use the facts, and crate laws
 -- proves that the two say the same.
 -- Assumes nothing.
-use Prim.Native.Nat.{ℕ, zero, suc, _+_, _*_, _-_, _/_, _%_, _≤_, _<_}
+use Prim.Native.Nat.{ℕ, zero, _+_, _*_, _-_, _/_, _%_, _≤_, _<_}
 use mathlib.Core.Path.{_≡_}
 use mathlib.Core.Bool.{Bool, true, false, not, _&&_, _||_}
 use mathlib.Core.Option.{Option, none, some}
 use mathlib.Core.List.{List, [], _∷_, _++_}
 use lib.ListN.{length, getD, replicate}
-use Rattle.spec.specs.Tests.{_is_, _isnt_, _below_, _above_, within, _⇒_else_, all, any, allBelow}
+use Rattle.spec.specs.Tests.{_is_, _isnt_, _below_, _above_, within, _⇒_else_, all, allBelow}
 use Rattle.spec.specs.Numbers.{limit, SetupOk, maxProcs, pageUp}
-use Rattle.spec.specs.Book.{pageOf, ownerOf, permOf, valid, owns, bookPerm, sameSegment, zeroSegment, unused, lives, stack, permAt, procAt, piecesOf}
+use Rattle.spec.specs.Book.{pageOf, ownerOf, permOf, valid, frameCount, mapping, holders, countBelow, frameOf, bookPerm, sameSegment, zeroSegment, unused, lives, stack, permAt, procAt, piecesOf}
 use Rattle.spec.specs.declared.Setup.{Setup}
 use Rattle.spec.specs.declared.VirtRange.{VirtRange}
 use Rattle.spec.specs.declared.UserSegment.{UserSegment}
@@ -18,14 +18,33 @@ use Rattle.spec.specs.declared.Procs.{Procs}
 
 -- ---- the test
 
--- each word is 0 or has owner 1 to 16, permission 1 to 3 and a page from UTZERO to below UADDRTOP
-abbrev pub wordOk : Setup → ℕ → Bool
-wordOk setup w = w is 0 || (valid (ownerOf w) && within 1 4 (permOf w) && within (setup .utzero) (setup .uaddrtop) (pageOf w))
+-- whether a search comes to a number: a page's permission, or its frame
+abbrev pub gives : Option ℕ → ℕ → Bool
+gives none x = false
+gives (some q) x = q is x
 
--- no owner has a page twice
-abbrev pub once : List ℕ → Bool
-once [] = true
-once (w ∷ ws) = (w is 0 || not (any (owns (ownerOf w) (pageOf w)) ws)) && once ws
+-- frame k's place numbered n is 0, or has owner n, permission 1 to 3 and a page from UTZERO to below UADDRTOP, which the owner has in
+-- no other frame
+abbrev pub placeOk : Setup → List ℕ → ℕ → ℕ → Bool
+placeOk setup book k n =
+    mapping book k n is 0
+    || (ownerOf (mapping book k n) is n && within 1 4 (permOf (mapping book k n)) && within (setup .utzero) (setup .uaddrtop) (pageOf (mapping book k n))
+    && gives (frameOf book n (pageOf (mapping book k n))) k)
+
+-- 02, 10/13: two mappings of a frame agree on page and permission, and are not of data: a data frame has at most one
+abbrev pub beside : ℕ → ℕ → Bool
+beside v w = v is 0 || w is 0 || (pageOf v is pageOf w && permOf v is permOf w && permOf v isnt 3)
+
+-- the mappings that name frame k
+abbrev pub mapped : List ℕ → ℕ → ℕ
+mapped book k = countBelow (λ i. mapping book k (i + 1) isnt 0) maxProcs
+
+-- each place of a frame, any two of them, and its count, which is the number of the mappings that name it
+abbrev pub frameOk : Setup → List ℕ → ℕ → Bool
+frameOk setup book k =
+    allBelow maxProcs (λ i. placeOk setup book k (i + 1))
+    && allBelow maxProcs (λ i. allBelow i (λ j. beside (mapping book k (j + 1)) (mapping book k (i + 1))))
+    && holders book k is mapped book k
 
 -- the bss start is at least UTZERO and at most its end, its end a page multiple and at most limit, its start rounded up not below `end`
 abbrev pub bssOk : Setup → ℕ → VirtRange → Bool
@@ -41,34 +60,32 @@ segmentsOk setup end bss (g ∷ gs) =
     (g .range .start % 4096 is 0 && g .range .end % 4096 is 0 && g .range .start below g .range .end
     && not (g .range .start below end) && not (g .range .end above limit setup) && segmentsOk setup (g .range .end) bss gs)
 
--- whether a page is there with a permission
-abbrev pub gives : Option ℕ → ℕ → Bool
-gives none perm = false
-gives (some q) perm = q is perm
-
 -- the book has each page of a piece, with its permission
 abbrev pub booked : List ℕ → ℕ → UserSegment → Bool
 booked book n g = allBelow ((g .range .end - g .range .start) / 4096) (λ i. gives (bookPerm book n (g .range .start + 4096 * i)) (g .perm))
 
 -- and has no other page of the owner
-abbrev pub recorded : ℕ → List UserSegment → ℕ → Bool
-recorded n gs w = w is 0 || ownerOf w isnt n || gives (permAt gs (pageOf w)) (permOf w)
+abbrev pub recorded : List UserSegment → ℕ → Bool
+recorded gs w = w is 0 || gives (permAt gs (pageOf w)) (permOf w)
+
+abbrev pub recordedAll : List ℕ → ℕ → List UserSegment → Bool
+recordedAll book n gs = allBelow (frameCount book) (λ k. recorded gs (mapping book k n))
 
 -- a living process's pages are exactly its record's; a dead one owns nothing
 abbrev pub procOk : Setup → List ℕ → ℕ → Proc → Bool
 procOk setup book n p =
-    lives p ⇒ segmentsOk setup (setup .utzero) (p .bss) (p .segments) && all (booked book n) (piecesOf p) && all (recorded n (piecesOf p)) book else
-    all (recorded n []) book
+    lives p ⇒ segmentsOk setup (setup .utzero) (p .bss) (p .segments) && all (booked book n) (piecesOf p) && recordedAll book n (piecesOf p) else
+    recordedAll book n []
 
 -- a sound book
 unfoldable pub soundBook : Setup → List ℕ → Procs → Bool
-soundBook setup book ps = all (wordOk setup) book && once book && allBelow maxProcs (λ i. procOk setup book (i + 1) (procAt ps (i + 1)))
+soundBook setup book ps = allBelow (frameCount book) (frameOk setup book) && allBelow maxProcs (λ i. procOk setup book (i + 1) (procAt ps (i + 1)))
 
 -- ---- the facts
 
--- a word that is not 0
-pub record Word (setup : Setup) (w : ℕ) : Type 0 where
-  pub owner : (1 ≤ ownerOf w) × (ownerOf w ≤ 16)
+-- a mapping in the place numbered n
+pub record Word (setup : Setup) (n w : ℕ) : Type 0 where
+  pub owner : ownerOf w ≡ n
   pub perm : (1 ≤ permOf w) × (permOf w ≤ 3)
   pub page : (setup .utzero ≤ pageOf w) × (pageOf w < setup .uaddrtop)
 
@@ -89,11 +106,25 @@ pub record Shape (setup : Setup) (p : Proc) (image : List UserSegment) : Type 0 
   pub bss-end : (p .bss .end % 4096 ≡ 0) × (p .bss .end ≤ limit setup)
   pub bss-above : (i : ℕ) → i < length image → getD image i zeroSegment .range .end ≤ pageUp (p .bss .start)
 
+-- two mappings of one frame
+pub record Beside (v w : ℕ) : Type 0 where
+  pub page : pageOf v ≡ pageOf w
+  pub perm : permOf v ≡ permOf w
+  pub no-data : permOf v ≡ 3 → ⊥
+
+-- what holds of the mappings, whatever the records say
+pub record Mappings (setup : Setup) (book : List ℕ) : Type 0 where
+  pub words : (k n : ℕ) → k < frameCount book → valid n ≡ true → ¬ (mapping book k n ≡ 0) → Word setup n (mapping book k n)
+  pub once : (n j k : ℕ) → valid n ≡ true → j < frameCount book → k < frameCount book → ¬ (mapping book j n ≡ 0) → ¬ (mapping book k n ≡ 0)
+      → pageOf (mapping book j n) ≡ pageOf (mapping book k n) → j ≡ k
+  pub beside : (k m n : ℕ) → k < frameCount book → valid m ≡ true → valid n ≡ true → (m ≡ n → ⊥) → ¬ (mapping book k m ≡ 0) → ¬ (mapping book k n ≡ 0)
+      → Beside (mapping book k m) (mapping book k n)
+  pub counts : (k : ℕ) → k < frameCount book → holders book k ≡ mapped book k
+
 -- a sound book under an accepted setup, by what holds of it
 pub record Sound (setup : Setup) (book : List ℕ) (ps : Procs) : Type 0 where
   pub accepted : SetupOk setup
-  pub words : (k : ℕ) → ¬ (getD book k 0 ≡ 0) → Word setup (getD book k 0)
-  pub once : (j k : ℕ) → ¬ (getD book j 0 ≡ 0) → ownerOf (getD book j 0) ≡ ownerOf (getD book k 0) → pageOf (getD book j 0) ≡ pageOf (getD book k 0) → j ≡ k
+  pub mappings : Mappings setup book
   pub shape : (n : ℕ) → valid n ≡ true → lives (procAt ps n) ≡ true → (image : List UserSegment) × Shape setup (procAt ps n) image
   -- a living process's pages are exactly its record's, with those permissions; a dead one's record has none
   pub exact : (n page : ℕ) → valid n ≡ true → page % 4096 ≡ 0 → bookPerm book n page ≡ permAt (piecesOf (procAt ps n)) page

@@ -3,19 +3,19 @@
 -- Assumes nothing.
 use Prim.Native.Nat.{ℕ, _-_}
 use mathlib.Core.Path.{_≡_}
-use mathlib.Core.Bool.{Bool, not, _&&_}
+use mathlib.Core.Bool.{Bool, true, not, _&&_}
 use mathlib.Core.Option.{Option, none, some}
 use mathlib.Core.List.{List, [], _∷_, _++_}
 use lib.ListN.{length, getD, set, replicate}
 use Rattle.spec.specs.Tests.{_is_, within, _⇒_else_}
 use Rattle.spec.specs.Numbers.{setupOk, pageUp, pageBytes, zeroPage}
 use Rattle.spec.specs.Name.{elem, kstrcpy}
-use Rattle.spec.specs.Book.{pageOf, ownerOf, valid, frameOf, free, range, segment, zeroSegment, zeroProc, lives, used, stack, piecesOf, procAt}
-use Rattle.spec.specs.Frames.{Store, sized, memOf, pagesOf, place, release, frameBytes, pokes}
+use Rattle.spec.specs.Book.{valid, frameOf, free, alone, dataOnly, range, segment, zeroSegment, zeroProc, lives, used, stack, piecesOf, procAt}
+use Rattle.spec.specs.Frames.{Store, sized, memOf, pagesOf, place, share, release, frameBytes, pokes}
 use Rattle.spec.specs.Sound.{soundBook}
 use Rattle.spec.specs.Elf.{segmentsOf}
 use Rattle.spec.specs.Exec.{imageSegments, imageBss, startPieces, fileByte, argsOf, strings, stringsAt, argvAt, pointers, copyArgv}
-use Rattle.spec.specs.Machine.{Ask, start, replace, push, break, fork, end, user-range-ok, copy-from-user, copy-to-user, try-copy-str-from-user, Call, Outcome, accepted, refused, ended, Reply, outcome, refuse, Machine, lengthsFit, judge}
+use Rattle.spec.specs.Machine.{Ask, start, replace, push, break, fork, end, user-range-ok, copy-from-user, copy-to-user, try-copy-str-from-user, Call, Outcome, accepted, refused, ended, Reply, outcome, refuse, Machine, lengthsFit, replaces, judge}
 use Rattle.spec.specs.declared.Setup.{Setup}
 use Rattle.spec.specs.declared.Proc.{Proc}
 use Rattle.spec.specs.declared.Procs.{Procs}
@@ -45,14 +45,18 @@ view s n = record {
 
 -- ---- the answer
 
--- 1, 38 and 2 judge what is lent and handed over; all else is judged over what the process holds, the free frames and the numbers
--- taken
+-- the frames that replace's process holds alone; other calls don't ask
+abbrev pub aloneFor : State → Call → ℕ
+aloneFor s c = replaces (c .ask) ⇒ alone (s .store .book) (c .number) else 0
+
+-- 1, 38 and 2 judge what is lent and handed over; all else is judged over what the process holds, the free frames, for replace those
+-- held alone, and the numbers taken
 unfoldable pub answer : State → Call → Reply
 answer s c =
     not (sized (s .store) && lengthsFit (c .ask)) ⇒ refuse 1 (c .ask) else
     not (setupOk (s .setup)) ⇒ refuse 38 (c .ask) else
     not (sound s) ⇒ refuse 2 (c .ask) else
-    judge (view s (c .number)) (free (s .store .book)) (taken s) c
+    judge (view s (c .number)) (free (s .store .book)) (aloneFor s c) (taken s) c
 
 -- readable is an address where `copy_from_user` of one byte would pass now, with the byte it would give
 abbrev pub given : Reply → Outcome → Option ℕ
@@ -77,7 +81,7 @@ pushIn m n top args = pokes (pokes m n (stringsAt top args) (strings args)) n (a
 
 -- a process ends: frames free, record zero, frame bytes as before
 abbrev pub forget : State → ℕ → State
-forget s n = record { setup = s .setup; store = release (s .store) (λ w. ownerOf w is n); procs = setProc (s .procs) n zeroProc }
+forget s n = record { setup = s .setup; store = release (s .store) n (λ page. true); procs = setProc (s .procs) n zeroProc }
 
 -- the record of an image: its segments and the stack, the last element of a name, and its bss
 abbrev pub procOf : Setup → List ℕ → List ℕ → Proc
@@ -100,16 +104,19 @@ abbrev pub brk : State → ℕ → Proc → ℕ → State
 brk s n p top = record {
   setup = s .setup;
   store =
-      place (release (s .store) (λ w. ownerOf w is n && within top (p .bss .end) (pageOf w))) n
+      place (release (s .store) n (within top (p .bss .end))) n
       (pagesOf zeroPage (segment (p .bss .end) top 3 ∷ []));
   procs = setProc (s .procs) n (record { segments = p .segments; text = p .text; bss = range (p .bss .start) top });
 }
 
--- fork: every page now, segments in record order, then bss; the child takes record and name
+-- fork (02, 10/13): text and rodata are shared; data, stack and bss are copied now, segments in record order, then bss; the child
+-- takes record and name
 abbrev pub copy : State → ℕ → ℕ → Proc → State
 copy s n child p = record {
   setup = s .setup;
-  store = place (s .store) child (pagesOf (λ a. frameBytes (s .store .frames) (frameOf (s .store .book) n a)) (piecesOf p));
+  store =
+      place (share (s .store) n child) child
+      (pagesOf (λ a. frameBytes (s .store .frames) (frameOf (s .store .book) n a)) (dataOnly (piecesOf p)));
   procs = setProc (s .procs) child p;
 }
 

@@ -68,5 +68,5 @@ module _ (s : State) (n : ℕ) (image name bytes lengths : List ℕ) (e : ℕ) (
 
 pub free-empty : (s : State) (n : ℕ) (fits : Bool) → Whole (s .procs) → Passed s n fits → not (taken s n) ≡ true → (a : ℕ) → memOf (s .store) n a ≡ none
 free-empty s n fits whole passed t a =
-    ap (cellIn (s .store) a)
+    ap (cellIn (s .store) n a)
     (dead-frame (s .setup) (s .store .book) (s .procs) whole (passed-sound s n fits whole passed) n (passed .number) (sym (taken-is s n (passed .number)) ∙ not-true (taken s n) t) (pageDown a))

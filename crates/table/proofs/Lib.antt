@@ -1,2 +1,4 @@
 -- One word of the book more.
 pub mod Pass
+pub mod Words
+pub mod Rows

@@ -1,5 +1,5 @@
 -- The pass over the book: what a word that is of a part's page, or of none, or 0 does to what holds of the words before it.
-use Prim.Native.Nat.{ℕ, _+_, _<_}
+use Prim.Native.Nat.{ℕ, _+_, _*_, _/_, _<_}
 use native.Mathlib.Omega.{arith}
 use native.Mathlib.Numerals.{add-one}
 use mathlib.Core.Path.{_≡_, refl, sym, ap, _∙_}
@@ -12,34 +12,35 @@ use lib.Seq.{getD-set-same, getD-set-other}
 use borrow.Author.Tests.{eqb-true, eqb-false, eq-eqb, ne-eqb}
 use borrow.Author.Count.{below-more}
 use Rattle.spec.specs.Tests.{_is_}
-use Rattle.spec.proofs.Bools.{split, clash}
+use Rattle.spec.specs.Book.{frameCount}
+use Rattle.spec.proofs.Bools.{split}
 use Rattle.spec.proofs.Search.{hit, miss}
-use Rattle.plan.specs.Plan.{hits, nth, rank, PartOf, Plan}
-use Rattle.table.specs.Table.{frameWith, entry, Planned, Tabled, Blank}
-use Rattle.plan.proofs.Within.{rank-below, rank-word, hit-owner}
+use Rattle.plan.specs.Plan.{hits, nth, rank, Plan}
+use Rattle.table.specs.Table.{placeAt, placeWith, entry, Planned, Tabled, Blank}
+use Rattle.plan.proofs.Within.{rank-below, rank-word}
 
 -- ---- the frame of a word
 
 module _ (b : List ℕ) (w : ℕ) where
-  pub with-none : frameWith b 0 w ≡ none
-  unfolding frameWith
+  pub with-none : placeWith b 0 w ≡ none
+  unfolding placeWith
   with-none = refl
 
-  pub with-here : (n : ℕ) → getD b n 0 ≡ w → frameWith b (n + 1) w ≡ some n
-  unfolding frameWith
+  pub with-here : (n : ℕ) → placeAt b n ≡ w → placeWith b (n + 1) w ≡ some n
+  unfolding placeWith
   with-here n e = rw (add-one n) (rw (eq-eqb _ _ e) refl)
 
-  pub with-past : (n : ℕ) → (getD b n 0 ≡ w → ⊥) → frameWith b (n + 1) w ≡ frameWith b n w
-  unfolding frameWith
+  pub with-past : (n : ℕ) → (placeAt b n ≡ w → ⊥) → placeWith b (n + 1) w ≡ placeWith b n w
+  unfolding placeWith
   with-past n e = rw (add-one n) (rw (ne-eqb _ _ e) refl)
 
-  pub with-found : (n i : ℕ) → frameWith b n w ≡ some i → (i < n) × (getD b i 0 ≡ w)
-  unfolding frameWith
-  with-found n i e = let h = hit (λ k. getD b k 0 is w) n i e in (h .0, eqb-true _ _ (h .1))
+  pub with-found : (n i : ℕ) → placeWith b n w ≡ some i → (i < n) × (placeAt b i ≡ w)
+  unfolding placeWith
+  with-found n i e = let h = hit (λ k. placeAt b k is w) n i e in (h .0, eqb-true _ _ (h .1))
 
-  pub with-missing : (n i : ℕ) → i < n → getD b i 0 ≡ w → frameWith b n w ≡ none → ⊥
-  unfolding frameWith
-  with-missing n i h e z = eqb-false _ _ (miss (λ k. getD b k 0 is w) n z i h) e
+  pub with-missing : (n i : ℕ) → i < n → placeAt b i ≡ w → placeWith b n w ≡ none → ⊥
+  unfolding placeWith
+  with-missing n i h e z = eqb-false _ _ (miss (λ k. placeAt b k is w) n z i h) e
 
 pub option-some : (o : Option ℕ) → (o ≡ none → ⊥) → (i : ℕ) × (o ≡ some i)
 option-some none f = absurd (f refl)
@@ -57,7 +58,7 @@ entry-none (some i) e = absurd (omega arith)
 -- ---- one word more
 
 abbrev OfPart : List ℕ → List ℕ → List ℕ → ℕ → Type 0
-OfPart b tags bases i = (getD b i 0 ≡ 0 → ⊥) → (k : ℕ) × (k < 272) × (hits tags bases (getD b i 0) k ≡ true)
+OfPart b tags bases i = (placeAt b i ≡ 0 → ⊥) → (k : ℕ) × (k < 272) × (hits tags bases (placeAt b i) k ≡ true)
 
 module _ (b tags bases : List ℕ) where
   pub planned-none : Planned b tags bases 0
@@ -68,35 +69,29 @@ module _ (b tags bases : List ℕ) where
 
   module _ (plan : Plan tags bases) (n : ℕ) where
     -- a free frame
-    pub planned-free : getD b n 0 ≡ 0 → Planned b tags bases n → Planned b tags bases (n + 1)
+    pub planned-free : placeAt b n ≡ 0 → Planned b tags bases n → Planned b tags bases (n + 1)
     planned-free z f = record {
       fits = below-more (OfPart b tags bases) n (f .fits) (λ u. absurd (u z));
       once = λ i j l m u e. split (eqb j n)
-          (λ q. u (e ∙ ap (λ (x : ℕ). getD b x 0) (eqb-true j n q) ∙ z))
+          (λ q. u (e ∙ ap (λ (x : ℕ). placeAt b x) (eqb-true j n q) ∙ z))
           (λ q. let ne = eqb-false j n q in f .once i j l (omega arith) u e);
     }
 
-    pub tabled-free : (table : List ℕ) → getD b n 0 ≡ 0 → Tabled b tags bases table n → Tabled b tags bases table (n + 1)
+    pub tabled-free : (table : List ℕ) → placeAt b n ≡ 0 → Tabled b tags bases table n → Tabled b tags bases table (n + 1)
     tabled-free table z f t h = f t h ∙ ap entry (sym (with-past b (nth tags bases t) n (λ e. plan .some t h (sym e ∙ z))))
 
-    -- no part has the word
-    pub not-planned : n < length b → (getD b n 0 ≡ 0 → ⊥) → (r : ℕ) → r ≡ 272 → PartOf tags bases (getD b n 0) r → Planned b tags bases (length b) → ⊥
-    not-planned h u r q s f =
-        let k = f .fits n h u in
-        clash (hits tags bases (getD b n 0) (k .0)) (k .2) (s .none q (k .0) (k .1) (hit-owner tags bases plan (getD b n 0) (k .0) (k .1) (k .2)))
-
-    module _ (table : List ℕ) (k : ℕ) (hk : k < 272) (e : hits tags bases (getD b n 0) k ≡ true) (tab : Tabled b tags bases table n) where
+    module _ (table : List ℕ) (k : ℕ) (hk : k < 272) (e : hits tags bases (placeAt b n) k ≡ true) (tab : Tabled b tags bases table n) where
       abbrev at : ℕ
-      at = rank tags bases (getD b n 0) k
+      at = rank tags bases (placeAt b n) k
 
-      at-now : getD table at 0 ≡ entry (frameWith b n (getD b n 0))
-      at-now = tab at (rank-below tags bases plan (getD b n 0) k hk e) ∙ ap (λ (w : ℕ). entry (frameWith b n w)) (rank-word tags bases plan (getD b n 0) k hk e)
+      at-now : getD table at 0 ≡ entry (placeWith b n (placeAt b n))
+      at-now = tab at (rank-below tags bases plan (placeAt b n) k hk e) ∙ ap (λ (w : ℕ). entry (placeWith b n w)) (rank-word tags bases plan (placeAt b n) k hk e)
 
       -- the word stood there before
-      pub planned-twice : n < length b → (getD b n 0 ≡ 0 → ⊥) → (getD table at 0 ≡ 0 → ⊥) → Planned b tags bases (length b) → ⊥
+      pub planned-twice : n < 16 * frameCount b → (placeAt b n ≡ 0 → ⊥) → (getD table at 0 ≡ 0 → ⊥) → Planned b tags bases (16 * frameCount b) → ⊥
       planned-twice h u ne f =
-          let o = entry-some (frameWith b n (getD b n 0)) (λ z. ne (at-now ∙ z)) in
-          let g = with-found b (getD b n 0) n (o .0) (o .1) in
+          let o = entry-some (placeWith b n (placeAt b n)) (λ z. ne (at-now ∙ z)) in
+          let g = with-found b (placeAt b n) n (o .0) (o .1) in
           f .once (o .0) n (g .0) h (λ z. u (sym (g .1) ∙ z)) (g .1)
 
       -- it is new
@@ -104,16 +99,16 @@ module _ (b tags bases : List ℕ) where
       planned-more z f = record {
         fits = below-more (OfPart b tags bases) n (f .fits) (λ u. (k, hk, e));
         once = λ i j l m u q. split (eqb j n)
-            (λ x. let y = eqb-true j n x in with-missing b (getD b n 0) n i (omega arith) (q ∙ ap (λ (v : ℕ). getD b v 0) y) (entry-none (frameWith b n (getD b n 0)) (sym at-now ∙ z)))
+            (λ x. let y = eqb-true j n x in with-missing b (placeAt b n) n i (omega arith) (q ∙ ap (λ (v : ℕ). placeAt b v) y) (entry-none (placeWith b n (placeAt b n)) (sym at-now ∙ z)))
             (λ x. let ne = eqb-false j n x in f .once i j l (omega arith) u q);
       }
 
-      pub tabled-more : length table ≡ 1024 → Tabled b tags bases (set table at (n + 1)) (n + 1)
+      pub tabled-more : length table ≡ 16384 → Tabled b tags bases (set table at (n / 16 + 1)) (n + 1)
       tabled-more long t h =
-          let below = rank-below tags bases plan (getD b n 0) k hk e in
-          let word = sym (rank-word tags bases plan (getD b n 0) k hk e) in
+          let below = rank-below tags bases plan (placeAt b n) k hk e in
+          let word = sym (rank-word tags bases plan (placeAt b n) k hk e) in
           split (eqb t at)
           (λ q. let y = eqb-true t at q in
-          rw y (getD-set-same table at (n + 1) 0 (omega (arith, plan .most)) ∙ ap entry (sym (with-here b (nth tags bases at) n word))))
+          rw y (getD-set-same table at (n / 16 + 1) 0 (omega (arith, plan .most)) ∙ ap entry (sym (with-here b (nth tags bases at) n word))))
           (λ q. let ne = eqb-false t at q in
-          getD-set-other table at t (n + 1) 0 ne ∙ tab t h ∙ ap entry (sym (with-past b (nth tags bases t) n (λ x. ne (plan .apart t at h below (sym x ∙ word))))))
+          getD-set-other table at t (n / 16 + 1) 0 ne ∙ tab t h ∙ ap entry (sym (with-past b (nth tags bases t) n (λ x. ne (plan .apart t at h below (sym x ∙ word))))))

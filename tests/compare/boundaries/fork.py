@@ -90,7 +90,7 @@ def fork():
             sum
         """)
     o.note('fifteen segments and the stack')
-    o.fresh(frames=44, image=many(15))
+    o.fresh(frames=32, image=many(15))
     o.text(f"""
         fork 1 2
         sum

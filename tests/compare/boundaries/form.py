@@ -70,6 +70,10 @@ def form():
         lend 1 2 3
         word 1
         word 1 2 3
+        lend 36865 153
+        lend 36864 154
+        word 153 0
+        word 0 {2**64}
         to 1 2 @no-such-file
         @
         '
@@ -78,6 +82,20 @@ def form():
     o.all(' sum', 'sum ', f"start 2 'x {E} ")
     o.note('nothing changed')
     o('sum')
+    o.note('all that there is to lend, the last word, and with no frames none')
+    o.text("""
+        lend 36864 153
+        word 152 2
+        sum
+        word 152 1
+        sum
+        frames 0
+        word 0 0
+        lend 0 0
+        lend 0 1
+        sum
+    """)
+    o.fresh(frames=9)
     o.note("bytes: hex digits of either case, none, after a quote; numbers with zeros before them")
     o.text(f"""
         to 1 {DATA} 4aAf

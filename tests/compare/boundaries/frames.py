@@ -3,7 +3,7 @@ from papers.machine import PAGE
 from script import shown
 
 from .built import data, long_image
-from .out import BSS_END, DATA, E, TOP, UTZERO, Out, words
+from .out import BSS_END, DATA, E, TOP, UTZERO, Out, lend, words
 
 
 def frames():
@@ -16,8 +16,8 @@ def frames():
             start 1 'x {E} 'lex
             sum
         """)
-    o.note('fork with 7 free and with 6')
-    for n in (14, 13):
+    o.note('fork, which copies 6 pages of 7, with 7 free, with 6 and with 5')
+    for n in (14, 13, 12):
         o.fresh(frames=n)
         o.text(f"""
             to 1 {DATA} 'parent
@@ -97,16 +97,16 @@ def frames():
         fork 9 8
         sum
         break 3 0
-        break 3 {BSS_END + 1}
+        break 3 {BSS_END + PAGE + 1}
         end 16
-        break 3 {BSS_END + 7 * PAGE}
+        break 3 {BSS_END + 8 * PAGE}
         sum
     """)
     return o
 
 
 def sizes():
-    o = Out('sizes', 'Books of 0, 1, 1,024 and 1,025 words; fewer words lent than there are.')
+    o = Out('sizes', 'Books of 0, 1, 1,024 and 1,025 frames; fewer frames lent than there are.')
     for n in (0, 1025):
         o.text(f"""
             frames {n}
@@ -115,13 +115,16 @@ def sizes():
             sum
         """)
     o.text(f"""
-        lend {1024 * PAGE} 1024
+        {lend(1024)}
         start 1 'x {E}
         map 1
         sum
-        lend {1025 * PAGE} 1025
+        {lend(1025)}
         break 1 0
     """)
+    for size, words in ((1024 * PAGE, 17407), (1024 * PAGE, 17408), (1024 * PAGE, 17409), (1024 * PAGE, 1024), (1024 * PAGE, 17425),
+            (1025 * PAGE, 17408), (1024 * PAGE - 1, 17408), (PAGE, 16), (PAGE, 17), (PAGE, 18), (0, 17), (17 * PAGE, 17)):
+        o.all(f'lend {size} {words}', 'break 1 0')
     o.text(f"""
         frames 1
         start 1 'x {E}
@@ -143,24 +146,24 @@ def sizes():
     o.note('half of the frames lent, then all')
     o.text(f"""
         frames 16 8
-        lend {8 * PAGE} 8
+        {lend(8)}
         start 1 'x {E}
         break 1 {BSS_END + 2 * PAGE}
         break 1 {BSS_END + PAGE}
         sum
-        lend {16 * PAGE} 16
+        {lend(16)}
         map 1
         start 2 'y {E}
         sum
-        lend {8 * PAGE} 8
+        {lend(8)}
         break 1 0
         break 2 0
-        lend {16 * PAGE} 16
+        {lend(16)}
         end 2
-        lend {8 * PAGE} 8
+        {lend(8)}
         break 1 73728
         sum
-        lend {7 * PAGE} 7
+        {lend(7)}
         break 1 0
     """)
     return o

@@ -1,6 +1,8 @@
 """What scripts are written with: the example and its addresses, and lines."""
 import struct
 
+from papers.machine import PAGE
+from papers.memory import WORDS
 from papers.setup import DEPOSIT
 from random_images import EXAMPLE
 from script import shown
@@ -39,6 +41,26 @@ class Out:
 
     def content(self):
         return '\n'.join(self.lines) + '\n'
+
+
+def place(frame, n):
+    """Which word of the book is process n's place of a frame."""
+    return WORDS * frame + n - 1
+
+
+def count(frame):
+    """Which word of the book is a frame's count."""
+    return WORDS * frame + 16
+
+
+def mapping(page, n, perm):
+    """A word of the book."""
+    return page + 16 * n + perm
+
+
+def lend(frames):
+    """The line that lends so many whole frames."""
+    return f'lend {PAGE * frames} {WORDS * frames}'
 
 
 def run_of(c, n):

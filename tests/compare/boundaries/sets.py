@@ -6,7 +6,7 @@ from random_images import example_at
 from script import shown
 
 from .built import build, seg
-from .out import E, Out, run_of, words
+from .out import E, Out, count, lend, mapping, place, run_of, words
 
 K64 = 65536
 FAR = 2**47
@@ -185,14 +185,15 @@ def order(o):
     o('sum')
     hand(o, broken)
     o.all(*ten(school, 1, 2), 'sum', 'map 1', 'map 2', "name 'name")
-    o.all(f'lend {8 * PAGE} 9', *ten(school, 1, 2), f'lend {9 * PAGE} 9')
+    o.all(f'lend {8 * PAGE} 153', *ten(school, 1, 2), lend(9))
     o.all('word 0 7', *ten(school, 17, 17), *ten(school, 3, 1), 'word 0 0', 'sum')
     hand(o, school)
     o.note("words of the book: pages from UTZERO to below UADDRTOP, of a living process and of a dead one")
     for page in (0, PAGE, 2 * PAGE, school.limit, school.low, K64 - PAGE, K64, FAR - PAGE, FAR):
-        for owner in (1, 2):
-            o.all(f'word 0 {page + 16 * owner + 3}', 'break 1 0')
-    o.all('word 0 0', 'break 1 0')
+        for n in (1, 2):
+            o.all(f'word {place(0, n)} {mapping(page, n, 3)}', f'word {count(0)} 1', 'break 1 0')
+            o.all(f'word {place(0, n)} 0', f'word {count(0)} 0')
+    o('break 1 0')
     o.note('2 before 3, 3 before 4 and 5')
     o.all('word 0 7', *ten(school, 17, 17)[:11], 'word 0 0', *ten(school, 17, 1)[:11], *ten(school, 2, 1)[:11], *ten(school, 1, 1))
     o('sum')

@@ -54,7 +54,7 @@ class World(User):
         self.vacant(n)
         check_args(self.setup, args)
         loaded = load30(self.setup, image)
-        if page_count(self.setup, *loaded[2:]) > self.free():
+        if page_count(self.setup, *loaded[2:]) > len(self.free()):
             raise Refused(33)
         return self.install(n, name, loaded, args)
 
@@ -62,7 +62,7 @@ class World(User):
         self.called(n)
         loaded = load30(self.setup, image)
         args = self.copy_argv(n, argv)
-        if page_count(self.setup, *loaded[2:]) > len(self.table[n]) + self.free():
+        if page_count(self.setup, *loaded[2:]) > self.alone(n) + len(self.free()):
             raise Ended(33)
         self.finish(n)
         return self.install(n, name, loaded, args)
@@ -92,7 +92,7 @@ class World(User):
     def brk(self, n, address):
         self.called(n)
         r = self.records[n]
-        value, new = rule(self.setup, r.bss, self.free(), address)
+        value, new = rule(self.setup, r.bss, len(self.free()), address)
         for page in range(new[1], r.bss[1], PAGE):
             self.release(n, page)
         for page in range(r.bss[1], new[1], PAGE):
@@ -111,11 +111,14 @@ class World(User):
         self.living(parent)
         self.vacant(child)
         r = self.records[parent]
-        if r.count() > self.free():
+        if r.count_data() > len(self.free()):
             raise Refused(33)
         for start, end, perm in r.parts():
             for page in range(start, end, PAGE):
-                self.place(child, page, perm, self.content(parent, page))
+                if perm == DATA:
+                    self.place(child, page, perm, self.content(parent, page))
+                else:
+                    self.share(parent, page, child)
         self.records[child] = Record(list(r.segments), r.bss, r.name)
 
     def end(self, n):

@@ -1,6 +1,9 @@
-"""Item 2: frames, book and records."""
+"""Item 2: frames, book and records. The book is a list of mappings (request 10 of document 02)."""
 from .machine import DATA, PAGE, Refused, down, up
 from .setup import DEPOSIT
+
+# A frame's words in the book: its places 1 to 16, then the count of its holders.
+WORDS = 17
 
 
 class Record:
@@ -19,15 +22,18 @@ class Record:
     def count(self):
         return sum(end - start for start, end, _ in self.parts()) // PAGE
 
+    def count_data(self):
+        return sum(end - start for start, end, perm in self.parts() if perm == DATA) // PAGE
+
 
 class Memory:
     """Frames, book and records, and the set of machine numbers that is handed to each call: document 01's at first."""
 
     def __init__(self, frames=0, fill=0):
         self.n = frames
-        self.bytes, self.words = PAGE * frames, frames
+        self.bytes, self.words = PAGE * frames, WORDS * frames
         self.frames = bytearray([fill]) * (PAGE * frames)
-        self.book = [0] * frames
+        self.book = [0] * (WORDS * frames)
         self.records = [None] * 17
         self.setup = DEPOSIT
 
@@ -35,22 +41,28 @@ class Memory:
 
     def enter(self):
         """Refused 1, 38, 2; then self.table has each process's pages, page to frame and permission."""
-        if self.bytes != PAGE * self.words or not 1 <= self.words <= 1024:
+        frames = self.lent()
+        if self.bytes != PAGE * frames or self.words != WORDS * frames or not 1 <= frames <= 1024:
             raise Refused(1)
         self.setup.check()
         self.table = [{} for _ in range(17)]
-        for i, word in enumerate(self.book[:self.words]):
-            if word == 0:
-                continue
+        if not all(self.sound_frame(i) for i in range(frames)) or not all(self.sound(n) for n in range(1, 17)):
+            raise Refused(2)
+
+    def sound_frame(self, i):
+        """Whether a frame's mappings are proper and agree, and its count is theirs; they go to the table."""
+        holders, mapped = self.holders(i), set()
+        for n in holders:
+            word = self.book[self.at_place(i, n)]
             page, owner, perm = down(word), word % PAGE // 16, word % 16
-            if not (1 <= owner <= 16 and 1 <= perm <= 3 and self.setup.utzero <= page < self.setup.uaddrtop):
-                raise Refused(2)
-            if page in self.table[owner]:
-                raise Refused(2)
-            self.table[owner][page] = (i, perm)
-        for n in range(1, 17):
-            if not self.sound(n):
-                raise Refused(2)
+            if not (owner == n and 1 <= perm <= 3 and self.setup.utzero <= page < self.setup.uaddrtop):
+                return False
+            if page in self.table[n]:
+                return False
+            self.table[n][page] = (i, perm)
+            mapped.add((page, perm))
+        return (self.count(i) == len(holders) and len(mapped) <= 1
+                and (len(holders) <= 1 or all(perm != DATA for _, perm in mapped)))
 
     def sound(self, n):
         """Whether process n's record is proper and its pages are the record's."""
@@ -85,20 +97,58 @@ class Memory:
         if self.records[n] is not None:
             raise Refused(5)
 
-    # Frames
+    # The book, frame after frame
+
+    def lent(self):
+        """How many whole frames the lent words are."""
+        return self.words // WORDS
+
+    def at_place(self, i, n):
+        """Where process n's place of frame i is."""
+        return WORDS * i + n - 1
+
+    def at_count(self, i):
+        return WORDS * i + 16
+
+    def count(self, i):
+        return self.book[self.at_count(i)]
+
+    def holders(self, i):
+        """The processes whose mappings name frame i."""
+        places = self.book[self.at_place(i, 1):self.at_count(i)]
+        return [n for n, word in enumerate(places, 1) if word != 0]
+
+    # Frames, in a sound book
 
     def free(self):
-        return self.book[:self.words].count(0)
+        """The free frames, ascending: those that no mapping names."""
+        return [i for i in range(self.lent()) if self.count(i) == 0]
+
+    def alone(self, n):
+        """How many frames process n holds alone."""
+        return sum(self.count(i) == 1 for i, _ in self.table[n].values())
+
+    def hold(self, n, page, perm, i):
+        """Process n's page in frame i, beside those of other holders."""
+        self.book[self.at_place(i, n)] = page + 16 * n + perm
+        self.book[self.at_count(i)] += 1
+        self.table[n][page] = (i, perm)
 
     def release(self, n, page):
-        self.book[self.table[n].pop(page)[0]] = 0
+        i, _ = self.table[n].pop(page)
+        self.book[self.at_place(i, n)] = 0
+        self.book[self.at_count(i)] -= 1
 
     def place(self, n, page, perm, content):
         """A page into the highest-numbered free frame."""
-        i = max(i for i in range(self.words) if self.book[i] == 0)
-        self.book[i] = page + 16 * n + perm
-        self.table[n][page] = (i, perm)
+        i = self.free()[-1]
+        self.hold(n, page, perm, i)
         self.frames[PAGE * i:PAGE * (i + 1)] = content
+
+    def share(self, n, page, child):
+        """Process n's page as the child's too, in its frame."""
+        i, perm = self.table[n][page]
+        self.hold(child, page, perm, i)
 
     def content(self, n, page):
         i = self.table[n][page][0]

@@ -1,5 +1,6 @@
 //! The ten calls over the Rust.
 use crate::answer::{number, result, rust};
+use crate::listing;
 use crate::names::{kstrcpy, openable};
 use crate::rule;
 use crate::script::{Answer, Calls, Record, Regs, Stop, same_list, within};
@@ -8,8 +9,14 @@ use r9::dat::{Access, UserRegs};
 use r9::inside::{self, Exec};
 use r9::machine::code;
 use r9::mem::PAGE_SIZE_4K;
-use r9::procs::Procs;
+use r9::procs::{Procs, WORDS};
 use r9::{devroot, elf, error, exec, uaccess};
+use std::sync::atomic::{AtomicUsize, Ordering::Relaxed};
+
+/// Forks that were accepted where the Rust, which copies text and rodata too, has too few free frames for all pages; and replaces
+/// that ended by 33 where the Rust, which would free what others hold too, has enough.
+pub static FORKS: AtomicUsize = AtomicUsize::new(0);
+pub static REPLACES: AtomicUsize = AtomicUsize::new(0);
 
 fn regs(r: UserRegs) -> Regs {
     [r.pc, r.sp, r.argc, r.argv].map(|v| v as u64)
@@ -51,14 +58,16 @@ impl World {
 
 impl Calls for World {
     fn new(count: usize, fill: u8) -> Self {
-        let mut frames = vec![fill; count * PAGE_SIZE_4K];
-        let procs = Procs::new(frames.as_mut_ptr());
+        let bytes = count * PAGE_SIZE_4K;
+        let mut memory = vec![fill; 2 * bytes];
+        let procs = Procs::new(memory.as_mut_ptr());
         let as_left = std::env::var_os("ORACLE_AS_LEFT").is_some();
-        World { bytes: frames.len(), frames, words: count, book: vec![0; count], procs, as_left }
+        let words = WORDS * count;
+        World { memory, count, bytes, words, book: vec![0; words], spare: 0, procs, as_left }
     }
 
     fn frames(&self) -> &[u8] {
-        &self.frames
+        self.frame_bytes()
     }
 
     fn book(&mut self) -> &mut [u64] {
@@ -98,16 +107,19 @@ impl Calls for World {
     fn replace(&mut self, n: u64, name: &[u8], image: &[u8], argv: u64) -> Answer<Regs> {
         self.of(n, |w, n| {
             few_enough(image)?;
+            let room = w.free() + w.procs.space_mut(n).len();
             // sysexec opens the file first. A name that dev.rs would not open is set after it instead, by the same function of
             // exec.rs.
             let file = openable(name);
             devroot::FILE.set(image.to_vec());
-            let r = rust(|| inside::sysexec::<Machine>(file.unwrap_or("/bin/x").to_string(), argv as usize))?.map_err(
-                |e| match e {
-                    error::Error::Str(e) => Stop::Refused(number(e)),
-                    e => Stop::Assert(format!("{e:?}")),
-                },
-            )?;
+            let r = rust(|| inside::sysexec::<Machine>(file.unwrap_or("/bin/x").to_string(), argv as usize));
+            if let Err(Stop::Ended(33)) = r {
+                REPLACES.fetch_add((listing::pages(image) <= room) as usize, Relaxed);
+            }
+            let r = r?.map_err(|e| match e {
+                error::Error::Str(e) => Stop::Refused(number(e)),
+                e => Stop::Assert(format!("{e:?}")),
+            })?;
             if file.is_none() {
                 w.set_name(n, name)?;
             }
@@ -145,15 +157,24 @@ impl Calls for World {
         within(child)?;
         let n = self.living(parent)?;
         let c = self.vacant(child)?;
-        self.run(n, |w| {
+        // The harness's own: text and rodata are shared, so they take no frame that is lent.
+        let free = self.free();
+        self.spare = self.to_share(n);
+        let r = self.run(n, |w| {
             w.procs.create(c);
             w.procs.switch(n);
-            let r = result(|| w.procs.fork(n, c));
+            let r = result(|| w.procs.fork(n, c))
+                .and_then(|()| w.procs.share(n, c, w.count).map_err(|s| Stop::Assert(format!("oracle: {s}"))));
             if r.is_err() {
                 w.procs.remove(c);
             }
             r
-        })
+        });
+        self.spare = 0;
+        if r.is_ok() {
+            FORKS.fetch_add((self.procs.space_mut(c).len() > free) as usize, Relaxed);
+        }
+        r
     }
 
     /// The harness's own: `end` is document 01's addition.

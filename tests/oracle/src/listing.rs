@@ -2,10 +2,11 @@
 use crate::answer::number;
 use crate::script::KINDS;
 use crate::world::{Machine, SEGMENTS};
+use r9::dat::UserSegment;
 use r9::elf::{self, ElfError};
 use r9::inside::Exec;
 use r9::machine::{USTKSIZE, code};
-use r9::mem::PAGE_SIZE_4K;
+use r9::mem::{PAGE_SIZE_4K, VirtRange};
 use std::fmt::Write;
 
 /// The number of an image's refusal.
@@ -32,6 +33,19 @@ fn elf_number(e: ElfError) -> u64 {
     }
 }
 
+/// The pages of segments and bss, with the stack's.
+fn count(segments: &[UserSegment], bss: VirtRange) -> usize {
+    let image: usize = segments.iter().map(|s| s.range.size()).sum();
+    (image + bss.end - bss.start.next_multiple_of(PAGE_SIZE_4K) + USTKSIZE) / PAGE_SIZE_4K
+}
+
+/// The pages of an image that loads.
+pub fn pages(image: &[u8]) -> usize {
+    let e = elf::parse(image).expect("an image that loads");
+    let bss = Exec::layout::<Machine>(&e).expect("an image that loads");
+    count(&Exec::segments(&e, bss), bss)
+}
+
 pub fn listing(image: &[u8]) -> String {
     match lines(image) {
         Ok(s) => s,
@@ -52,12 +66,9 @@ fn lines(image: &[u8]) -> Result<String, u64> {
         return Err(31);
     }
     let mut s = format!("entry={}\n", e.entry());
-    let mut pages = USTKSIZE / PAGE_SIZE_4K;
     for g in &segments {
         writeln!(s, "segment={} {} {}", KINDS[code(g.perm) as usize], g.range.start, g.range.end).unwrap();
-        pages += g.range.size() / PAGE_SIZE_4K;
     }
-    pages += (bss.end - bss.start.next_multiple_of(PAGE_SIZE_4K)) / PAGE_SIZE_4K;
-    writeln!(s, "bss={} {}\npages={pages}", bss.start, bss.end).unwrap();
+    writeln!(s, "bss={} {}\npages={}", bss.start, bss.end, count(&segments, bss)).unwrap();
     Ok(s)
 }

@@ -5,7 +5,8 @@
 //!     oracle list     an image on standard input, document 01's listing
 //!     oracle lists    an image a line, as BYTES; its listing on one line, `;` between the lines
 //!
-//! What the Rust has no notion of is the harness's own, by document 01's rules: those places say so.
+//! What the Rust has no notion of is the harness's own, by the papers' rules: those places say so. With ORACLE_NEEDS=1 a last line
+//! on standard error counts the forks and replaces that the harness's own needs of frames decide.
 
 mod answer;
 mod calls;
@@ -18,6 +19,7 @@ mod text;
 mod world;
 
 use std::io::{Read, Write};
+use std::sync::atomic::Ordering::Relaxed;
 
 fn main() {
     // A panic of the Rust is an answer of its own, `assert ..`; no trace of it.
@@ -34,6 +36,9 @@ fn main() {
                 if let Some(answer) = script::answer(&mut w, line) {
                     writeln!(out, "{answer}").unwrap();
                 }
+            }
+            if std::env::var_os("ORACLE_NEEDS").is_some() {
+                eprintln!("needs: {} {}", calls::FORKS.load(Relaxed), calls::REPLACES.load(Relaxed));
             }
         }
         ["list"] => write!(out, "{}", listing::listing(&input)).unwrap(),

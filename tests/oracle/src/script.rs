@@ -75,6 +75,8 @@ pub fn same_list(list: &[[u64; 3]], r: &Record) -> bool {
 /// What kinds of segments are called, by their permissions.
 pub const KINDS: [&str; 4] = ["", "text", "rodata", "data"];
 const PAGE: u64 = 4_096;
+/// A frame's words in the book: its places 1 to 16, then the count of its holders.
+pub const WORDS: usize = 17;
 /// The most frames there are: one more than a book may have.
 const FRAMES: u64 = 1_025;
 /// The longest line, and the longest buffer of `from` and `string`.
@@ -226,8 +228,8 @@ fn sum(w: &mut impl Calls) -> String {
     format!("records={:08x} book={:08x} frames={:08x}", crc(&records), crc(&words(w.book())), crc(w.frames()))
 }
 
-/// What a process holds, for a person: its name, each segment and the bss, and each page with its frame. Every line after the first
-/// begins with a space.
+/// What a process holds, for a person: its name, each segment and the bss, and each page with its frame and the frame's holders.
+/// Every line after the first begins with a space.
 fn map(w: &mut impl Calls, n: u64) -> String {
     let r = match within(n).map(|n| w.record(n)) {
         Ok(r) if r == Record::default() => return "refused 4".into(),
@@ -243,8 +245,16 @@ fn map(w: &mut impl Calls, n: u64) -> String {
         let kind = if *perm == 0 { "bss" } else { KINDS[*perm as usize] };
         write!(s, "\n  {kind} {start} {end} size {}", end - start).unwrap();
         for va in (start.next_multiple_of(PAGE)..*end).step_by(PAGE as usize) {
-            let frame = w.book().iter().position(|word| word / PAGE * PAGE == va && word % PAGE / 16 == n);
-            write!(s, "\n    page {va} frame {}", frame.map_or("none".into(), |f| f.to_string())).unwrap();
+            let mut frames = w.book().chunks(WORDS).enumerate();
+            let frame = frames.find(|(_, f)| f[n as usize - 1] / PAGE * PAGE == va && f[n as usize - 1] % PAGE / 16 == n);
+            match frame {
+                None => write!(s, "\n    page {va} frame none").unwrap(),
+                Some((i, words)) => {
+                    let places = (1..WORDS).zip(words).filter(|(_, w)| **w != 0);
+                    let holders: String = places.map(|(n, _)| format!(" {n}")).collect();
+                    write!(s, "\n    page {va} frame {i} holders{holders}").unwrap();
+                }
+            }
             pages += 1;
         }
     }

@@ -3,13 +3,13 @@ use crate::script::{Answer, Calls, Record, Stop, within};
 use crate::world::{PAGE, World};
 use r9::machine::{LIMIT, STACK, USTKTOP, UTZERO};
 use r9::mem::PAGE_SIZE_4K;
-use r9::procs::PROCS;
+use r9::procs::{PROCS, WORDS};
 use std::collections::BTreeMap;
 
 impl World {
     /// Numbers 1 and 2.
     pub fn enter(&self) -> Answer<()> {
-        if self.bytes != PAGE_SIZE_4K * self.words || !(1..=1_024).contains(&self.words) {
+        if !(1..=1_024).any(|frames| (self.bytes, self.words) == (PAGE_SIZE_4K * frames, WORDS * frames)) {
             return Err(Stop::Refused(1));
         }
         if !self.sound() {
@@ -18,19 +18,26 @@ impl World {
         Ok(())
     }
 
-    /// Whether the lent book is sound, by document 01's item 2.
+    /// Whether the lent book is sound, by document 01's item 2 and document 02's request 10.
     fn sound(&self) -> bool {
         let mut pages: [BTreeMap<u64, u64>; PROCS + 1] = [const { BTreeMap::new() }; PROCS + 1];
-        for &w in &self.book[..self.words] {
-            if w == 0 {
-                continue;
+        for words in self.book[..self.words].chunks_exact(WORDS) {
+            let mut count = 0;
+            let mut first = 0;
+            for (n, &w) in (1..=PROCS as u64).zip(words).filter(|(_, w)| **w != 0) {
+                // The word less its owner is what a frame's mappings have in common.
+                let Some(common) = w.checked_sub(16 * n) else { return false };
+                let (page, perm) = (common / PAGE * PAGE, common % PAGE);
+                if !(1..=3).contains(&perm)
+                    || !(UTZERO as u64..USTKTOP as u64).contains(&page)
+                    || pages[n as usize].insert(page, perm).is_some()
+                    || count > 0 && (common != first || perm == 3)
+                {
+                    return false;
+                }
+                (count, first) = (count + 1, common);
             }
-            let (page, owner, perm) = (w / PAGE * PAGE, w % PAGE / 16, w % 16);
-            if !(1..=PROCS as u64).contains(&owner)
-                || !(1..=3).contains(&perm)
-                || !(UTZERO as u64..USTKTOP as u64).contains(&page)
-                || pages[owner as usize].insert(page, perm).is_some()
-            {
+            if words[PROCS] != count {
                 return false;
             }
         }

@@ -3,11 +3,17 @@
 //! The book is what holds between calls. Before a call the address spaces and the page allocator are made from it, then the Rust
 //! runs, and after it the book is written again from the address spaces. The records are the Rust's own processes: segments, bss
 //! and text.
+//!
+//! The Rust copies every page at a fork, where document 02's request 10 has text and rodata shared, and frees every page of a
+//! process that is replaced. One rule has its frames come out as the book's: a fork finds as many spare frames above the lent ones
+//! as the parent has pages of text and rodata, and a frame that other processes hold too is not freed with a process. The Rust asks
+//! for text and rodata first and gets the highest frames first, so the spare frames take their copies, and only these; after the
+//! fork the spare frames go, and the child's pages are mapped where the parent's are.
 use crate::script::{Answer, Stop};
-use r9::machine::{Host, Space};
+use r9::machine::{Host, SHARED, Space};
 use r9::mem::{PAGE_SIZE_4K, PhysRange};
 use r9::pagealloc;
-use r9::procs::{Procs, free_frames};
+use r9::procs::{PROCS, Procs, WORDS, free_frames};
 use std::collections::BTreeMap;
 
 pub const PAGE: u64 = PAGE_SIZE_4K as u64;
@@ -37,46 +43,82 @@ impl Space for Pages {
     }
 }
 
+impl Pages {
+    /// How many pages are mapped.
+    pub fn len(&self) -> usize {
+        self.0.len()
+    }
+}
+
 /// The machine that the Rust runs on here.
 pub type Machine = Host<Pages>;
 
 pub struct World {
-    /// All frames' bytes, and how many of them and of the book's words are lent.
-    pub frames: Vec<u8>,
+    /// All frames' bytes, then as many of spare frames.
+    pub memory: Vec<u8>,
+    /// How many frames there are; how many of their bytes and of the book's words are lent.
+    pub count: usize,
     pub bytes: usize,
     pub words: usize,
     pub book: Vec<u64>,
+    /// How many spare frames the page allocator has: none but in a fork.
+    pub spare: usize,
     pub procs: Procs<Pages>,
     /// Whether frame bytes stay as the Rust leaves them after a failure.
     pub as_left: bool,
 }
 
 impl World {
-    /// The address spaces and the page allocator, from the book.
+    /// The bytes of the frames.
+    pub fn frame_bytes(&self) -> &[u8] {
+        &self.memory[..self.count * PAGE_SIZE_4K]
+    }
+
+    /// How many frames are lent.
+    fn lent(&self) -> usize {
+        self.words / WORDS
+    }
+
+    /// How many of them no mapping names.
+    pub fn free(&self) -> usize {
+        self.book[..self.words].chunks(WORDS).filter(|f| f[PROCS] == 0).count()
+    }
+
+    /// How many of them hold text or rodata of process `n`, which a fork shares.
+    pub fn to_share(&self, n: usize) -> usize {
+        self.book[..self.words].chunks(WORDS).filter(|f| [1, 2].contains(&(f[n - 1] % 16))).count()
+    }
+
+    /// The address spaces and the page allocator, from the book. Frames that aren't lent are in use.
     fn load(&mut self) {
-        for n in 1..=r9::procs::PROCS {
+        for n in 1..=PROCS {
             if self.procs.lives(n) {
                 self.procs.space_mut(n).0.clear();
             }
         }
-        let mut used = Vec::new();
-        for (i, &w) in self.book[..self.words].iter().enumerate().filter(|(_, w)| **w != 0) {
+        let mut used = vec![PhysRange::with_end(self.bytes as u64, (self.count * PAGE_SIZE_4K) as u64)];
+        for (i, words) in self.book[..self.words].chunks(WORDS).enumerate().filter(|(_, f)| f[PROCS] > 0) {
             let pa = i as u64 * PAGE;
-            self.procs.space_mut((w % PAGE / 16) as usize).set((w / PAGE * PAGE) as usize, pa + w % 16);
+            let shared = if words[PROCS] > 1 { SHARED } else { 0 };
+            for (n, w) in (1..).zip(&words[..PROCS]).filter(|(_, w)| **w != 0) {
+                self.procs.space_mut(n).set((w / PAGE * PAGE) as usize, pa + w % 16 + shared);
+            }
             used.push(PhysRange::with_len(pa, PAGE_SIZE_4K));
         }
-        free_frames(self.words as u64, used.into_iter());
+        free_frames((self.count + self.spare) as u64, used.into_iter());
     }
 
     /// The book, from the address spaces; every frame in use must be in it.
     fn store(&mut self) -> Answer<()> {
-        let words = self.words;
-        self.book[..words].copy_from_slice(&self.procs.book(words));
         if self.procs.spaces().any(|(n, _)| self.procs.record(n).unwrap().segments.len() > SEGMENTS) {
             return Err(Stop::Assert("oracle: too many segments".into()));
         }
-        let used = self.book[..words].iter().filter(|w| **w != 0).count();
-        if used * PAGE_SIZE_4K != pagealloc::usage_bytes().0 {
+        let lent = self.lent();
+        if self.procs.spaces().flat_map(|(_, s)| s.mapped()).any(|(_, e)| e >= lent as u64 * PAGE) {
+            return Err(Stop::Assert("oracle: a page is in a frame that isn't lent".into()));
+        }
+        self.book[..self.words].copy_from_slice(&self.procs.book(lent));
+        if (self.count - self.free()) * PAGE_SIZE_4K != pagealloc::usage_bytes().0 {
             return Err(Stop::Assert("oracle: a frame is in use and in no address space".into()));
         }
         Ok(())
@@ -86,14 +128,14 @@ impl World {
     /// bytes are as before a call that was refused or ended the process, where the Rust has by then written to frames that are free
     /// again (ORACLE_AS_LEFT=1 shows them so).
     pub fn run<T>(&mut self, n: usize, f: impl FnOnce(&mut Self) -> Answer<T>) -> Answer<T> {
-        let before = self.frames.clone();
+        let before = self.frame_bytes().to_vec();
         self.load();
         let r = f(self);
         if let Err(Stop::Ended(_)) = r {
             self.procs.remove(n);
         }
         if r.is_err() && !self.as_left {
-            self.frames.copy_from_slice(&before);
+            self.memory[..before.len()].copy_from_slice(&before);
         }
         self.store()?;
         r

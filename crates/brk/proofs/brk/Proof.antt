@@ -1,5 +1,4 @@
 -- `brk` meets its contract: `ibrk`'s rule over the process's bss and the free frames decides, and what it allows is done.
-use Prim.Native.Nat.{_%_}
 use native.Mathlib.Omega.{arith}
 use mathlib.Core.Path.{_≡_, refl, sym, ap, _∙_}
 use mathlib.Core.Bool.{true}
@@ -12,12 +11,10 @@ use Rattle.spec.specs.Machine.{break, outcomeOf, plainly, weighBreak}
 use Rattle.spec.specs.World.{State, taken, view, brk, leave, Does}
 use Rattle.spec.specs.declared.Proc.{Proc}
 use Rattle.spec.specs.declared.Answer.{Answer}
-use Rattle.spec.specs.declared.Answer.the-variants.{Value, Refused}
 use Rattle.spec.proofs.Setups.{setup-means}
 use Rattle.laws.proofs.Record.{Whole}
 use Rattle.history.proofs.Accepted.{Moves, ibrk-moves}
 use Rattle.records.proofs.Whole.{whole-procs}
-use Rattle.sound.proofs.Lookup.{blank-zeros, free-frames}
 use Rattle.segment.specs.Rule.{breakOf}
 use Rattle.front.specs.Numbers.{stateOf, call}
 use Rattle.front.proofs.First.{Passed, plain-none, sizes-words}
@@ -33,38 +30,38 @@ whole c = let g = c .good .1 .1 .1 .0 .1 .1 .0 in whole-procs (c .args .procs) (
 -- where no number came first
 module _ (c : tie.Else1) where
   abbrev start : tie.Start
-  start = c .before .before .before .before .before .before .before .before .before
+  start = c .before .before .before .before .before .before
 
   abbrev state : State
   state = stateOf (start .args .setup) (now (start .args .frames)) (now (start .args .book)) (start .args .procs)
 
   passed : Passed state (start .args .number) true × (taken state (start .args .number) ≡ true)
-  passed = plain-none state (start .args .number) true (sym (c .before .plain-ready .ensures .0) ∙ c .if1 .left)
+  passed = plain-none state (start .args .number) true (sym (c .before .plain-error .ensures) ∙ c .if1 .left)
 
 -- where the rule has answered
 module _ (c : tie.After-ibrk) where
   abbrev first : tie.Else1
-  first = c .before .before .before .before .before .before
+  first = c .before .before .before .before .before
 
   rule : breakOf (c .ibrk .result) ≡ ibrk (start first .args .setup) (some (view (state first) (start first .args .number) .bss)) (start first .args .addr) (free (now (start first .args .book)))
   rule =
-      break-rule (start first .args .setup) (breakOf (c .ibrk .result)) _ _ _ _ _ (c .ibrk .ensures) (ap (λ (p : Proc). p .bss) (c .before .before .before .before .before .proc-at .ensures)) (c .before .free-frames .ensures _ _ (first .before .plain-ready .ensures .1 (first .if1 .left)))
+      break-rule (start first .args .setup) (breakOf (c .ibrk .result)) _ _ _ _ _ (c .ibrk .ensures) (ap (λ (p : Proc). p .bss) (c .before .before .before .before .proc-at .ensures)) (c .before .free-count .ensures)
 
   -- an answer of the rule is the call's
   answers : (t : State) (a : Answer) → weighBreak (ibrk (start first .args .setup) (some (view (state first) (start first .args .number) .bss)) (start first .args .addr) (free (now (start first .args .book)))) ≡ a
       → t ≡ leave (state first) (call (start first .args .number) (break (start first .args .addr))) (outcomeOf a)
       → Does (state first) (call (start first .args .number) (break (start first .args .addr))) t (plainly a)
   answers t a w l =
-      let e = first .before .plain-ready in
+      let e = first .before .plain-error in
       let q = break (start first .args .addr) in
-      plain-goes _ _ q (e .result) refl (e .ensures .0) (first .if1 .left) t (plainly a) (ap plainly w) l
+      plain-goes _ _ q (e .result) refl (e .ensures) (first .if1 .left) t (plainly a) (ap plainly w) l
 
 -- and lets the end move
 moves : (c : tie.Else3) → Moves (start (first (c .before .before)) .args .setup) (view (state (first (c .before .before))) (start (first (c .before .before)) .args .number) .bss) (start (first (c .before .before)) .args .addr) (free (now (start (first (c .before .before)) .args .book)))
 moves c = let i = c .before .before in ibrk-moves _ _ _ _ (sym (ap (λ (b : Break). b .error) (rule i)) ∙ c .before .if2 .left) (c .if3 .left)
 
-plain-ready-requires : tie.Need-plain-ready-requires
-plain-ready-requires c κs = (refl, refl, refl, blank-zeros 1024)
+plain-error-requires : tie.Need-plain-error-requires
+plain-error-requires c κs = search needs
 
 same-length : tie.Need-same-length
 same-length c = search needs
@@ -74,15 +71,15 @@ same-length-2 c = search needs
 
 returns : tie.Need-returns
 returns c =
-    let e = c .before .plain-ready in
-    let q = break (c .before .before .before .before .before .before .before .before .before .args .addr) in
-    plain-refused _ _ q (e .result) refl (e .ensures .0) (c .if1 .taken)
+    let e = c .before .plain-error in
+    let q = break (c .before .before .before .before .before .before .args .addr) in
+    plain-refused _ _ q (e .result) refl (e .ensures) (c .if1 .taken)
 
 proc-at-requires : tie.Need-proc-at-requires
 proc-at-requires c κs = passed c .0 .number
 
-free-frames-requires : tie.Need-free-frames-requires
-free-frames-requires c κs = let f = c .before .before .before .before in omega (arith, free-frames _ _ _ _ (f .before .plain-ready .ensures .1 (f .if1 .left)))
+free-count-requires : tie.Need-free-count-requires
+free-count-requires c κs = search needs
 
 ibrk-requires : tie.Need-ibrk-requires
 ibrk-requires c κs = search needs
@@ -135,12 +132,12 @@ pub brk-spec : {M : Type 1} → statement M
 brk-spec =
     tie.close
     (tie.spec
-    plain-ready-requires
+    plain-error-requires
     same-length
     same-length-2
     returns
     proc-at-requires
-    free-frames-requires
+    free-count-requires
     ibrk-requires
     same-length-3
     same-length-4

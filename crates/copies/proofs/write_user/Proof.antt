@@ -59,7 +59,7 @@ write-part-requires c κs =
     let n = c .before .before .in-page in
     let q : l .i + n .result - l .i ≡ n .result = omega arith in
     let w = mid-len (l .i) (l .i + n .result) (now (a .bytes)) (omega (arith, n .ensures)) in (
-      (l .inv .1 ∙ start .pre .0 .0, start .pre .0 .1),
+      (l .inv .1 ∙ start .pre .0 .0, start .pre .0 .1, start .pre .0 .2, start .pre .0 .3),
       (
         omega (arith, n .ensures, w, q),
         range-cell (start .pre .1 .0) (now (a .frames)) (l .frames) (now (a .book)) (a .number) true (a .addr) (length (now (a .bytes))) (a .addr + l .i) (start .pre .1 .2) (omega arith) (omega arith),

@@ -6,7 +6,7 @@ use Rattle.first.proofs.number_error.Statement.{statement}
 use Rattle.first.proofs.number_error.Tie as tie
 
 number-ready-requires : tie.Need-number-ready-requires
-number-ready-requires c κs = (refl, refl, refl, blank-zeros 1024)
+number-ready-requires c κs = (refl, refl, refl, blank-zeros 16384)
 
 returns : tie.Need-returns
 returns c = search needs

@@ -1,7 +1,7 @@
 -- `number_ready` meets its contract: each test is the specification's, in its order.
 use native.Mathlib.Omega.{arith}
 use mathlib.Core.Path.{_≡_, refl, sym, ap, _∙_}
-use mathlib.Core.Bool.{Bool, true, _&&_}
+use mathlib.Core.Bool.{Bool, _&&_}
 use denote.Ref.{now}
 use borrow.Author.Needs.{needs}
 use borrow.Author.Tests.{not-false}
@@ -35,7 +35,8 @@ prepare-requires c κs =
     let d = c .before .before .before in
     let a = d .before .before .before .before in
     let s = sym (d .before .sizes-ok .ensures) ∙ both (d .before .sizes-ok .result) (a .args .fits) (not-false _ (d .if1 .left)) .0 in
-    (sizes-words (now (a .args .frames)) (now (a .args .book)) s .2, a .pre .0, a .pre .1, a .pre .2, a .pre .3)
+    let z = sizes-words (now (a .args .frames)) (now (a .args .book)) s in
+    (omega (arith, z .2, z .3), a .pre .0, a .pre .1, a .pre .2, a .pre .3)
 
 returns-2 : tie.Need-returns-2
 unfolding numberError

@@ -1,26 +1,28 @@
--- `fork` meets its contract: the parent's pages are counted, then copied.
+-- `fork` meets its contract: the parent's data pages are counted, the others shared, then these copied.
 use native.Mathlib.Omega.{arith}
 use mathlib.Core.Path.{_≡_, refl, sym, ap, _∙_}
 use mathlib.Core.Bool.{true}
 use mathlib.Core.List.{List, [], _∷_, _++_}
 use denote.Ref.{now}
 use borrow.Author.Needs.{needs}
-use Rattle.spec.specs.Book.{free, used, bssSegment, pageCount, procAt, piecesOf}
+use Rattle.spec.specs.Book.{free, used, bssSegment, pageCount, procAt, piecesOf, dataOnly}
 use Rattle.spec.specs.Sound.{Shape}
 use Rattle.spec.specs.World.{State, view, setProc}
 use Rattle.spec.specs.declared.UserSegment.{UserSegment}
 use Rattle.spec.specs.declared.Proc.{Proc}
-use Rattle.laws.proofs.Record.{Whole}
+use Rattle.laws.proofs.Held.{valid-low, valid-high}
+use Rattle.laws.proofs.Record.{Whole, whole-typed}
 use Rattle.records.proofs.Whole.{whole-procs}
-use Rattle.sound.proofs.Lookup.{blank-zeros, free-frames}
+use Rattle.sound.proofs.Lookup.{blank-zeros}
+use Rattle.book.specs.Lent.{store}
 use Rattle.front.specs.Numbers.{stateOf}
-use Rattle.front.proofs.First.{Forks, fork-none}
+use Rattle.front.proofs.First.{Forks, fork-none, fork-other}
 use Rattle.front.proofs.Answers.{fork-refused, fork-goes}
 use Rattle.front.proofs.Living.{living-shape}
 use Rattle.spec.proofs.Setups.{setup-means}
-use Rattle.front.proofs.Own.{count-own}
 use Rattle.front.proofs.States.{state-is}
-use Rattle.fork.proofs.Forked.{fork-short, fork-fits}
+use Rattle.fork.proofs.Told.{holders-most}
+use Rattle.fork.proofs.Forked.{data-own, fork-store, fork-short, fork-fits}
 use Rattle.fork.proofs.fork.Statement.{statement}
 use Rattle.fork.proofs.fork.Tie as tie
 
@@ -42,18 +44,18 @@ module _ (c : tie.Else1) where
   shape = living-shape state (start .args .number) true whole (forks .passed) (forks .parent)
 
 -- the counts are the specification's
-free-is : (c : tie.After-free-frames) → c .free-frames .result ≡ free (now (start (c .before .before .before .before) .args .book))
-free-is c = let f = c .before .before .before .before in c .free-frames .ensures _ _ (f .before .fork-ready .ensures .1 (f .if1 .left))
+free-is : (c : tie.After-free-count) → c .free-count .result ≡ free (now (start (c .before .before .before) .args .book))
+free-is c = c .free-count .ensures
 
-counted : (c : tie.After-own-pages) → c .own-pages .result ≡ pageCount (piecesOf (procAt (start (c .before .before .before .before .before) .args .procs) (start (c .before .before .before .before .before) .args .number)))
+counted : (c : tie.After-data-pages) → c .data-pages .result ≡ pageCount (dataOnly (piecesOf (procAt (start (c .before .before .before .before) .args .procs) (start (c .before .before .before .before) .args .number))))
 counted c =
-    let f = c .before .before .before .before .before in
+    let f = c .before .before .before .before in
     let h = shape f in
-    c .own-pages .ensures ∙ ap (λ (p : Proc). pageCount (p .segments ++ bssSegment (p .bss) ∷ [])) (c .before .before .before .before .proc-at .ensures)
-    ∙ count-own (procAt (start f .args .procs) (start f .args .number)) (h .0) (h .1)
+    c .data-pages .ensures ∙ ap (λ (p : Proc). pageCount (dataOnly (p .segments ++ bssSegment (p .bss) ∷ []))) (c .before .before .before .proc-at .ensures)
+    ∙ ap pageCount (data-own (procAt (start f .args .procs) (start f .args .number)) (h .0) (h .1))
 
 fork-ready-requires : tie.Need-fork-ready-requires
-fork-ready-requires c κs = (refl, refl, refl, blank-zeros 1024)
+fork-ready-requires c κs = (refl, refl, refl, blank-zeros 16384)
 
 same-length : tie.Need-same-length
 same-length c = search needs
@@ -67,11 +69,11 @@ returns c = let e = c .before .fork-ready in fork-refused _ _ _ (e .result) (e .
 proc-at-requires : tie.Need-proc-at-requires
 proc-at-requires c κs = forks c .passed .number
 
-free-frames-requires : tie.Need-free-frames-requires
-free-frames-requires c κs = let f = c .before .before .before in omega (arith, free-frames _ _ _ _ (f .before .fork-ready .ensures .1 (f .if1 .left)))
+free-count-requires : tie.Need-free-count-requires
+free-count-requires c κs = search needs
 
-own-pages-requires : tie.Need-own-pages-requires
-own-pages-requires c κs = let f = c .before .before .before .before in let b = shape f .1 in rw (c .before .before .before .proc-at .ensures) (omega (arith, b .bss-order, b .bss-end .1, setup-means (start f .args .setup) (forks f .passed .setup)))
+data-pages-requires : tie.Need-data-pages-requires
+data-pages-requires c κs = let f = c .before .before .before in let b = shape f .1 in rw (c .before .before .proc-at .ensures) (omega (arith, b .bss-order, b .bss-end .1, setup-means (start f .args .setup) (forks f .passed .setup)))
 
 same-length-3 : tie.Need-same-length-3
 same-length-3 c = search needs
@@ -81,19 +83,36 @@ same-length-4 c = search needs
 
 returns-2 : tie.Need-returns-2
 returns-2 c =
-    let f = c .before .before .before .before .before .before in
+    let f = c .before .before .before .before .before in
     let a = start f .args in
     let e = f .before .fork-ready in
     fork-goes (state f) (a .number) (a .child) (e .result) (e .ensures .0) (f .if1 .left) _ _
-    (fork-short (view (state f) (a .number)) (free (now (a .book))) (a .child) (used (procAt (a .procs) (a .number) .segments)) (omega (arith, counted (c .before), free-is (c .before .before)))) refl
+    (fork-short (view (state f) (a .number)) (free (now (a .book))) 0 (a .child) (used (procAt (a .procs) (a .number) .segments)) (omega (arith, counted (c .before), free-is (c .before .before)))) refl
+
+share-pages-requires : tie.Need-share-pages-requires
+share-pages-requires c κs =
+    let f = c .before .before .before .before .before .before in
+    let k = forks f in (
+      (valid-low _ (k .passed .number), valid-high _ (k .passed .number), valid-low _ (k .second), valid-high _ (k .second)),
+      holders-most (now (start f .args .book)) (f .before .fork-ready .ensures .1 (f .if1 .left) .mappings),
+    )
 
 copy-segments-requires : tie.Need-copy-segments-requires
 copy-segments-requires c κs =
-    let f = c .before .before .before .before .before .before .before .before .before .before .before in
-    ((start f .args .setup, sym (f .before .fork-ready .ensures .0) ∙ f .if1 .left), f .before .fork-ready .ensures .1 (f .if1 .left))
+    let f = c .before .before .before .before .before .before .before .before .before .before .before .before .before .before in
+    record {
+      setup = start f .args .setup;
+      procs = start f .args .procs;
+      was = now (start f .args .book);
+      types = whole-typed (state f) (whole f);
+      record-is = c .before .before .before .before .before .before .before .before .before .before .before .before .before .proc-at .ensures;
+      passed = sym (f .before .fork-ready .ensures .0) ∙ f .if1 .left;
+      ready = f .before .fork-ready .ensures .1 (f .if1 .left);
+      shared = c .before .before .before .before .before .before .before .share-pages .ensures (now (start f .args .frames));
+    }
 
 with-proc-requires : tie.Need-with-proc-requires
-with-proc-requires c κs = forks (c .before .before .before .before .before .before .before .before .before .before .before .before .before .before .before .before) .second
+with-proc-requires c κs = forks (c .before .before .before .before .before .before .before .before .before .before .before .before .before .before .before .before .before .before .before) .second
 
 same-length-5 : tie.Need-same-length-5
 same-length-5 c = search needs
@@ -103,13 +122,18 @@ same-length-6 c = search needs
 
 returns-3 : tie.Need-returns-3
 returns-3 c =
-    let u = c .before .before .before .before .before .before .before .before .before .before .before in
-    let f = u .before .before .before .before .before .before in
+    let u = c .before .before .before .before .before .before .before .before .before .before .before .before .before .before .before in
+    let f = c .before .before .before .before .before .before .before .before .before .before .before .before .before .before .before .before .before .before .before .before in
     let a = start f .args in
     let e = f .before .fork-ready in
+    let k = forks f in
+    let q = c .before .before .before .before .before .before .before .before .before .before .before .before .before .before .before .before .before .before .before .proc-at .ensures in
     fork-goes (state f) (a .number) (a .child) (e .result) (e .ensures .0) (f .if1 .left) _ _
-    (fork-fits (view (state f) (a .number)) (free (now (a .book))) (a .child) (used (procAt (a .procs) (a .number) .segments)) (omega (arith, counted (u .before), free-is (u .before .before))))
-    (state-is _ _ _ _ _ (c .before .before .before .before .before .copy-segments .ensures) (c .with-proc .ensures ∙ ap (setProc (a .procs) (a .child)) (u .before .before .before .before .before .proc-at .ensures)))
+    (fork-fits (view (state f) (a .number)) (free (now (a .book))) 0 (a .child) (used (procAt (a .procs) (a .number) .segments)) (omega (arith, counted (u .before), free-is (u .before .before))))
+    (state-is _ _ _ _ _
+    (fork-store (store (now (a .frames)) (now (a .book))) _ _ _ _ _ (a .number) (a .child) (dataOnly (piecesOf (procAt (a .procs) (a .number)))) (k .passed .number) (k .second) (fork-other (state f) (a .number) (a .child) k)
+    (e .ensures .1 (f .if1 .left)) (c .before .before .before .before .before .before .before .before .before .before .before .before .before .share-pages .ensures (now (a .frames))) (rw (← q) (c .before .before .before .before .before .copy-segments .ensures)))
+    (c .with-proc .ensures ∙ ap (setProc (a .procs) (a .child)) q))
 
 pub fork-spec : {M : Type 1} → statement M
 fork-spec =
@@ -120,11 +144,12 @@ fork-spec =
     same-length-2
     returns
     proc-at-requires
-    free-frames-requires
-    own-pages-requires
+    free-count-requires
+    data-pages-requires
     same-length-3
     same-length-4
     returns-2
+    share-pages-requires
     copy-segments-requires
     with-proc-requires
     same-length-5

@@ -1,11 +1,11 @@
 -- `fork_number` meets its contract: the numbers that come first, the list's 2 among them, then the parent's pages are counted.
 use native.Mathlib.Omega.{arith}
-use mathlib.Core.Path.{_≡_, sym, ap, _∙_}
+use mathlib.Core.Path.{_≡_, refl, sym, ap, _∙_}
 use mathlib.Core.Bool.{true}
 use mathlib.Core.List.{List, [], _∷_, _++_}
 use denote.Ref.{now}
 use borrow.Author.Needs.{needs}
-use Rattle.spec.specs.Book.{free, bssSegment, pageCount, procAt, piecesOf}
+use Rattle.spec.specs.Book.{free, bssSegment, pageCount, procAt, piecesOf, dataOnly}
 use Rattle.spec.specs.Sound.{Shape}
 use Rattle.spec.specs.World.{State}
 use Rattle.spec.specs.declared.UserSegment.{UserSegment}
@@ -13,11 +13,11 @@ use Rattle.spec.specs.declared.Proc.{Proc}
 use Rattle.spec.proofs.Setups.{setup-means}
 use Rattle.laws.proofs.Record.{Whole}
 use Rattle.records.proofs.Whole.{whole-procs}
-use Rattle.sound.proofs.Lookup.{free-frames}
+use Rattle.sound.proofs.Lookup.{blank-zeros}
 use Rattle.front.specs.Numbers.{stateOf}
 use Rattle.front.proofs.First.{Forks, fork-none}
 use Rattle.front.proofs.Living.{living-shape}
-use Rattle.front.proofs.Own.{count-own}
+use Rattle.fork.proofs.Forked.{data-own}
 use Rattle.forks.proofs.Judged.{torn, first-number, too-few, enough}
 use Rattle.forks.proofs.fork_number.Statement.{statement}
 use Rattle.forks.proofs.fork_number.Tie as tie
@@ -40,18 +40,18 @@ module _ (c : tie.Else2) where
   shape = living-shape state (start .args .number) true whole (forks .passed) (forks .parent)
 
 -- the counts are the specification's
-free-is : (c : tie.After-free-frames) → c .free-frames .result ≡ free (now (start (c .before .before .before) .args .book))
-free-is c = let f = c .before .before .before in c .free-frames .ensures _ _ (f .before .before .before .fork-ready .ensures .1 (f .if2 .left))
+free-is : (c : tie.After-free-count) → c .free-count .result ≡ free (now (start (c .before .before) .args .book))
+free-is c = c .free-count .ensures
 
-counted : (c : tie.After-own-pages) → c .own-pages .result ≡ pageCount (piecesOf (procAt (start (c .before .before .before .before) .args .procs) (start (c .before .before .before .before) .args .number)))
+counted : (c : tie.After-data-pages) → c .data-pages .result ≡ pageCount (dataOnly (piecesOf (procAt (start (c .before .before .before) .args .procs) (start (c .before .before .before) .args .number))))
 counted c =
-    let f = c .before .before .before .before in
+    let f = c .before .before .before in
     let h = shape f in
-    c .own-pages .ensures ∙ ap (λ (p : Proc). pageCount (p .segments ++ bssSegment (p .bss) ∷ [])) (c .before .before .before .proc-at .ensures)
-    ∙ count-own (procAt (start f .args .procs) (start f .args .number)) (h .0) (h .1)
+    c .data-pages .ensures ∙ ap (λ (p : Proc). pageCount (dataOnly (p .segments ++ bssSegment (p .bss) ∷ []))) (c .before .before .proc-at .ensures)
+    ∙ ap pageCount (data-own (procAt (start f .args .procs) (start f .args .number)) (h .0) (h .1))
 
 fork-ready-requires : tie.Need-fork-ready-requires
-fork-ready-requires c κs = search needs
+fork-ready-requires c κs = (refl, refl, refl, blank-zeros 16384)
 
 is-number-requires : tie.Need-is-number-requires
 is-number-requires c κs = search needs
@@ -61,39 +61,39 @@ returns c =
     let a = c .before .before .before .before .before .before .before .before .args in
     let e = c .before .before .fork-ready in
     let v = c .before .is-number in
-    (torn (stateOf (a .setup) (now (a .frames)) (now (a .book)) (a .procs)) (a .number) (a .child) (a .alike) (e .result) (v .result) (e .ensures .0) (v .ensures) (c .if1 .taken), λ z. absurd (omega arith))
+    torn (stateOf (a .setup) (now (a .frames)) (now (a .book)) (a .procs)) (a .number) (a .child) (a .alike) (e .result) (v .result) (e .ensures .0) (v .ensures) (c .if1 .taken)
 
 returns-2 : tie.Need-returns-2
 returns-2 c =
     let a = c .before .before .before .before .before .before .before .before .before .args in
     let e = c .before .before .before .fork-ready in
     let v = c .before .before .is-number in
-    (first-number (stateOf (a .setup) (now (a .frames)) (now (a .book)) (a .procs)) (a .number) (a .child) (a .alike) (e .result) (v .result) (e .ensures .0) (v .ensures) (c .before .if1 .left) (c .if2 .taken), λ z. absurd (c .if2 .taken z))
+    first-number (stateOf (a .setup) (now (a .frames)) (now (a .book)) (a .procs)) (a .number) (a .child) (a .alike) (e .result) (v .result) (e .ensures .0) (v .ensures) (c .before .if1 .left) (c .if2 .taken)
 
 proc-at-requires : tie.Need-proc-at-requires
 proc-at-requires c κs = forks c .passed .number
 
-free-frames-requires : tie.Need-free-frames-requires
-free-frames-requires c κs = let f = c .before .before in omega (arith, free-frames _ _ _ _ (f .before .before .before .fork-ready .ensures .1 (f .if2 .left)))
+free-count-requires : tie.Need-free-count-requires
+free-count-requires c κs = search needs
 
-own-pages-requires : tie.Need-own-pages-requires
-own-pages-requires c κs = let f = c .before .before .before in let b = shape f .1 in rw (c .before .before .proc-at .ensures) (omega (arith, b .bss-order, b .bss-end .1, setup-means (start f .args .setup) (forks f .passed .setup)))
+data-pages-requires : tie.Need-data-pages-requires
+data-pages-requires c κs = let f = c .before .before in let b = shape f .1 in rw (c .before .proc-at .ensures) (omega (arith, b .bss-order, b .bss-end .1, setup-means (start f .args .setup) (forks f .passed .setup)))
 
 returns-3 : tie.Need-returns-3
 returns-3 c =
-    let f = c .before .before .before .before .before in
+    let f = c .before .before .before .before in
     let a = start f .args in
     let e = f .before .before .before .fork-ready in
     let v = f .before .before .is-number in
-    (too-few (state f) (a .number) (a .child) (a .alike) (e .result) (v .result) (e .ensures .0) (v .ensures) (f .before .if1 .left) (f .if2 .left) (omega (arith, counted (c .before), free-is (c .before .before), c .if3 .taken)), λ z. absurd (omega arith))
+    too-few (state f) (a .number) (a .child) (a .alike) (e .result) (v .result) (e .ensures .0) (v .ensures) (f .before .if1 .left) (f .if2 .left) (omega (arith, counted (c .before), free-is (c .before .before), c .if3 .taken))
 
 returns-4 : tie.Need-returns-4
 returns-4 c =
-    let f = c .before .before .before .before .before in
+    let f = c .before .before .before .before in
     let a = start f .args in
     let e = f .before .before .before .fork-ready in
     let v = f .before .before .is-number in
-    (enough (state f) (a .number) (a .child) (a .alike) (e .result) (v .result) (e .ensures .0) (v .ensures) (f .before .if1 .left) (f .if2 .left) (omega (arith, counted (c .before), free-is (c .before .before), c .if3 .left)), λ z. e .ensures .1 (f .if2 .left))
+    enough (state f) (a .number) (a .child) (a .alike) (e .result) (v .result) (e .ensures .0) (v .ensures) (f .before .if1 .left) (f .if2 .left) (omega (arith, counted (c .before), free-is (c .before .before), c .if3 .left))
 
 pub fork-number-spec : {M : Type 1} → statement M
 fork-number-spec =
@@ -104,7 +104,7 @@ fork-number-spec =
     returns
     returns-2
     proc-at-requires
-    free-frames-requires
-    own-pages-requires
+    free-count-requires
+    data-pages-requires
     returns-3
     returns-4)

@@ -1,5 +1,4 @@
 use mathlib.Core.Path.{sym, _∙_}
-use Prim.Native.Nat.{_-_}
 use borrow.Author.Needs.{needs}
 use Rattle.spec.proofs.Bools.{un-not}
 use Rattle.forks.proofs.Judged.{record-none, record-some}

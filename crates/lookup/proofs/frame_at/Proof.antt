@@ -24,13 +24,7 @@ abbrev μ-loop : tie.MeasureT-loop
 μ-loop tags bases table owner page key end k₀ k = end - k
 
 returns : tie.Need-returns Inv-loop μ-loop
-returns c book r = found-none (frameOf book _ _) (λ i e. let h = frame-hits book _ _ _ r _ _ i e in omega (arith, h .2))
-
-returns-2 : tie.Need-returns-2 Inv-loop μ-loop
-returns-2 c book r = found-none (frameOf book _ _) (λ i e. let h = frame-hits book _ _ _ r _ _ i e in omega (arith, h .1, h .2))
-
-returns-3 : tie.Need-returns-3 Inv-loop μ-loop
-returns-3 c book r = found-none (frameOf book _ _) (λ i e. let h = frame-hits book _ _ _ r _ _ i e in c .if3 .taken (h .3))
+returns c book r = found-none (frameOf book _ _) (λ i e. let h = frame-hits book _ _ _ r _ _ i (omega arith) (omega arith) e in c .if1 .taken (h .3))
 
 mul-key : tie.Need-mul-key Inv-loop μ-loop
 mul-key c = omega arith
@@ -57,12 +51,12 @@ add-w : tie.Need-add-w Inv-loop μ-loop
 add-w c = omega arith
 
 hits-requires : tie.Need-hits-requires Inv-loop μ-loop
-hits-requires c κs = (omega arith, c .before .before .before .before .before .before .pre .rising)
+hits-requires c κs = (omega arith, c .before .before .before .before .pre .2 .rising)
 
 -- where a part has the page
-module _ (c : tie.Then4 Inv-loop μ-loop) where
+module _ (c : tie.Then2 Inv-loop μ-loop) where
   abbrev start : tie.Start Inv-loop μ-loop
-  start = c .before .before .before .before .before .before .before .before
+  start = c .before .before .before .before .before .before
 
   abbrev k : ℕ
   k = c .before .before .before .before .loop .k
@@ -71,7 +65,7 @@ module _ (c : tie.Then4 Inv-loop μ-loop) where
   word = start .args .page + 16 * start .args .owner + getD (now (start .args .tags)) k 0 % 16
 
   found : Found (now (start .args .tags)) (now (start .args .bases)) word k
-  found = found-part _ _ (start .pre) word k (omega arith) (sym (c .before .hits .ensures) ∙ c .if4 .taken)
+  found = found-part _ _ (start .pre .2) word k (omega arith) (sym (c .before .hits .ensures) ∙ c .if2 .taken)
 
 mul-rank : tie.Need-mul-rank Inv-loop μ-loop
 mul-rank c = omega arith
@@ -100,8 +94,8 @@ element-copy-out-answer c = let x = found (c .before .before) in omega arith
 answer-requires : tie.Need-answer-requires Inv-loop μ-loop
 answer-requires c κs = search needs
 
-returns-4 : tie.Need-returns-4 Inv-loop μ-loop
-returns-4 c book r =
+returns-2 : tie.Need-returns-2 Inv-loop μ-loop
+returns-2 c book r =
     let d = c .before .before .before .before in
     let a = start d .args in
     let x = found d in
@@ -117,12 +111,12 @@ loop-less : tie.Need-loop-less Inv-loop μ-loop
 loop-less c = omega arith
 
 loop-again : tie.Need-loop-again Inv-loop μ-loop
-loop-again c = (omega arith, omega arith, below-more _ _ (c .before .before .before .before .loop .inv .2) (λ m. sym (c .before .hits .ensures) ∙ c .if4 .left))
+loop-again c = (omega arith, omega arith, below-more _ _ (c .before .before .before .before .loop .inv .2) (λ m. sym (c .before .hits .ensures) ∙ c .if2 .left))
 
-returns-5 : tie.Need-returns-5 Inv-loop μ-loop
-returns-5 c book r =
+returns-3 : tie.Need-returns-3 Inv-loop μ-loop
+returns-3 c book r =
     found-none (frameOf book _ _) (λ i e.
-    let h = frame-hits book _ _ _ r _ _ i e in
+    let h = frame-hits book _ _ _ r _ _ i (omega arith) (omega arith) e in
     clash _ (h .4) (c .before .loop .inv .2 (h .0) (omega (arith, h .2)) (omega (arith, h .2))))
 
 pub frame-at-spec : {M : Type 1} → statement M
@@ -132,8 +126,6 @@ frame-at-spec =
     Inv-loop
     μ-loop
     returns
-    returns-2
-    returns-3
     mul-key
     add-key
     mul-end
@@ -152,8 +144,8 @@ frame-at-spec =
     mul-answer
     element-copy-out-answer
     answer-requires
-    returns-4
+    returns-2
     add-k
     loop-less
     loop-again
-    returns-5)
+    returns-3)

@@ -1,7 +1,6 @@
 -- `lay_all` meets its contract: the parts of the first n processes are laid.
-use Prim.Native.Nat.{ℕ, _-_, _≤_, _<_}
+use Prim.Native.Nat.{_-_, _≤_, _<_}
 use native.Mathlib.Omega.{arith}
-use mathlib.Core.Path.{_≡_, sym}
 use lib.ListN.{length}
 use Rattle.laws.proofs.Record.{Whole}
 use Rattle.plan.specs.Plan.{LaidTo}

@@ -9,6 +9,7 @@ use borrow.Author.Needs.{needs}
 use borrow.Author.Tests.{eqb-true, not-true, not-false}
 use Rattle.spec.specs.Tests.{sum}
 use Rattle.spec.specs.Numbers.{SetupOk}
+use Rattle.spec.specs.Book.{frameCount}
 use Rattle.spec.specs.Frames.{memOf}
 use Rattle.spec.proofs.Setups.{setup-means}
 use Rattle.spec.specs.Exec.{argsOf, pushOk}
@@ -20,6 +21,7 @@ use Rattle.book.specs.Lent.{store}
 use Rattle.args.specs.declared.ArgsSize.{ArgsSize}
 use Rattle.args.proofs.Cut.{cut-count}
 use Rattle.args.proofs.Size.{Passed as Argued, size-number, size-passed}
+use Rattle.laws.proofs.Owned.{valid-means}
 use Rattle.front.specs.Numbers.{stateOf, call, plainError}
 use Rattle.front.proofs.First.{Passed, plain-none, sizes-words}
 use Rattle.front.proofs.Answers.{plain-refused, plain-goes}
@@ -48,7 +50,7 @@ lengths-fit-requires : tie.Need-lengths-fit-requires
 lengths-fit-requires c κs = search needs
 
 plain-ready-requires : tie.Need-plain-ready-requires
-plain-ready-requires c κs = (refl, refl, refl, blank-zeros 1024)
+plain-ready-requires c κs = (refl, refl, refl, blank-zeros 16384)
 
 -- ---- the number that came first
 
@@ -82,7 +84,7 @@ module _ (c : tie.Else1) where
   fit : sum (now (start₁ .args .lengths)) ≡ length (now (start₁ .args .bytes))
   fit = eqb-true (sum (now (start₁ .args .lengths))) (length (now (start₁ .args .bytes))) (passed .lengths)
 
-  sizes : length (now (start₁ .args .frames)) ≡ 4096 * length (now (start₁ .args .book))
+  sizes : length (now (start₁ .args .frames)) ≡ 4096 * frameCount (now (start₁ .args .book))
   sizes = sizes-words (now (start₁ .args .frames)) (now (start₁ .args .book)) (passed .sizes) .0
 
   answers : (t : State) (a : Answer) → weighPush (machine start₁) (start₁ .args .pc) (start₁ .args .top) (arguments start₁) ≡ a
@@ -132,7 +134,7 @@ module _ (c : tie.Else3) where
 -- ---- 35
 
 push-ok-requires : tie.Need-push-ok-requires
-push-ok-requires c κs = let i = c .before .before .before .before .before .before .before in (i .before .plain-ready .ensures .1 (i .if1 .left), accepted i)
+push-ok-requires c κs = let i = c .before .before .before .before .before .before .before in ((i .before .plain-ready .ensures .1 (i .if1 .left), valid-means (start₁ i .args .number) (passed i .number) .0, valid-means (start₁ i .args .number) (passed i .number) .1), accepted i)
 
 -- the check of the ranges, over any frame bytes
 module _ (c : tie.After-push-ok) where
@@ -178,7 +180,8 @@ push-args-requires : tie.Need-push-args-requires
 push-args-requires c κs =
     let u = c .before .before .before .before .before in
     let o = i u .before .before .before in
-    ((sizes o, o .before .plain-ready .ensures .1 (o .if1 .left)), (start₃ (i u) .args .setup, accepted o, argued (i u) .sums, argued (i u) .passed, ok u))
+    let v = valid-means (start₁ o .args .number) (passed o .number) in
+    ((sizes o, o .before .plain-ready .ensures .1 (o .if1 .left), v .0, v .1), (start₃ (i u) .args .setup, accepted o, argued (i u) .sums, argued (i u) .passed, ok u))
 
 same-length-9 : tie.Need-same-length-9
 same-length-9 c = search needs

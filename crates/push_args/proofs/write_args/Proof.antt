@@ -89,7 +89,7 @@ write-user-requires-2 c κs =
     let a = s .args in
     let w = c .before .before .before .before .write-user in
     let n : length (take (end s - a .size) (drop (a .size) (buf s))) ≡ 8 * (a .nargs + 1) = mid-len (a .size) (end s) (buf s) (all s) ∙ omega arith in (
-      (w .kept .0 ∙ s .pre .0 .0, s .pre .0 .1),
+      (w .kept .0 ∙ s .pre .0 .0, s .pre .0 .1, s .pre .0 .2, s .pre .0 .3),
       (s .pre .1 .0, s .pre .1 .2, ap₂ (userRangeOk (s .pre .1 .0) (memOf (store (w .last .0) (now (a .book))) (a .number)) true) (argv-is r) n ∙ ok s (w .last .0) .pointers-range),
     )
 

@@ -12,13 +12,13 @@ page-down-requires : tie.Need-page-down-requires
 page-down-requires c κs = search needs
 
 frame-at-requires : tie.Need-frame-at-requires
-frame-at-requires c κs = search needs
+frame-at-requires c κs = let p = c .before .before .pre in (p .1, p .2, p .0 .plan)
 
 returns : tie.Need-returns
 returns c =
     let start = c .before .before .before in
     let a = start .args in
-    c .frame-at .ensures (now (a .book)) (start .pre) ∙ ap (λ (p : ℕ). foundOf (frameOf (now (a .book)) (a .number) p)) (c .before .page-down .ensures)
+    c .frame-at .ensures (now (a .book)) (start .pre .0) ∙ ap (λ (p : ℕ). foundOf (frameOf (now (a .book)) (a .number) p)) (c .before .page-down .ensures)
 
 pub frame-at-spec : {M : Type 1} → statement M
 frame-at-spec = tie.close (tie.spec page-down-requires frame-at-requires returns)

@@ -31,11 +31,20 @@ module _ (c : tie.After-k) where
   found : Framed (now (start .args .book)) (start .args .number) (pageDown (start .args .va)) (c .k .given .0 .0)
   found = page-found (now (start .args .book)) (start .args .number) (pageDown (start .args .va)) _ _ (c .before .before .frame-at .ensures) (c .k .given .1)
 
+sub-place : tie.Need-sub-place
+sub-place c = omega arith
+
 mul-perm-of : tie.Need-mul-perm-of
 mul-perm-of c = omega (arith, found (c .before) .there)
 
+add-perm-of : tie.Need-add-perm-of
+add-perm-of c = omega (arith, found (c .before) .there)
+
+mul-perm-of-2 : tie.Need-mul-perm-of-2
+mul-perm-of-2 c = omega (arith, found (c .before) .there)
+
 shared-slice-read-perm-of : tie.Need-shared-slice-read-perm-of
-shared-slice-read-perm-of c = found (c .before .before) .there
+shared-slice-read-perm-of c = omega (arith, found (c .before .before) .there)
 
 perm-of-requires : tie.Need-perm-of-requires
 perm-of-requires c κs = search needs
@@ -54,7 +63,10 @@ user-page-ok-spec =
     enum-known-k
     enum-told
     returns
+    sub-place
     mul-perm-of
+    add-perm-of
+    mul-perm-of-2
     shared-slice-read-perm-of
     perm-of-requires
     returns-2)

@@ -1,7 +1,7 @@
 -- `replace::enter_argv` meets its contract: the arguments are read, and the pointers put behind them, before pages are freed.
 use Prim.Native.Nat.{ℕ}
 use native.Mathlib.Omega.{arith}
-use mathlib.Core.Path.{_≡_, refl, sym, ap, _∙_}
+use mathlib.Core.Path.{_≡_, refl, sym, _∙_}
 use mathlib.Core.List.{List}
 use denote.Ref.{now}
 use lib.ListN.{take}
@@ -10,6 +10,7 @@ use Rattle.spec.specs.Frames.{memOf}
 use Rattle.spec.specs.Exec.{Argv, copyArgv, argsError}
 use Rattle.spec.proofs.Args.{args-means}
 use Rattle.laws.proofs.Argv.{argv-fits}
+use Rattle.laws.proofs.Owned.{valid-means}
 use Rattle.book.specs.Lent.{store}
 use Rattle.args_into.specs.Laid.{Standing}
 use Rattle.argv.specs.Reading.{Read}
@@ -54,10 +55,11 @@ slice-aggregate-copy-argv c = search needs
 copy-argv-requires : tie.Need-copy-argv-requires
 copy-argv-requires c κs =
     let p = c .before .before .before .before .before .before .before .pre in
-    ((p .1 .sizes, p .0), (omega (arith, p .1 .setup-ok), p .1 .setup-ok))
+    let v = valid-means _ (p .1 .number) in
+    ((p .1 .sizes, p .0, v .0, v .1), (omega (arith, p .1 .setup-ok), p .1 .setup-ok))
 
 release-owner-requires : tie.Need-release-owner-requires
-release-owner-requires c κs = search needs
+release-owner-requires c κs = valid-means _ (s (c .before .before .before .before) .pre .1 .number)
 
 zero-proc-requires : tie.Need-zero-proc-requires
 zero-proc-requires c κs = search needs

@@ -4,7 +4,7 @@ use mathlib.Core.Bool.{true}
 use denote.Ref.{now}
 use borrow.Author.Needs.{needs}
 use Rattle.spec.specs.Numbers.{SetupOk}
-use Rattle.spec.specs.Book.{free}
+use Rattle.spec.specs.Book.{free, alone}
 use Rattle.spec.specs.Exec.{imageError}
 use Rattle.spec.specs.Machine.{Ask, replace, Reply, outcome, weigh}
 use Rattle.spec.specs.World.{State, view, leave, Does}
@@ -18,7 +18,7 @@ use Rattle.front.proofs.First.{Passed, plain-none}
 use Rattle.front.proofs.Answers.{plain-refused, plain-goes}
 use Rattle.laws.proofs.Record.{Whole}
 use Rattle.records.proofs.Whole.{whole-procs}
-use Rattle.replace.proofs.Freed.{owned, enterable}
+use Rattle.replace.proofs.Freed.{enterable}
 use Rattle.replace.proofs.Weighed.{image-refused, became}
 use Rattle.replace.proofs.replace.Statement.{statement}
 use Rattle.replace.proofs.replace.Tie as tie
@@ -43,7 +43,7 @@ module _ (c : tie.Else1) where
   abbrev asked : Ask
   asked = replace (now (start .args .image)) (now (start .args .name)) (start .args .argv)
 
-  answers : (t : State) (r : Reply) → weigh (view state (start .args .number)) (free (now (start .args .book))) asked ≡ r
+  answers : (t : State) (r : Reply) → weigh (view state (start .args .number)) (free (now (start .args .book))) (alone (now (start .args .book)) (start .args .number)) asked ≡ r
       → t ≡ leave state (call (start .args .number) asked) (outcome r) → Does state (call (start .args .number) asked) t r
   answers = plain-goes state (start .args .number) asked (c .before .plain-ready .result) refl (c .before .plain-ready .ensures .0) (c .if1 .left)
 
@@ -55,7 +55,7 @@ accepted : (c : tie.Else2) → imageError (start (c .before .before .before) .ar
 accepted c = sym (number (c .before .before)) ∙ c .if2 .left
 
 plain-ready-requires : tie.Need-plain-ready-requires
-plain-ready-requires c κs = (refl, refl, refl, blank-zeros 1024)
+plain-ready-requires c κs = (refl, refl, refl, blank-zeros 16384)
 
 same-length : tie.Need-same-length
 same-length c = search needs
@@ -82,7 +82,7 @@ returns-2 : tie.Need-returns-2
 returns-2 c =
     let i = c .before .before .before in
     let a = start i .args in
-    answers i _ _ (image-refused (view (state i) (a .number)) (free (now (a .book))) (now (a .image)) (now (a .name)) (a .argv) _ (number (c .before .before)) (c .if2 .taken)) refl
+    answers i _ _ (image-refused (view (state i) (a .number)) (free (now (a .book))) (alone (now (a .book)) (a .number)) (now (a .image)) (now (a .name)) (a .argv) _ (number (c .before .before)) (c .if2 .taken)) refl
 
 proc-at-requires : tie.Need-proc-at-requires
 proc-at-requires c κs = passed (c .before .before .before) .number
@@ -100,7 +100,7 @@ enter-argv-requires c κs =
     let o = c .before .before .before .before .before in
     let a = start (i o) .args in (
       i o .before .plain-ready .ensures .1 (i o .if1 .left),
-      enterable (a .setup) (now (a .frames)) (now (a .book)) (a .procs) (a .number) (whole o) (first (i o)) (o .proc-at .result) (o .proc-at .ensures) (now (a .image)) _ (o .before .before .before .plan-of .ensures) (accepted (o .before)),
+      enterable (a .setup) (now (a .frames)) (now (a .book)) (a .procs) (a .number) (whole o) (first (i o)) (now (a .image)) _ (o .before .before .before .plan-of .ensures) (accepted (o .before)),
     )
 
 with-proc-requires : tie.Need-with-proc-requires
@@ -118,8 +118,7 @@ returns-3 c =
     let o = c .before .before .before .before .before .before .before .before .before .before .before .before in
     let a = start (i o) .args in
     let p = o .proc-at in
-    let mine = owned (a .setup) (now (a .frames)) (now (a .book)) (a .procs) (a .number) (whole o) (first (i o)) (p .result) (p .ensures) in
-    let e = became (state (i o)) (a .number) (now (a .image)) (now (a .name)) (a .argv) (p .result) mine (p .ensures) (accepted (o .before)) _ (w .result) (w .ensures) in
+    let e = became (state (i o)) (a .number) (now (a .image)) (now (a .name)) (a .argv) (p .result) (p .ensures) (accepted (o .before)) _ (w .result) (w .ensures) in
     answers (i o) _ _ (e .0) (state-is _ _ _ _ _ refl (c .with-proc .ensures) ∙ e .1)
 
 pub replace-spec : {M : Type 1} → statement M

@@ -3,8 +3,6 @@ use Prim.Native.Nat.{_+_, _-_, _≤_}
 use native.Mathlib.Omega.{arith}
 use mathlib.Core.Path.{_≡_, sym, _∙_}
 use mathlib.Core.Bool.{true, false≢true}
-use denote.Ref.{now}
-use lib.ListN.{length}
 use borrow.Author.Needs.{needs}
 use borrow.Author.Tests.{not-true, not-false}
 use Rattle.spec.specs.Tests.{all}
@@ -15,7 +13,7 @@ use Rattle.records.specs.Records.{passes}
 use Rattle.records.proofs.Whole.{whole-procs}
 use Rattle.plan.proofs.Passing.{small-parts}
 use Rattle.sound.proofs.Planning.{plan}
-use Rattle.sound.proofs.Decides.{records-of, made, planned-of, total-of, decided, sound-exact}
+use Rattle.sound.proofs.Decides.{records-of, made, planned-of, framed-of, total-of, decided, sound-exact}
 use Rattle.sound.proofs.Lookup.{ready}
 use Rattle.sound.proofs.is_sound.Statement.{statement}
 use Rattle.sound.proofs.is_sound.Tie as tie
@@ -44,6 +42,9 @@ lay-all-requires c κs =
     let w = whole a in
     (λ i h. small-parts (a .args .setup) (a .pre .1) (procAt ps (i + 1)) (w .each (i + 1 - 1)) (all-at (passes (a .args .setup)) zeroProc (ps .all) (pass (c .before .before)) (i + 1 - 1) (omega (arith, w .records))), a .pre .0 .1, a .pre .0 .2)
 
+mul-places : tie.Need-mul-places
+mul-places c = search needs
+
 returns-2 : tie.Need-returns-2
 returns-2 c =
     let d = c .before .before .before .before in
@@ -68,7 +69,7 @@ returns-3 c =
     let ps = a .args .procs in (
       sound-exact (a .args .setup) (a .pre .1) _ _ (whole a) _ (
         λ e. absurd (false≢true e),
-        λ s. absurd (c .before .mark .ensures .no (not-true _ (c .if3 .taken)) (planned-of (made (a .args .setup) (a .pre .1) ps (whole a) (pass d) _ _ _ (l .lay-all .ensures)) _ s)),
+        λ s. absurd (c .before .mark .ensures .no (not-true _ (c .if3 .taken)) (planned-of (made (a .args .setup) (a .pre .1) ps (whole a) (pass d) _ _ _ (l .lay-all .ensures)) _ s) (framed-of (made (a .args .setup) (a .pre .1) ps (whole a) (pass d) _ _ _ (l .lay-all .ensures)) _ s)),
       ),
       λ e. absurd (false≢true e),
     )
@@ -85,9 +86,9 @@ returns-4 c =
     let ps = a .args .procs in
     let table = m .mark .last .1 .1 .1 .0 in
     let y = m .mark .ensures .yes (not-false _ (c .before .before .if3 .left)) in
-    let most : l .lay-all .result ≤ 1024 = omega arith in
+    let most : l .lay-all .result ≤ 16384 = omega arith in
     let x = made (a .args .setup) (a .pre .1) ps (whole a) (pass d) _ _ _ (l .lay-all .ensures) in
-    let r = decided ps _ _ _ x most _ table (y .0) (y .1) (c .all-marked .result) (c .all-marked .ensures) in
+    let r = decided ps _ _ _ x most _ table (y .0) (y .1) (y .2) (c .all-marked .result) (c .all-marked .ensures) in
     (sound-exact (a .args .setup) (a .pre .1) _ _ (whole a) _ r, λ q. ready ps _ _ _ x most _ table (y .0) (y .1) (r .0 q))
 
 pub is-sound-spec : {M : Type 1} → statement M
@@ -97,6 +98,7 @@ is-sound-spec =
     records-ok-requires
     returns
     lay-all-requires
+    mul-places
     returns-2
     mark-requires
     returns-3

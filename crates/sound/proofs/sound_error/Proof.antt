@@ -7,7 +7,7 @@ use Rattle.sound.proofs.sound_error.Statement.{statement}
 use Rattle.sound.proofs.sound_error.Tie as tie
 
 prepare-requires : tie.Need-prepare-requires
-prepare-requires c κs = (omega arith, refl, refl, refl, blank-zeros 1024)
+prepare-requires c κs = (omega arith, refl, refl, refl, blank-zeros 16384)
 
 returns : tie.Need-returns
 returns c = search needs

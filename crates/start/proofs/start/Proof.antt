@@ -26,6 +26,7 @@ use Rattle.exec.proofs.Planned.{plan-number, plan-accepted}
 use Rattle.front.specs.Numbers.{stateOf, call, beginError}
 use Rattle.front.proofs.States.{state-is}
 use Rattle.front.proofs.First.{Passed, begin-none, sizes-words}
+use Rattle.front.proofs.Living.{passed-sound}
 use Rattle.install.specs.Installing.{Installable}
 use Rattle.install.proofs.Installed.{plan-record}
 use Rattle.start.proofs.Weighing.{weigh-args, weigh-image, weigh-short, weigh-fits, start-refused, start-goes, free-empty}
@@ -189,6 +190,8 @@ installable c =
     record {
       setup-ok = setup-means (setup (b f)) (n .0 .setup);
       sizes = sizes-words (now (a .frames)) (now (a .book)) (n .0 .sizes) .0;
+      words = sizes-words (now (a .frames)) (now (a .book)) (n .0 .sizes) .3;
+      mappings = passed-sound (state (b f)) (a .number) (fits (b f)) (whole f) (n .0) .mappings;
       number = n .0 .number;
       empty = free-empty (state (b f)) (a .number) (fits (b f)) (whole f) (n .0) (n .1);
       planned = f .before .before .plan-of .ensures;

@@ -90,7 +90,7 @@ add-va : tie.Need-add-va Inv-loop μ-loop
 add-va c = omega (arith, c .before .loop .inv .2)
 
 user-range-ok-requires : tie.Need-user-range-ok-requires Inv-loop μ-loop
-user-range-ok-requires c κs = (c .before .before .before .before .before .pre .0 .1, c .before .before .before .before .before .pre .1)
+user-range-ok-requires c κs = let p = c .before .before .before .before .before .pre in ((p .0 .1, p .0 .2, p .0 .3), p .1)
 
 same-length : tie.Need-same-length Inv-loop μ-loop
 same-length c = omega arith

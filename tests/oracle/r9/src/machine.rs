@@ -17,7 +17,8 @@ pub const LIMIT: usize = STACK - PAGE_SIZE_4K;
 #[cfg(not(feature = "hooks"))]
 pub use core::ptr::MAPPED;
 
-/// An address space. A page's entry is its frame's address + its permission, 1 to 3 as in book words, or 0 if it isn't mapped.
+/// An address space. A page's entry is its frame's address + its permission, 1 to 3 as in book words, + SHARED if other processes
+/// hold the frame too; or 0 if it isn't mapped.
 pub trait Space: 'static {
     fn new() -> Box<Self>;
     fn get(&self, va: usize) -> u64;
@@ -35,9 +36,12 @@ pub fn code(p: Perm) -> u64 {
     }
 }
 
+/// In an entry: the frame has other holders, so a release of the page leaves it in use.
+pub const SHARED: u64 = 4;
+
 /// An entry's frame.
 pub fn frame(entry: u64) -> PhysAddr {
-    PhysAddr(entry & !3)
+    PhysAddr(entry & !7)
 }
 
 pub(crate) struct Machine {
@@ -120,7 +124,7 @@ impl<S: Space> MMU for Host<S> {
         m().cur = &raw const **pmmu as *mut ();
     }
     unsafe fn release(pmmu: Box<S>, mut free_leaf: impl FnMut(PhysAddr)) {
-        for (_, e) in pmmu.mapped() {
+        for (_, e) in pmmu.mapped().filter(|(_, e)| e & SHARED == 0) {
             free_leaf(frame(e));
         }
     }

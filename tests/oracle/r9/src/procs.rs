@@ -1,14 +1,16 @@
 //! The processes and what their calls begin and end with: a process is made, becomes the current one, forks, ends.
 use crate::chan::Fds;
-use crate::dat::{KNAMELEN, MMU, Proc, ProcArch, Rendez, State, UserSegment, WaitQueue};
+use crate::dat::{KNAMELEN, MMU, Perm, Proc, ProcArch, Rendez, State, UserSegment, WaitQueue};
 use crate::fdt::DeviceTree;
-use crate::machine::{Host, Space, m};
+use crate::machine::{Host, SHARED, Space, code, frame, m};
 use crate::mem::{PAGE_SIZE_4K, PhysRange, VirtRange};
 use crate::{pagealloc, segment};
 use std::sync::Arc;
 
 /// Processes are numbered 1 to 16.
 pub const PROCS: usize = 16;
+/// A frame's words in the book: a place for each process, then the count of its holders.
+pub const WORDS: usize = PROCS + 1;
 
 pub struct Procs<S: Space>([Option<Box<Proc<Host<S>>>>; PROCS + 1]);
 
@@ -19,9 +21,9 @@ pub struct Record<'a> {
     pub name: &'a [u8; KNAMELEN],
 }
 
-/// Makes the page allocator anew over `words` frames, but for those that are used.
-pub fn free_frames(words: u64, used: impl Iterator<Item = PhysRange>) {
-    let bytes = words.saturating_mul(PAGE_SIZE_4K as u64);
+/// Makes the page allocator anew over `count` frames, but for those that are used.
+pub fn free_frames(count: u64, used: impl Iterator<Item = PhysRange>) {
+    let bytes = count.saturating_mul(PAGE_SIZE_4K as u64);
     pagealloc::init_page_allocator(&DeviceTree { bytes }, used).unwrap();
 }
 
@@ -51,12 +53,14 @@ impl<S: Space> Procs<S> {
         &mut self.0[n].as_mut().unwrap().pmmu
     }
 
-    /// The book of the address spaces, as document 01 writes it.
-    pub fn book(&self, words: usize) -> Vec<u64> {
-        let mut book = vec![0; words];
+    /// The book of the address spaces, for so many frames, as document 02's request 10 writes it.
+    pub fn book(&self, frames: usize) -> Vec<u64> {
+        let mut book = vec![0; WORDS * frames];
         for (n, space) in self.spaces() {
             for (va, e) in space.mapped() {
-                book[e as usize / PAGE_SIZE_4K] = (va + 16 * n) as u64 + e % 4;
+                let words = &mut book[WORDS * (e as usize / PAGE_SIZE_4K)..][..WORDS];
+                words[n - 1] = (va + 16 * n) as u64 + e % 4;
+                words[PROCS] += 1;
             }
         }
         book
@@ -111,6 +115,38 @@ impl<S: Space> Procs<S> {
         let (p, q) = (p.as_ref().unwrap(), q.as_mut().unwrap());
         segment::copy_segments::<Host<S>>(&p.segments, p.bss, &p.pmmu, &q.pmmu)?;
         (q.segments, q.bss, q.text) = (p.segments.clone(), p.bss, p.text);
+        Ok(())
+    }
+
+    /// What document 02's request 10 asks of a fork of `n` beyond the Rust, which copies every page: the copies of text and rodata,
+    /// which must be the pages in the spare frames, those from `spare` on, and hold the parent's bytes, are freed, and the child's
+    /// pages are mapped where the parent's are. Says what is not so.
+    pub fn share(&mut self, n: usize, child: usize, spare: usize) -> Result<(), &'static str> {
+        let [p, q] = self.0.get_disjoint_mut([n, child]).unwrap();
+        let (p, q) = (&mut p.as_mut().unwrap().pmmu, &mut q.as_mut().unwrap().pmmu);
+        let copies: Vec<_> = q.mapped().collect();
+        for (va, e) in copies {
+            let shares = e % 4 != code(Perm::Data);
+            if shares != (frame(e).0 as usize >= spare * PAGE_SIZE_4K) {
+                return Err("fork: text and rodata are not the pages in spare frames");
+            }
+            if !shares {
+                continue;
+            }
+            let own = p.get(va);
+            let bytes = |e| {
+                Host::<S>::kmap(frame(e), |at| {
+                    // SAFETY: a whole frame, which nothing changes meanwhile.
+                    unsafe { std::slice::from_raw_parts(at, PAGE_SIZE_4K) }
+                })
+            };
+            if own % 4 != e % 4 || bytes(own) != bytes(e) {
+                return Err("fork: a copy of text or rodata is unlike the parent's page");
+            }
+            pagealloc::free_physpage(frame(e)).unwrap();
+            p.set(va, own | SHARED);
+            q.set(va, own | SHARED);
+        }
         Ok(())
     }
 

@@ -1,16 +1,16 @@
 -- `try_copy_str_from_user` meets its contract: the copy's answer is the call's.
-use Prim.Native.Nat.{ℕ, _*_}
+use Prim.Native.Nat.{_*_}
 use mathlib.Core.Path.{_≡_, refl, sym, _∙_}
 use mathlib.Core.Bool.{true}
 use denote.Ref.{now}
 use lib.ListN.{length}
 use borrow.Author.Needs.{needs}
-use borrow.Author.Tests.{not-true, not-false}
 use Rattle.spec.specs.Numbers.{SetupOk}
 use Rattle.spec.proofs.Setups.{setup-means}
-use Rattle.spec.specs.Book.{free}
+use Rattle.spec.specs.Book.{frameCount, free}
 use Rattle.spec.specs.Machine.{Ask, try-copy-str-from-user, Reply, outcome, weigh}
 use Rattle.spec.specs.World.{State, view, leave, Does}
+use Rattle.laws.proofs.Owned.{valid-means}
 use Rattle.sound.proofs.Lookup.{blank-zeros}
 use Rattle.front.specs.Numbers.{stateOf, call}
 use Rattle.front.proofs.First.{Passed, plain-none, sizes-words}
@@ -20,7 +20,7 @@ use Rattle.access.proofs.call_try_copy_str_from_user.try_copy_str_from_
 use Rattle.access.proofs.call_try_copy_str_from_user.try_copy_str_from_user.Tie as tie
 
 plain-ready-requires : tie.Need-plain-ready-requires
-plain-ready-requires c κs = (refl, refl, refl, blank-zeros 1024)
+plain-ready-requires c κs = (refl, refl, refl, blank-zeros 16384)
 
 returns : tie.Need-returns
 returns c =
@@ -42,18 +42,18 @@ module _ (c : tie.Else1) where
   accepted : SetupOk (start .args .setup)
   accepted = setup-means (start .args .setup) (passed .setup)
 
-  sizes : length (now (start .args .frames)) ≡ 4096 * length (now (start .args .book))
+  sizes : length (now (start .args .frames)) ≡ 4096 * frameCount (now (start .args .book))
   sizes = sizes-words (now (start .args .frames)) (now (start .args .book)) (passed .sizes) .0
 
   abbrev asked : Ask
   asked = try-copy-str-from-user (now (start .args .dst)) (start .args .src)
 
-  answers : (t : State) (r : Reply) → weigh (view state (start .args .number)) (free (now (start .args .book))) asked ≡ r
+  answers : (t : State) (r : Reply) → weigh (view state (start .args .number)) (free (now (start .args .book))) 0 asked ≡ r
       → t ≡ leave state (call (start .args .number) asked) (outcome r) → Does state (call (start .args .number) asked) t r
   answers = plain-goes state (start .args .number) asked (c .before .plain-ready .result) refl (c .before .plain-ready .ensures .0) (c .if1 .left)
 
 try-copy-str-from-user-requires : tie.Need-try-copy-str-from-user-requires
-try-copy-str-from-user-requires c κs = let i = c .before .before .before .before in ((sizes i, i .before .plain-ready .ensures .1 (i .if1 .left)), accepted i)
+try-copy-str-from-user-requires c κs = let i = c .before .before .before .before in ((sizes i, i .before .plain-ready .ensures .1 (i .if1 .left), valid-means (start i .args .number) (passed i .number) .0, valid-means (start i .args .number) (passed i .number) .1), accepted i)
 
 same-length : tie.Need-same-length
 same-length c = search needs

@@ -7,16 +7,17 @@ use Rattle.spec.proofs.Setups.{setup-means}
 use Rattle.spec.specs.Book.{free}
 use Rattle.spec.specs.Machine.{Ask, user-range-ok, Reply, outcome, weigh}
 use Rattle.spec.specs.World.{State, view, leave, Does}
+use Rattle.laws.proofs.Owned.{valid-means}
 use Rattle.sound.proofs.Lookup.{blank-zeros}
 use Rattle.front.specs.Numbers.{stateOf, call}
-use Rattle.front.proofs.First.{plain-none}
+use Rattle.front.proofs.First.{Passed, plain-none}
 use Rattle.front.proofs.Answers.{plain-refused, plain-goes}
 use Rattle.access.proofs.Access.{range-yes, range-no}
 use Rattle.access.proofs.call_user_range_ok.user_range_ok.Statement.{statement}
 use Rattle.access.proofs.call_user_range_ok.user_range_ok.Tie as tie
 
 plain-ready-requires : tie.Need-plain-ready-requires
-plain-ready-requires c κs = (refl, refl, refl, blank-zeros 1024)
+plain-ready-requires c κs = (refl, refl, refl, blank-zeros 16384)
 
 returns : tie.Need-returns
 returns c =
@@ -32,18 +33,21 @@ module _ (c : tie.Else1) where
   abbrev state : State
   state = stateOf (start .args .setup) (now (start .args .frames)) (now (start .args .book)) (start .args .procs)
 
+  passed : Passed state (start .args .number) true
+  passed = plain-none state (start .args .number) true (sym (c .before .plain-ready .ensures .0) ∙ c .if1 .left) .0
+
   accepted : SetupOk (start .args .setup)
-  accepted = setup-means (start .args .setup) (plain-none state (start .args .number) true (sym (c .before .plain-ready .ensures .0) ∙ c .if1 .left) .0 .setup)
+  accepted = setup-means (start .args .setup) (passed .setup)
 
   abbrev asked : Ask
   asked = user-range-ok (start .args .addr) (start .args .len) (start .args .write)
 
-  answers : (t : State) (r : Reply) → weigh (view state (start .args .number)) (free (now (start .args .book))) asked ≡ r
+  answers : (t : State) (r : Reply) → weigh (view state (start .args .number)) (free (now (start .args .book))) 0 asked ≡ r
       → t ≡ leave state (call (start .args .number) asked) (outcome r) → Does state (call (start .args .number) asked) t r
   answers = plain-goes state (start .args .number) asked (c .before .plain-ready .result) refl (c .before .plain-ready .ensures .0) (c .if1 .left)
 
 user-range-ok-requires : tie.Need-user-range-ok-requires
-user-range-ok-requires c κs = let i = c .before .before .before in (i .before .plain-ready .ensures .1 (i .if1 .left), accepted i)
+user-range-ok-requires c κs = let i = c .before .before .before in ((i .before .plain-ready .ensures .1 (i .if1 .left), valid-means (start i .args .number) (passed i .number) .0, valid-means (start i .args .number) (passed i .number) .1), accepted i)
 
 returns-2 : tie.Need-returns-2
 returns-2 c =

@@ -9,10 +9,11 @@ use borrow.Author.Needs.{needs}
 use borrow.Author.Tests.{not-true, not-false}
 use Rattle.spec.specs.Numbers.{SetupOk}
 use Rattle.spec.proofs.Setups.{setup-means}
-use Rattle.spec.specs.Book.{free}
+use Rattle.spec.specs.Book.{frameCount, free}
 use Rattle.spec.specs.Machine.{Ask, copy-from-user, Reply, outcome, weigh}
 use Rattle.spec.specs.World.{State, view, leave, Does}
 use Rattle.spec.specs.declared.Answer.the-variants.{Done}
+use Rattle.laws.proofs.Owned.{valid-means}
 use Rattle.sound.proofs.Lookup.{blank-zeros}
 use Rattle.front.specs.Numbers.{stateOf, call}
 use Rattle.front.proofs.First.{Passed, plain-none, sizes-words}
@@ -22,7 +23,7 @@ use Rattle.copy_user.proofs.call_copy_from_user.copy_from_user.Statemen
 use Rattle.copy_user.proofs.call_copy_from_user.copy_from_user.Tie as tie
 
 plain-ready-requires : tie.Need-plain-ready-requires
-plain-ready-requires c κs = (refl, refl, refl, blank-zeros 1024)
+plain-ready-requires c κs = (refl, refl, refl, blank-zeros 16384)
 
 same-length : tie.Need-same-length
 same-length c = search needs
@@ -50,18 +51,18 @@ module _ (c : tie.Else1) where
   accepted : SetupOk (start .args .setup)
   accepted = setup-means (start .args .setup) (passed .setup)
 
-  sizes : length (now (start .args .frames)) ≡ 4096 * length (now (start .args .book))
+  sizes : length (now (start .args .frames)) ≡ 4096 * frameCount (now (start .args .book))
   sizes = sizes-words (now (start .args .frames)) (now (start .args .book)) (passed .sizes) .0
 
   abbrev asked : Ask
   asked = copy-from-user (now (start .args .dst)) (start .args .src)
 
-  answers : (t : State) (r : Reply) → weigh (view state (start .args .number)) (free (now (start .args .book))) asked ≡ r
+  answers : (t : State) (r : Reply) → weigh (view state (start .args .number)) (free (now (start .args .book))) 0 asked ≡ r
       → t ≡ leave state (call (start .args .number) asked) (outcome r) → Does state (call (start .args .number) asked) t r
   answers = plain-goes state (start .args .number) asked (c .before .plain-ready .result) refl (c .before .plain-ready .ensures .0) (c .if1 .left)
 
 user-range-ok-requires : tie.Need-user-range-ok-requires
-user-range-ok-requires c κs = let i = c .before .before .before .before in (i .before .plain-ready .ensures .1 (i .if1 .left), accepted i)
+user-range-ok-requires c κs = let i = c .before .before .before .before in ((i .before .plain-ready .ensures .1 (i .if1 .left), valid-means (start i .args .number) (passed i .number) .0, valid-means (start i .args .number) (passed i .number) .1), accepted i)
 
 forget-requires : tie.Need-forget-requires
 forget-requires c κs = passed (c .before .before .before .before .before .before .before) .number
@@ -84,7 +85,7 @@ read-user-requires : tie.Need-read-user-requires
 read-user-requires c κs =
     let u = c .before .before .before .before .before .before in
     let i = u .before .before .before .before .before .before in
-    ((sizes i, i .before .plain-ready .ensures .1 (i .if1 .left)), (start i .args .setup, accepted i, sym (u .before .user-range-ok .ensures (now (start i .args .frames))) ∙ not-false _ (u .if2 .left)))
+    ((sizes i, i .before .plain-ready .ensures .1 (i .if1 .left), valid-means (start i .args .number) (passed i .number) .0, valid-means (start i .args .number) (passed i .number) .1), (start i .args .setup, accepted i, sym (u .before .user-range-ok .ensures (now (start i .args .frames))) ∙ not-false _ (u .if2 .left)))
 
 same-length-5 : tie.Need-same-length-5
 same-length-5 c = search needs

@@ -1,15 +1,16 @@
--- `forget` meets its contract: the owner's words and the record become zero.
-use Prim.Native.Nat.{ℕ}
+-- `forget` meets its contract: the owner's mappings and the record become zero.
 use mathlib.Core.Path.{ap, _∙_}
-use mathlib.Core.List.{List}
 use borrow.Author.Needs.{needs}
 use Rattle.spec.specs.World.{setProc}
+use Rattle.laws.proofs.Owned.{valid-means}
 use Rattle.front.proofs.States.{state-is}
 use Rattle.front.proofs.ending.forget.Statement.{statement}
 use Rattle.front.proofs.ending.forget.Tie as tie
 
 release-owner-requires : tie.Need-release-owner-requires
-release-owner-requires c κs = search needs
+release-owner-requires c κs =
+    let a = c .before .before in
+    (valid-means (a .args .number) (a .pre) .0, valid-means (a .args .number) (a .pre) .1)
 
 zero-proc-requires : tie.Need-zero-proc-requires
 zero-proc-requires c κs = search needs

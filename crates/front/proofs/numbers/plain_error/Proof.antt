@@ -6,7 +6,7 @@ use Rattle.front.proofs.numbers.plain_error.Statement.{statement}
 use Rattle.front.proofs.numbers.plain_error.Tie as tie
 
 plain-ready-requires : tie.Need-plain-ready-requires
-plain-ready-requires c κs = (refl, refl, refl, blank-zeros 1024)
+plain-ready-requires c κs = (refl, refl, refl, blank-zeros 16384)
 
 returns : tie.Need-returns
 returns c = search needs

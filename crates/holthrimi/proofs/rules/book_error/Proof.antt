@@ -1,4 +1,5 @@
 -- `book_error` meets its contract.
+use native.Mathlib.Omega.{arith}
 use mathlib.Core.Path.{sym, _∙_}
 use denote.Ref.{now}
 use borrow.Author.Needs.{needs}
@@ -18,7 +19,8 @@ returns c = given _ _ 1 _ (c .before .sizes-ok .ensures) (c .if1 .taken)
 sound-error-requires : tie.Need-sound-error-requires
 sound-error-requires c κs =
     let a = c .before .before .before .before .args in
-    sizes-words (now (a .frames)) (now (a .book)) (sym (c .before .sizes-ok .ensures) ∙ not-false _ (c .if1 .left)) .2
+    let z = sizes-words (now (a .frames)) (now (a .book)) (sym (c .before .sizes-ok .ensures) ∙ not-false _ (c .if1 .left)) in
+    omega (arith, z .2, z .3)
 
 returns-2 : tie.Need-returns-2
 unfolding bookError

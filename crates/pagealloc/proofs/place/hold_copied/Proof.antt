@@ -22,11 +22,8 @@ copy-frame-requires c κs =
 pack-requires : tie.Need-pack-requires
 pack-requires c κs = search needs
 
-mul-book : tie.Need-mul-book
-mul-book c = search needs
-
-slice-write-book : tie.Need-slice-write-book
-slice-write-book c = search needs
+take-frame-requires : tie.Need-take-frame-requires
+take-frame-requires c κs = search needs
 
 same-length : tie.Need-same-length
 same-length c = search needs
@@ -36,10 +33,12 @@ same-length-2 c = search needs
 
 returns : tie.Need-returns
 returns c =
-    let done = c .before .before .before in
+    let taken = c .before .before in
+    let packed = taken .before in
+    let done = packed .before .before .before .before in
     let a = done .before .before .before .before .before .before .args in
-    held (now (a .frames)) (now (a .book)) _ (a .k) _ (a .child) (a .page) (a .perm) _ _ (done .before .frame-addr2 .ensures)
-    (copied (now (a .frames)) _ (done .before .frame-addr2 .result .0) (done .before .before .frame-addr .result .0) (a .from) (done .before .before .frame-addr .ensures) (done .copy-frame .ensures)) (c .pack .ensures)
+    held (now (a .frames)) (now (a .book)) _ _ (a .k) _ (a .child) (a .page) (a .perm) _ _ (done .before .frame-addr2 .ensures)
+    (copied (now (a .frames)) _ (done .before .frame-addr2 .result .0) (done .before .before .frame-addr .result .0) (a .from) (done .before .before .frame-addr .ensures) (done .copy-frame .ensures)) (packed .pack .ensures) (taken .take-frame .ensures)
 
 pub hold-copied-spec : {M : Type 1} → statement M
 hold-copied-spec =
@@ -49,8 +48,7 @@ hold-copied-spec =
     frame-addr-requires-2
     copy-frame-requires
     pack-requires
-    mul-book
-    slice-write-book
+    take-frame-requires
     same-length
     same-length-2
     returns)

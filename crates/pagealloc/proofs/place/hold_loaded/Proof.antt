@@ -14,11 +14,8 @@ load-frame-requires c κs = search needs
 pack-requires : tie.Need-pack-requires
 pack-requires c κs = search needs
 
-mul-book : tie.Need-mul-book
-mul-book c = search needs
-
-slice-write-book : tie.Need-slice-write-book
-slice-write-book c = search needs
+take-frame-requires : tie.Need-take-frame-requires
+take-frame-requires c κs = search needs
 
 same-length : tie.Need-same-length
 same-length c = search needs
@@ -28,9 +25,11 @@ same-length-2 c = search needs
 
 returns : tie.Need-returns
 returns c =
-    let loaded = c .before .before .before in
+    let taken = c .before .before in
+    let packed = taken .before in
+    let loaded = packed .before .before .before .before in
     let a = loaded .before .before .before .before .before .before .args in
-    held (now (a .frames)) (now (a .book)) _ (a .k) _ (a .owner) (a .page) (a .perm) _ _ (loaded .before .frame-addr .ensures) (loaded .load-frame .ensures) (c .pack .ensures)
+    held (now (a .frames)) (now (a .book)) _ _ (a .k) _ (a .owner) (a .page) (a .perm) _ _ (loaded .before .frame-addr .ensures) (loaded .load-frame .ensures) (packed .pack .ensures) (taken .take-frame .ensures)
 
 pub hold-loaded-spec : {M : Type 1} → statement M
 hold-loaded-spec =
@@ -39,8 +38,7 @@ hold-loaded-spec =
     frame-addr-requires
     load-frame-requires
     pack-requires
-    mul-book
-    slice-write-book
+    take-frame-requires
     same-length
     same-length-2
     returns)

@@ -17,11 +17,8 @@ zero-frame-requires c κs = search needs
 pack-requires : tie.Need-pack-requires
 pack-requires c κs = search needs
 
-mul-book : tie.Need-mul-book
-mul-book c = search needs
-
-slice-write-book : tie.Need-slice-write-book
-slice-write-book c = search needs
+take-frame-requires : tie.Need-take-frame-requires
+take-frame-requires c κs = search needs
 
 same-length : tie.Need-same-length
 same-length c = search needs
@@ -31,10 +28,12 @@ same-length-2 c = search needs
 
 returns : tie.Need-returns
 returns c =
-    let zeroed = c .before .before .before in
+    let taken = c .before .before in
+    let packed = taken .before in
+    let zeroed = packed .before .before .before .before in
     let a = zeroed .before .before .before .before .before .args in
-    held (now (a .frames)) (now (a .book)) _ (a .k) _ (a .owner) (a .page) 3 _ (zeroPage (a .page)) (zeroed .before .frame-addr .ensures)
-    (zeroed .zero-frame .ensures ∙ ap (put (now (a .frames)) (zeroed .before .frame-addr .result .0)) (zero-same (a .page))) (c .pack .ensures)
+    held (now (a .frames)) (now (a .book)) _ _ (a .k) _ (a .owner) (a .page) 3 _ (zeroPage (a .page)) (zeroed .before .frame-addr .ensures)
+    (zeroed .zero-frame .ensures ∙ ap (put (now (a .frames)) (zeroed .before .frame-addr .result .0)) (zero-same (a .page))) (packed .pack .ensures) (taken .take-frame .ensures)
 
 pub hold-zeroed-spec : {M : Type 1} → statement M
 hold-zeroed-spec =
@@ -43,8 +42,7 @@ hold-zeroed-spec =
     frame-addr-requires
     zero-frame-requires
     pack-requires
-    mul-book
-    slice-write-book
+    take-frame-requires
     same-length
     same-length-2
     returns)

@@ -4,8 +4,8 @@
 use crate::mem::{PhysAddr, PhysRange};
 use crate::pagealloc::PageAllocError;
 
-/// Words of 64 frames: one more than a book has.
-const WORDS: usize = 17;
+/// Words of 64 frames: for as many as a book has, as many spare ones, and more.
+const WORDS: usize = 33;
 
 /// There may be more frames than bits, for the break's rule by itself: those above are free and never taken.
 pub struct BitmapPageAlloc<const N: usize, const B: usize> {

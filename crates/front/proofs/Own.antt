@@ -1,2 +1,0 @@
--- The pages of a record (crate procs).
-pub use Rattle.procs.proofs.Own.{pages-own, count-own}

@@ -1,2 +1,0 @@
--- The pages of a record.
-pub mod Own

@@ -1,0 +1,2 @@
+-- What the folds of a row say.
+pub mod Rows

@@ -1,0 +1,2 @@
+-- The turns of the loop that shares.
+pub mod Shared
