@@ -8,9 +8,6 @@ use Rattle.rows.specs.Rows.{Singles}
 use Rattle.rows.proofs.Frames.{singles-more}
 use Rattle.rows.proofs.each.Statement.{statement}
 use Rattle.rows.proofs.each.Tie as tie
-use Rattle.rows.proofs.each.Reads as reads
-use Rattle.rows.proofs.each.Lts as lts
-use Rattle.rows.proofs.single.Reads as single-reads
 
 abbrev Inv-loop : tie.InvT-loop
 Inv-loop book masks words₀ from i end j₀ words j = (j ≤ end) × (length words ≡ 128) × Singles book words from j

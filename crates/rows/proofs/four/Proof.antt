@@ -4,13 +4,6 @@ use borrow.Author.Needs.{needs}
 use Rattle.rows.proofs.Frames.{set-own, set-free}
 use Rattle.rows.proofs.four.Statement.{statement}
 use Rattle.rows.proofs.four.Tie as tie
-use Rattle.rows.proofs.four.Reads as reads
-use Rattle.rows.proofs.four.Lts as lts
-use Rattle.rows.proofs.each.Reads as each-reads
-use Rattle.rows.proofs.four_or.Reads as four-or-reads
-use Rattle.rows.proofs.four_own.Reads as four-own-reads
-use Rattle.rows.proofs.place_of.Reads as place-of-reads
-use Rattle.rows.proofs.put_four.Reads as put-four-reads
 
 add-k : tie.Need-add-k
 add-k c = search needs

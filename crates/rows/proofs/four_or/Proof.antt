@@ -7,8 +7,6 @@ use Rattle.rows.specs.Rows.{OrOf}
 use Rattle.rows.proofs.Folds.{or-next}
 use Rattle.rows.proofs.four_or.Statement.{statement}
 use Rattle.rows.proofs.four_or.Tie as tie
-use Rattle.rows.proofs.four_or.Reads as reads
-use Rattle.rows.proofs.four_or.Lts as lts
 
 abbrev Inv-loop : tie.InvT-loop
 Inv-loop book k at a₀ i₀ a i = (at ≡ 17 * k) × (i ≤ 68) × OrOf book at i a

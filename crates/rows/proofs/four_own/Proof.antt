@@ -7,10 +7,6 @@ use Rattle.spec.proofs.Bools.{un-not}
 use Rattle.rows.proofs.Frames.{four-owned}
 use Rattle.rows.proofs.four_own.Statement.{statement}
 use Rattle.rows.proofs.four_own.Tie as tie
-use Rattle.rows.proofs.four_own.Reads as reads
-use Rattle.rows.proofs.four_own.Lts as lts
-use Rattle.rows.proofs.four_but.Reads as four-but-reads
-use Rattle.rows.proofs.is_own.Reads as is-own-reads
 
 is-own-requires : tie.Need-is-own-requires
 is-own-requires c κs = search needs

@@ -4,8 +4,6 @@ use borrow.Author.Tests.{eqb-true}
 use Rattle.spec.proofs.Bools.{both}
 use Rattle.rows.proofs.is_own.Statement.{statement}
 use Rattle.rows.proofs.is_own.Tie as tie
-use Rattle.rows.proofs.is_own.Reads as reads
-use Rattle.rows.proofs.is_own.Lts as lts
 
 mul-w : tie.Need-mul-w
 mul-w c = search needs

@@ -7,8 +7,6 @@ use Rattle.rows.specs.Rows.{OrBut}
 use Rattle.rows.proofs.Folds.{but-next}
 use Rattle.rows.proofs.row_but.Statement.{statement}
 use Rattle.rows.proofs.row_but.Tie as tie
-use Rattle.rows.proofs.row_but.Reads as reads
-use Rattle.rows.proofs.row_but.Lts as lts
 
 abbrev Inv-loop : tie.InvT-loop
 Inv-loop book masks k n at from a₀ i₀ a i = (at ≡ 17 * k) × (from ≡ 15 - n) × (i ≤ 16) × OrBut book at n i a

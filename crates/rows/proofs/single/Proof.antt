@@ -6,12 +6,6 @@ use Rattle.spec.proofs.Bools.{un-not}
 use Rattle.rows.proofs.Frames.{single-none, single-free, single-only, only-own}
 use Rattle.rows.proofs.single.Statement.{statement}
 use Rattle.rows.proofs.single.Tie as tie
-use Rattle.rows.proofs.single.Reads as reads
-use Rattle.rows.proofs.single.Lts as lts
-use Rattle.rows.proofs.is_own.Reads as is-own-reads
-use Rattle.rows.proofs.place_of.Reads as place-of-reads
-use Rattle.rows.proofs.row_but.Reads as row-but-reads
-use Rattle.rows.proofs.row_or.Reads as row-or-reads
 
 mul-count : tie.Need-mul-count
 mul-count c = search needs

@@ -7,11 +7,6 @@ use borrow.Author.Needs.{needs}
 use Rattle.rows.specs.Rows.{Masks, Singles}
 use Rattle.rows.proofs.singles.Statement.{statement}
 use Rattle.rows.proofs.singles.Tie as tie
-use Rattle.rows.proofs.singles.Reads as reads
-use Rattle.rows.proofs.singles.Lts as lts
-use Rattle.rows.proofs.each.Reads as each-reads
-use Rattle.rows.proofs.four.Reads as four-reads
-use Rattle.rows.proofs.others.Reads as others-reads
 
 abbrev Inv-loop : tie.InvT-loop
 Inv-loop book words₀ from count first masks last₀ i₀ words last i = (i ≤ count) × (last < 16) × (length words ≡ 128) × Singles book words from i × Masks masks

@@ -6,8 +6,6 @@ use Rattle.plan.proofs.Within.{found-part}
 use Rattle.table.proofs.Words.{entered-taken, entered-new}
 use Rattle.table.proofs.enter.Statement.{statement}
 use Rattle.table.proofs.enter.Tie as tie
-use Rattle.table.proofs.enter.Reads as reads
-use Rattle.table.proofs.enter.Lts as lts
 
 mul-rank : tie.Need-mul-rank
 mul-rank c = search needs

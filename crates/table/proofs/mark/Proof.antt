@@ -13,11 +13,6 @@ use Rattle.table.proofs.Pass.{planned-none, tabled-none}
 use Rattle.table.proofs.Words.{hints-none}
 use Rattle.table.proofs.mark.Statement.{statement}
 use Rattle.table.proofs.mark.Tie as tie
-use Rattle.table.proofs.mark.Reads as reads
-use Rattle.table.proofs.mark.Lts as lts
-use Rattle.rows.proofs.singles.Reads as singles-reads
-use Rattle.table.proofs.block.Reads as block-reads
-use Rattle.table.proofs.mark_block.Reads as mark-block-reads
 
 abbrev Inv-loop : tie.InvT-loop
 Inv-loop book tags bases table₀ words₀ hints₀ frames last₀ k₀ table words hints last k =

@@ -9,9 +9,6 @@ use Rattle.spec.proofs.Bools.{not-true, un-not}
 use Rattle.table.specs.Table.{Planned, Tabled, Framed, FramedAll, Hints}
 use Rattle.table.proofs.mark_block.Statement.{statement}
 use Rattle.table.proofs.mark_block.Tie as tie
-use Rattle.table.proofs.mark_block.Reads as reads
-use Rattle.table.proofs.mark_block.Lts as lts
-use Rattle.table.proofs.mark_row.Reads as mark-row-reads
 
 abbrev Inv-loop : tie.InvT-loop
 Inv-loop book tags bases table₀ hints₀ words from count i₀ table hints i =

@@ -7,10 +7,6 @@ use Rattle.plan.proofs.Within.{part-found}
 use Rattle.table.proofs.Words.{entered-none, hints-set}
 use Rattle.table.proofs.mark_far.Statement.{statement}
 use Rattle.table.proofs.mark_far.Tie as tie
-use Rattle.table.proofs.mark_far.Reads as reads
-use Rattle.table.proofs.mark_far.Lts as lts
-use Rattle.plan.proofs.part_of.Reads as part-of-reads
-use Rattle.table.proofs.enter.Reads as enter-reads
 
 part-of-requires : tie.Need-part-of-requires
 part-of-requires c κs = search needs

@@ -9,9 +9,6 @@ use Rattle.table.specs.Table.{Hints}
 use Rattle.table.proofs.Rows.{Row, row-start, word-is, pass-free, pass-more, pass-whole, fail-owner, fail-base, fail-data, fail-entered}
 use Rattle.table.proofs.mark_frame.Statement.{statement}
 use Rattle.table.proofs.mark_frame.Tie as tie
-use Rattle.table.proofs.mark_frame.Reads as reads
-use Rattle.table.proofs.mark_frame.Lts as lts
-use Rattle.table.proofs.mark_word.Reads as mark-word-reads
 
 abbrev Inv-loop : tie.InvT-loop
 Inv-loop book tags bases table₀ hints₀ k first base₀ seen₀ i₀ table hints base seen i = (i ≤ 16) × (length table ≡ 16384) × (first ≡ 17 * k) × Row book tags bases table k i base seen × Hints hints

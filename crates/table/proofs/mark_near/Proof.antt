@@ -4,10 +4,6 @@ use native.Mathlib.Omega.{arith}
 use mathlib.Core.Path.{refl, sym, _∙_}
 use Rattle.table.proofs.mark_near.Statement.{statement}
 use Rattle.table.proofs.mark_near.Tie as tie
-use Rattle.table.proofs.mark_near.Reads as reads
-use Rattle.table.proofs.mark_near.Lts as lts
-use Rattle.plan.proofs.hits.Reads as hits-reads
-use Rattle.table.proofs.enter.Reads as enter-reads
 
 mul-hint : tie.Need-mul-hint
 mul-hint c = omega arith

@@ -8,11 +8,6 @@ use Rattle.table.proofs.Rows.{pass-none, pass-one}
 use Rattle.table.proofs.Words.{entered-far}
 use Rattle.table.proofs.mark_row.Statement.{statement}
 use Rattle.table.proofs.mark_row.Tie as tie
-use Rattle.table.proofs.mark_row.Reads as reads
-use Rattle.table.proofs.mark_row.Lts as lts
-use Rattle.table.proofs.mark_frame.Reads as mark-frame-reads
-use Rattle.table.proofs.mark_far.Reads as mark-far-reads
-use Rattle.table.proofs.mark_near.Reads as mark-near-reads
 
 mark-frame-requires : tie.Need-mark-frame-requires
 mark-frame-requires c κs = search needs

@@ -6,10 +6,6 @@ use borrow.Author.Needs.{needs}
 use Rattle.table.proofs.Words.{entered-far}
 use Rattle.table.proofs.mark_word.Statement.{statement}
 use Rattle.table.proofs.mark_word.Tie as tie
-use Rattle.table.proofs.mark_word.Reads as reads
-use Rattle.table.proofs.mark_word.Lts as lts
-use Rattle.table.proofs.mark_far.Reads as mark-far-reads
-use Rattle.table.proofs.mark_near.Reads as mark-near-reads
 
 mark-near-requires : tie.Need-mark-near-requires
 mark-near-requires c κs = search needs
