@@ -1,5 +1,5 @@
 /*
- * Prints how much stack each of the ten calls uses: a call is made on a thread whose stack was filled with a pattern, and what of the
+ * Prints how much stack each of the ten calls, and fork with its list lent, uses: a call is made on a thread whose stack was filled with a pattern, and what of the
  * pattern is gone is counted. The calls are those that do the most: the largest book, the longest arguments, an image with a bss, a
  * process that shares its text, accepted.
  */
@@ -19,6 +19,7 @@ static uint8_t image[IMAGE];
 static uint8_t bytes[ARGS];
 static uint64_t lengths[ARGS];
 static uint64_t argv;
+static struct holthrimi_segment list[3];
 static struct holthrimi_answer answer;
 static char stack[STACK] __attribute__((aligned(4096)));
 
@@ -79,6 +80,11 @@ static void *grow(void *arg) {
 
 static void *fork_it(void *arg) {
     answer = holthrimi_fork(LENT, 1, 2);
+    return arg;
+}
+
+static void *fork_list(void *arg) {
+    answer = holthrimi_fork_list(LENT, 1, 3, list, 3);
     return arg;
 }
 
@@ -145,6 +151,8 @@ int main(void) {
     show("start", start);
     argv = answer.regs.argv;
     show("fork", fork_it);
+    memcpy(list, procs.all[0].segments, sizeof list);
+    show("fork_list", fork_list);
     show("replace", replace);
     show("push", push);
     show("break", grow);

@@ -11,9 +11,9 @@
  *   - what is not const overlaps nothing else that the call is given, and nothing else touches it until the call returns;
  *   - a bool is 0 or 1.
  * The library keeps nothing between calls, allocates nothing, and needs memcpy, memmove and memset. It follows the System V calling
- * convention of x86-64, with its red zone and SSE registers. Of stack, replace was measured to use 78 KiB, push 69, fork 66, start, and
- * copies from and to a process, 60 and the other calls 53 (bench/run "" stack); 32 of these are a table of frames that the check of the
- * book leaves.
+ * convention of x86-64, with its red zone and SSE registers. Of stack, replace was measured to use 49 KiB,
+ * start and push 41, fork with a list 39, fork, and copies from and to a process, 31, break 29 and the other calls 25 (bench/run ""
+ * stack).
  *
  * Numbers. A page is 4,096 bytes. The machine's four numbers are handed to every call, by value (struct holthrimi_setup); limit is one
  * guard page below the stack.
@@ -193,6 +193,18 @@ struct holthrimi_answer holthrimi_break(struct holthrimi_setup setup,
 struct holthrimi_answer holthrimi_fork(struct holthrimi_setup setup,
                                        uint8_t *frames, size_t frame_bytes, uint64_t *book, size_t words,
                                        struct holthrimi_procs *procs, uint64_t number, uint64_t child);
+
+/*
+ * The same with a list lent, of `count` segments: those of the parent's record, in its order, the stack last, without unused places. The
+ * list is held to the record, so that a caller whose own notes of a process differ from its record learns of it. It must not lie in
+ * procs, which the call writes: of the record itself a copy is lent.
+ * Refused: 1; 38; 2 for the book, or, if `number` is 1 to 16, for a list unlike its record's, one longer, shorter or with another start,
+ * end or permission (of a process that doesn't live, whose record has none, for every list but an empty one); then 3, 4, 5 and 33 as above.
+ */
+struct holthrimi_answer holthrimi_fork_list(struct holthrimi_setup setup,
+                                            uint8_t *frames, size_t frame_bytes, uint64_t *book, size_t words,
+                                            struct holthrimi_procs *procs, uint64_t number, uint64_t child,
+                                            const struct holthrimi_segment *segments, size_t count);
 
 /* Ends a process: its pages are released, a frame without a holder is free and keeps its bytes, and its record is zero. Refused: 1, 38
  * and 2 to 4. */

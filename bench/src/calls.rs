@@ -145,6 +145,18 @@ pub fn fork<'a>(name: &str, n: usize, child: usize) -> Call<'a> {
     )
 }
 
+/// The same with the list of its segments lent, which r9's copy_segments always takes.
+pub fn fork_list<'a>(name: &str, n: usize, child: usize) -> Call<'a> {
+    let mut call = fork(name, n, child);
+    call.ours = Box::new(move |w| {
+        let record = w.procs.all[n - 1];
+        let t = timed(|| w.fork_list(n as u64, child as u64, record.used()).unwrap());
+        w.end(child as u64).unwrap();
+        t
+    });
+    call
+}
+
 /// The break of process n moves from `from` to `to`, `pages` pages away, and back.
 pub fn brk<'a>(n: usize, pages: usize, from: usize, to: usize) -> Call<'a> {
     let sign = if from < to { '+' } else { '-' };

@@ -1,5 +1,5 @@
 //! How the calls' cost grows with frames and processes.
-use crate::calls::{self, EXAMPLE_END, brk, brk_none, fork, from, push, range, region, replace, start, string, to};
+use crate::calls::{self, EXAMPLE_END, brk, brk_none, fork, fork_list, from, push, range, region, replace, start, string, to};
 use crate::clock::{Time, repeated, times};
 use crate::region::PAGE;
 use crate::{image, ours, rust};
@@ -20,6 +20,7 @@ pub fn growth() {
         vec![
             start("start of 7 pages", n + 1, &small),
             fork("fork of 7 pages", n, n + 1),
+            fork_list("fork of 7 pages, list lent", n, n + 1),
             replace("replace by 7 pages", n, &small, EXAMPLE_END - PAGE),
             brk(n, 2, EXAMPLE_END, EXAMPLE_END + 2 * PAGE),
             brk(n, 2, EXAMPLE_END + 2 * PAGE, EXAMPLE_END),

@@ -1,5 +1,5 @@
 //! What calls are made of: the loops over frames and book, the check of the book by itself, and `parse`.
-use crate::clock::{repeated, times};
+use crate::clock::{SHORT_ROUNDS, Time, repeated, short, times};
 use crate::region::{PAGE, Region};
 use crate::{calls, image, ours, rust};
 use holthrimi::FRAME_WORDS;
@@ -66,25 +66,25 @@ fn mix(book: &mut [u64]) {
 }
 
 /// The check of the book, beside a loop of C that reads each of its words; and the count of its free frames, beside one that reads the frames'
-/// counts.
+/// counts. Times are the least of short rounds, the ratio is theirs; behind it is the median of the rounds' ratios.
 pub fn check() {
-    println!("\n{:<40} {:>10} {:>10} {:>10} {:>7}   noise % of both", "book", "ours ns", "ns a word", "read ns", "ratio");
-    let show = |name: &str, words: usize, ours: &mut dyn FnMut() -> f64, read: &mut dyn FnMut() -> f64| {
-        let [a, b] = &times(&mut [ours, read])[..] else { unreachable!() };
-        print!("{name:<40} {:>10.1} {:>10.2}", a.ns(), a.ns() / words as f64);
-        println!(" {:>10.1} {:>7.2}   {:.0} {:.0}", b.ns(), a.ratio(b), a.noise(), b.noise());
+    println!("\nleast of {SHORT_ROUNDS} rounds in turn");
+    println!("{:<40} {:>10} {:>10} {:>10} {:>7}   median ratio", "book", "ours ns", "ns a word", "read ns", "ratio");
+    let show = |name: &str, words: usize, [a, b]: [Time; 2]| {
+        print!("{name:<40} {:>10.1} {:>10.2}", a.least(), a.least() / words as f64);
+        println!(" {:>10.1} {:>7.2}   {:.2}", b.least(), a.least() / b.least(), a.ratio(&b));
     };
     let books = books();
     for (name, w) in &books {
         let (book, procs) = (&*w.book, &*w.procs);
         assert!(ours::sound(book, procs), "bench: {name}: not sound");
-        let ours = &mut || repeated(|| ours::sound(black_box(book), black_box(procs)));
-        show(&format!("check, {name}"), book.len(), ours, &mut || repeated(|| ours::words_read(black_box(book))));
+        let t = short(|| ours::sound(black_box(book), black_box(procs)), || ours::words_read(black_box(book)));
+        show(&format!("check, {name}"), book.len(), t);
     }
     for (_, w) in &books[..2] {
         let (book, frames) = (&*w.book, w.book.len() / FRAME_WORDS);
-        let ours = &mut || repeated(|| ours::free(black_box(book)));
-        show(&format!("free count, {frames} frames"), frames, ours, &mut || repeated(|| ours::counts_read(black_box(book))));
+        let t = short(|| ours::free(black_box(book)), || ours::counts_read(black_box(book)));
+        show(&format!("free count, {frames} frames"), frames, t);
     }
 }
 

@@ -1,5 +1,7 @@
 //! The table of calls beside the Rust.
-use crate::calls::{self, Call, EXAMPLE_END, brk, brk_none, end, fork, from, push, range, region, replace, start, string, to};
+use crate::calls::{
+    self, Call, EXAMPLE_END, brk, brk_none, end, fork, fork_list, from, push, range, region, replace, start, string, to,
+};
 use crate::clock::{repeated, times};
 use crate::limit::Moves;
 use crate::region::{PAGE, Region};
@@ -71,6 +73,8 @@ pub fn table() {
     let (large, middle) = (image::pages(400, 100, 96, 300), image::pages(200, 100, 96, 0));
     // The same with 380 pages of text and rodata, and of data and stack.
     let (most_text, most_data) = (image::pages(300, 80, 16, 0), image::pages(10, 10, 376, 0));
+    // Both with a bss, for both forms of fork.
+    let (nine, more_data) = (image::pages(1, 1, 2, 1), image::pages(10, 10, 376, 7));
     let (data, bss) = (image::UTZERO + 300 * PAGE, image::UTZERO + 396 * PAGE);
 
     Pair::new(&memory).show(start("start of 7 pages", 1, &small), Moves::Image(&[], 7));
@@ -88,6 +92,12 @@ pub fn table() {
     let mut p = Pair::new(&memory);
     p.start(1, &most_data);
     p.show_fork("fork of 400 pages, 380 data", 380);
+    for (pages, image, copied) in [(9, &nine, 7), (407, &more_data, 387)] {
+        let mut p = Pair::new(&memory);
+        p.start(1, image);
+        p.show_fork(&format!("fork of {pages} pages"), copied);
+        p.show(fork_list(&format!("fork of {pages} pages, list lent"), 1, 2), Moves::Fork(copied));
+    }
     let mut p = Pair::new(&memory);
     p.start(1, &middle);
     p.show_fork("fork of 400 pages", 100);

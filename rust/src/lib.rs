@@ -125,6 +125,14 @@ pub struct Proc {
     pub bss: VirtRange,
 }
 
+impl Proc {
+    /// Its segments, up to the first unused place: the list that [`Lent::fork_list`] is lent, of a copy of the record.
+    pub fn used(&self) -> &[UserSegment] {
+        let n = self.segments.iter().position(|s| *s == UserSegment::default()).unwrap_or(16);
+        &self.segments[..n]
+    }
+}
+
 /// The records of processes 1 to 16: process n is `all[n - 1]`.
 #[repr(C)]
 #[derive(Clone, Copy, Debug, Default, PartialEq, Eq)]
@@ -266,6 +274,15 @@ impl Lent<'_> {
     pub fn fork(&mut self, number: u64, child: u64) -> Result<()> {
         let (u, f, fl, b, bl, p) = lent!(self);
         told(unsafe { sys::holthrimi_fork(u, f, fl, b, bl, p, number, child) }).map(|_| ())
+    }
+
+    /// The same with a list lent: the segments of the parent's record, in its order, the stack last, without unused places
+    /// ([`Proc::used`]). Refused as [`Lent::fork`], and with 2, directly after a torn book's, if `number` is 1 to 16 and the list is
+    /// unlike its record's.
+    pub fn fork_list(&mut self, number: u64, child: u64, segments: &[UserSegment]) -> Result<()> {
+        let (u, f, fl, b, bl, p) = lent!(self);
+        let s = segments;
+        told(unsafe { sys::holthrimi_fork_list(u, f, fl, b, bl, p, number, child, s.as_ptr(), s.len()) }).map(|_| ())
     }
 
     /// Ends a process: its pages are released, and a frame without a holder is free and keeps its bytes. Refused with 1, 38, 2 to 4.

@@ -44,6 +44,8 @@ extern "C" {
         bytes_len: usize, lengths: *const u64, lengths_len: usize) -> Answer;
     pub fn holthrimi_break(u: Setup, f: *mut u8, fl: usize, b: *mut u64, bl: usize, p: *mut Procs, number: u64, addr: u64) -> Answer;
     pub fn holthrimi_fork(u: Setup, f: *mut u8, fl: usize, b: *mut u64, bl: usize, p: *mut Procs, number: u64, child: u64) -> Answer;
+    pub fn holthrimi_fork_list(u: Setup, f: *mut u8, fl: usize, b: *mut u64, bl: usize, p: *mut Procs, number: u64, child: u64,
+        segments: *const UserSegment, segments_len: usize) -> Answer;
     pub fn holthrimi_end(u: Setup, f: *mut u8, fl: usize, b: *mut u64, bl: usize, p: *mut Procs, number: u64) -> Answer;
     pub fn holthrimi_user_range_ok(u: Setup, f: *const u8, fl: usize, b: *const u64, bl: usize, p: *const Procs, number: u64, addr: u64, len: u64,
         write: bool) -> Answer;

@@ -1,7 +1,7 @@
 // A start, breaks, forks and ends through the safe functions, with the 184-byte image of tests/images: a page of text, two of data and bss,
 // and the stack's four.
 
-use holthrimi::{book_words, number, Lent, Proc, Procs, Refusal, Setup, VirtRange, DATA, FRAME_WORDS, PAGE, TEXT};
+use holthrimi::{book_words, number, Lent, Proc, Procs, Refusal, Setup, UserSegment, VirtRange, DATA, FRAME_WORDS, PAGE, TEXT};
 
 const IMAGE: &[u8] = include_bytes!("../../tests/images/example.img");
 
@@ -131,6 +131,51 @@ fn fork() {
     let mut m = Memory::forked(19);
     m.lent().fork(16, 2).unwrap();
     assert_eq!((*m.place(18, 2), *m.count(18), m.free()), (65536 + 2 * 16 + TEXT, 3, 0));
+}
+
+// With the list of the parent's segments lent, a fork is the same; a list unlike them is 2, after the book's and before 3, 4, 5 and 33.
+#[test]
+fn fork_list() {
+    let mut m = Memory::started(16);
+    let list = m.procs.all[0].used().to_vec();
+    assert_eq!(list.iter().map(|s| s.perm).collect::<Vec<_>>(), [TEXT, DATA, DATA]);
+    let before = (m.frames.clone(), m.book.clone(), m.procs);
+    let mut unlike = vec![list[..2].to_vec(), list[1..].to_vec(), Vec::new(), m.procs.all[0].segments.to_vec()];
+    for more in [list[2], UserSegment::default()] {
+        unlike.push([&list[..], &[more]].concat());
+    }
+    for (i, s) in list.iter().enumerate() {
+        let VirtRange { start, end } = s.range;
+        for (start, end, perm) in [(start + 4096, end, s.perm), (start, end + 4096, s.perm), (start, end, s.perm ^ 1)] {
+            unlike.push(list.clone());
+            unlike.last_mut().unwrap()[i] = UserSegment { range: VirtRange { start, end }, perm };
+        }
+    }
+    for other in &unlike {
+        for child in [16, 1, 17] {
+            refused(m.lent().fork_list(1, child, other), number::TORN);
+        }
+    }
+    let mut lent = m.lent();
+    lent.setup.uaddrtop += 4096;
+    refused(lent.fork_list(1, 16, &unlike[0]), number::SETUP);
+    lent.frames = &mut [];
+    refused(lent.fork_list(1, 16, &unlike[0]), number::SIZES);
+    refused(m.lent().fork_list(1, 17, &list), number::NUMBER);
+    refused(m.lent().fork_list(17, 16, &unlike[0]), number::NUMBER);
+    refused(m.lent().fork_list(2, 3, &list), number::TORN);
+    refused(m.lent().fork_list(2, 1, &[]), number::DEAD);
+    refused(m.lent().fork_list(1, 1, &list), number::TAKEN);
+    assert!((&m.frames, &m.book, m.procs) == (&before.0, &before.1, before.2));
+    m.lent().fork_list(1, 16, &list).unwrap();
+    let other = Memory::forked(16);
+    assert!((&m.frames, &m.book, m.procs) == (&other.frames, &other.book, other.procs));
+    refused(m.lent().fork_list(1, 16, &list), number::TAKEN);
+    refused(m.lent().fork_list(1, 2, &list), number::ENOVMEM);
+    refused(m.lent().fork_list(1, 2, &unlike[0]), number::TORN);
+    assert!((&m.frames, &m.book, m.procs) == (&other.frames, &other.book, other.procs));
+    *m.place(0, 1) = 1;
+    refused(m.lent().fork_list(17, 16, &list), number::TORN);
 }
 
 // What one writes, the other does not see; and text that is shared is written by neither.

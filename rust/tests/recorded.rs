@@ -2,14 +2,14 @@
 // tests/compare/model.py, run through the library: every answer, and by `sum` every record, book word and frame byte. How a script is read
 // and answered is the oracle's code; the calls here are the library's.
 
-#[allow(dead_code)] // An answer `assert` is the Rust's alone.
+#[allow(dead_code)] // An answer `assert` is the Rust's alone, and so is a list that the harness holds to a record.
 #[path = "../../tests/oracle/src/script.rs"]
 mod script;
 #[path = "../../tests/oracle/src/text.rs"]
 mod text;
 
-use holthrimi::{Lent, Procs, Refusal, Setup, UserRegs, VirtRange, PAGE};
-use script::{same_list, within, Answer, Calls, Record, Regs, Stop, WORDS};
+use holthrimi::{Lent, Procs, Refusal, Setup, UserRegs, UserSegment, VirtRange, PAGE};
+use script::{Answer, Calls, Record, Regs, Stop, WORDS};
 use std::fs;
 
 struct World {
@@ -85,14 +85,10 @@ impl Calls for World {
     fn brk(&mut self, n: u64, addr: u64) -> Answer<u64> {
         told(self.lent().brk(n, addr))
     }
-    // The library forks with the record's own segments: another list is 2, after 1.
     fn fork(&mut self, parent: u64, child: u64, list: Option<&[[u64; 3]]>) -> Answer<()> {
-        if let (Some(list), Ok(n)) = (list, within(parent)) {
-            if !same_list(list, &self.record(n)) {
-                return told(self.lent().check().and(Err(Refusal::Refused(2))));
-            }
-        }
-        told(self.lent().fork(parent, child))
+        let Some(list) = list else { return told(self.lent().fork(parent, child)) };
+        let segment = |&[start, end, perm]: &[u64; 3]| UserSegment { range: VirtRange { start, end }, perm };
+        told(self.lent().fork_list(parent, child, &list.iter().map(segment).collect::<Vec<_>>()))
     }
     fn end(&mut self, n: u64) -> Answer<()> {
         told(self.lent().end(n))

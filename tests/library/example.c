@@ -111,6 +111,84 @@ static uint64_t free_frames(void) {
     return n;
 }
 
+/* Everything lent is as it was noted last. */
+static uint8_t frames_noted[sizeof frames];
+static uint64_t book_noted[WORDS];
+static struct holthrimi_procs procs_noted;
+
+static void note(void) {
+    memcpy(frames_noted, frames, sizeof frames);
+    memcpy(book_noted, book, sizeof book);
+    procs_noted = procs;
+}
+
+static bool unchanged(void) {
+    bool ok = memcmp(frames_noted, frames, sizeof frames) == 0 && memcmp(book_noted, book, sizeof book) == 0;
+    for (int i = 0; i < HOLTHRIMI_PROCESSES; i++) {
+        ok = ok && same(&procs_noted.all[i], &procs.all[i]);
+    }
+    return ok;
+}
+
+/* Fork with the list of a process's segments lent: process 1 has eight pages and three segments, and the book 32 - 8 - 3 * 7 = 3 free
+ * frames once it has three children. */
+static void fork_lists(void) {
+    struct holthrimi_segment list[HOLTHRIMI_SEGMENTS + 1] = {0};
+    memcpy(list, procs.all[0].segments, sizeof procs.all[0].segments);
+    CHECK(list[2].perm == HOLTHRIMI_DATA && list[3].perm == 0);
+    note();
+
+    /* A list with one record more, be it an unused place, one less, none, or one field changed is 2. */
+    CHECK(refused(holthrimi_fork_list(LENT, 1, 2, list, 4), HOLTHRIMI_TORN));
+    CHECK(refused(holthrimi_fork_list(LENT, 1, 2, list, HOLTHRIMI_SEGMENTS + 1), HOLTHRIMI_TORN));
+    CHECK(refused(holthrimi_fork_list(LENT, 1, 2, list, 2), HOLTHRIMI_TORN));
+    CHECK(refused(holthrimi_fork_list(LENT, 1, 2, list, 0), HOLTHRIMI_TORN));
+    list[3] = list[2];
+    CHECK(refused(holthrimi_fork_list(LENT, 1, 2, list, 4), HOLTHRIMI_TORN));
+    CHECK(refused(holthrimi_fork_list(LENT, 1, 2, list + 1, 3), HOLTHRIMI_TORN));
+    for (int i = 0; i < 3; i++) {
+        uint64_t *fields[3] = {&list[i].range.start, &list[i].range.end, &list[i].perm};
+        for (int k = 0; k < 3; k++) {
+            *fields[k] ^= 1;
+            CHECK(refused(holthrimi_fork_list(LENT, 1, 2, list, 3), HOLTHRIMI_TORN));
+            *fields[k] ^= 1;
+        }
+    }
+    CHECK(unchanged());
+
+    /* 1, 38, the book's 2, then the list's 2, which only a number from 1 to 16 has, 3 and 4. */
+    setup.uaddrtop += 4096;
+    CHECK(refused(holthrimi_fork_list(setup, frames, sizeof frames - 1, book, WORDS, &procs, 1, 2, list, 2), HOLTHRIMI_SIZES));
+    CHECK(refused(holthrimi_fork_list(LENT, 1, 2, list, 2), HOLTHRIMI_SETUP));
+    setup.uaddrtop -= 4096;
+    *holders(0) = 1;
+    CHECK(refused(holthrimi_fork_list(LENT, 17, 17, list, 3), HOLTHRIMI_TORN));
+    *holders(0) = 0;
+    CHECK(refused(holthrimi_fork_list(LENT, 1, 17, list, 2), HOLTHRIMI_TORN));
+    CHECK(refused(holthrimi_fork_list(LENT, 17, 2, list, 2), HOLTHRIMI_NUMBER));
+    CHECK(refused(holthrimi_fork_list(LENT, 0, 2, list, 3), HOLTHRIMI_NUMBER));
+    CHECK(refused(holthrimi_fork_list(LENT, 1, 17, list, 3), HOLTHRIMI_NUMBER));
+    CHECK(refused(holthrimi_fork_list(LENT, 3, 2, list, 3), HOLTHRIMI_TORN));
+    CHECK(refused(holthrimi_fork_list(LENT, 3, 1, list, 0), HOLTHRIMI_DEAD));
+    CHECK(refused(holthrimi_fork_list(LENT, 1, 1, list, 2), HOLTHRIMI_TORN));
+    CHECK(refused(holthrimi_fork_list(LENT, 1, 1, list, 3), HOLTHRIMI_TAKEN));
+    CHECK(unchanged());
+
+    /* The record's own list: the child is as a child of holthrimi_fork. 5 comes before 33, and 33 changes nothing either. */
+    CHECK(accepted(holthrimi_fork_list(LENT, 1, 2, list, 3)) && accepted(holthrimi_end(LENT, 2)));
+    memcpy(frames, frames_noted, sizeof frames);
+    CHECK(unchanged() && accepted(holthrimi_fork_list(LENT, 1, 2, list, 3)));
+    note();
+    CHECK(accepted(holthrimi_end(LENT, 2)) && accepted(holthrimi_fork(LENT, 1, 2)) && unchanged());
+    CHECK(accepted(holthrimi_fork_list(LENT, 1, 3, list, 3)) && accepted(holthrimi_fork_list(LENT, 3, 4, list, 3)));
+    note();
+    CHECK(refused(holthrimi_fork_list(LENT, 1, 4, list, 3), HOLTHRIMI_TAKEN));
+    CHECK(refused(holthrimi_fork_list(LENT, 1, 5, list, 3), HOLTHRIMI_ENOVMEM));
+    CHECK(refused(holthrimi_fork_list(LENT, 1, 5, list, 2), HOLTHRIMI_TORN) && unchanged());
+    CHECK(same(&procs.all[0], &procs.all[3]) && *holders(FRAMES - 1) == 4 && free_frames() == FRAMES - 8 - 3 * 7);
+    CHECK(accepted(holthrimi_end(LENT, 2)) && accepted(holthrimi_end(LENT, 3)) && accepted(holthrimi_end(LENT, 4)));
+}
+
 int main(void) {
     const uint64_t top = (uint64_t)1 << 47;
     struct holthrimi_answer a;
@@ -189,6 +267,9 @@ int main(void) {
     CHECK(holthrimi_ibrk(setup, true, 69816, 81920, 81921, 1).bss.end == 86016);
     CHECK(holthrimi_ibrk(setup, false, 0, 0, 0, 0).error == HOLTHRIMI_EBADARG);
     printf("break: the bss ends at %llu\n", (unsigned long long)procs.all[0].bss.end);
+
+    fork_lists();
+    CHECK(free_frames() == FRAMES - 8);
 
     /* Fork: the child shares its parent's page of text; it has the bytes of the seven others, and its own from then on. */
     CHECK(accepted(holthrimi_fork(LENT, 1, 2)) && free_frames() == FRAMES - 8 - 7);

@@ -7,10 +7,9 @@ ghost use Prim.Native.Nat.{_*_, _≤_};
 ghost use lib.ListN.{length};
 ghost use Rattle.spec.specs.Numbers.{SetupOk, argLimit};
 ghost use Rattle.spec.specs.Book.{frameCount};
-ghost use Rattle.spec.specs.Frames.{memOf};
+ghost use Rattle.spec.specs.Frames.{memOf, store};
 ghost use Rattle.spec.specs.Exec.{copyArgv};
 ghost use Rattle.sound.specs.Table.{Ready};
-ghost use Rattle.book.specs.Lent.{store};
 ghost use Rattle.argv.specs.Reading.{Read};
 use pointers::Pointer;
 use spec::Setup;
@@ -24,21 +23,22 @@ pub struct Argv {
 }
 
 // The strings that the null-terminated array of pointers at user address `argv` points to, copied in, stopping with 33 as soon as
-// they won't fit on the new stack. 35 for a bad address, which ends the process, once the caller says so.
+// they won't fit on the new stack. 35 for a bad address, which ends the process, once the caller says so. Where it is refused, the
+// buffer is zeros.
 pub fn copy_argv(
     setup: Setup,
     frames: &[u8],
     book: &[u64],
     tags: &[u64; 272],
     bases: &[u64; 273],
-    table: &[u16; 16384],
+    table: &[u16; 1024],
     number: u64,
     argv: u64,
     buf: &mut [u8],
 ) -> Argv
-    requires { ⌜ (length (now frames) ≡ 4096 * frameCount (now book)) × Ready (now book) (now tags) (now bases) (now table) × (1 ≤ number) × (number ≤ 16) ⌝ }
+    requires { ⌜ (length (now frames) ≡ 4096 * frameCount (now book)) × Ready (now book) number (now tags) (now bases) (now table) × (1 ≤ number) × (number ≤ 16) ⌝ }
     requires { ⌜ (argLimit setup ≤ length (now buf)) × SetupOk setup ⌝ }
-    ensures { λ r. ⌜ Read (copyArgv setup (memOf (store (now (frames .entry)) (now (book .entry))) number) argv) r (now (buf .exit)) ⌝ }
+    ensures { λ r. ⌜ Read (copyArgv setup (memOf (store (now (frames .entry)) (now (book .entry))) number) argv) (now (buf .entry)) r (now (buf .exit)) ⌝ }
 {
     let mut used = 0;
     let mut count = 0;
@@ -47,6 +47,7 @@ pub fn copy_argv(
         let p = pointers::read_pointer(setup, frames, book, tags, bases, table, number, at);
         match p {
             Pointer::Bad => {
+                frame_bytes::zero(buf);
                 return Argv {
                     error: spec::BAD_ADDRESS,
                     used: 0,

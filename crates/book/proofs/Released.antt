@@ -6,8 +6,7 @@ use mathlib.Core.Bool.{Bool, true, false, _&&_}
 use mathlib.Core.List.{List}
 use Rattle.spec.specs.Tests.{_isnt_, _⇒_else_}
 use Rattle.spec.specs.Book.{pageOf, frameCount, mapping, holders}
-use Rattle.spec.specs.Frames.{enter, sweep, letGo, release}
-use Rattle.book.specs.Lent.{store}
+use Rattle.spec.specs.Frames.{enter, sweep, letGo, release, store}
 
 -- the frames before i are those after the release
 abbrev pub released : ℕ → (ℕ → Bool) → List ℕ → ℕ → List ℕ

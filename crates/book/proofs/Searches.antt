@@ -10,7 +10,7 @@ use borrow.Author.Tests.{eq-eqb, ne-eqb}
 use Rattle.spec.specs.Book.{frameCount, mapping, holders, highest, countBelow, owns, frameOf, isAlone}
 use Rattle.spec.specs.declared.Found.{Found}
 use Rattle.spec.specs.declared.Found.the-variants.{At, Nothing}
-use Rattle.book.specs.Lent.{foundOf}
+use Rattle.book.specs.Answers.{foundOf}
 use Rattle.spec.proofs.Bools.{split}
 use Rattle.laws.proofs.Frame.{owns-means, owns-test, frame-found}
 

@@ -1,2 +1,2 @@
--- What is lent, and the answers of searches.
-pub mod Lent
+-- The answers of searches.
+pub mod Answers

@@ -7,8 +7,7 @@ ghost use Prim.Native.Nat.{ℕ, _+_, _*_, _-_, _≤_, _<_};
 ghost use lib.ListN.{length};
 ghost use Rattle.spec.specs.Tests.{_isnt_, within};
 ghost use Rattle.spec.specs.Book.{pageOf, holders};
-ghost use Rattle.spec.specs.Frames.{enter, release};
-ghost use Rattle.book.specs.Lent.{store};
+ghost use Rattle.spec.specs.Frames.{enter, release, store};
 
 // One holder fewer.
 fn less(c: u64) -> u64

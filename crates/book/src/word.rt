@@ -3,11 +3,11 @@
 ghost use mathlib.Core.Path.{_≡_};
 ghost use Prim.Native.Nat.{_%_, _^_, _≤_, _<_};
 ghost use Rattle.spec.specs.Book.{wordOf, pageOf, ownerOf, permOf, frameOf, free, alone};
-ghost use Rattle.book.specs.Lent.{foundOf};
+ghost use Rattle.book.specs.Answers.{foundOf};
 
 // The word of an owner's page.
 pub fn pack(page: u64, owner: u64, perm: u64) -> u64
-    requires { ⌜ (page < 2 ^ 63) × (owner < 256) × (perm < 16) ⌝ }
+    requires { ⌜ wordOf page owner perm < 2 ^ 64 ⌝ }
     ensures { λ r. ⌜ r ≡ wordOf page owner perm ⌝ }
 {
     page + 16 * owner + perm

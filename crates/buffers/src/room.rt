@@ -7,10 +7,7 @@ ghost use lib.ListN.{length, take, drop};
 pub fn least(a: usize, b: usize) -> usize
     ensures { λ r. ⌜ r ≡ min a b ⌝ }
 {
-    if a < b {
-        return a;
-    }
-    b
+    if a < b { a } else { b }
 }
 
 // The bytes from `at` up to `end`.

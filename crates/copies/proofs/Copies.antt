@@ -11,14 +11,13 @@ use lib.Seq.{length-take-le, getD-take, getD-drop, ext-getD, take-add}
 use borrow.Rule.Slice.PartMut.{putMid}
 use Rattle.spec.specs.Numbers.{pageDown, bytesFrom}
 use Rattle.spec.specs.Book.{frameCount, frameOf}
-use Rattle.spec.specs.Frames.{Store, Mem, cellIn, memOf, put, pokes}
+use Rattle.spec.specs.Frames.{Store, Mem, cellIn, memOf, put, pokes, store}
 use Rattle.spec.specs.Access.{cellOk, byteOf, bytesAt}
 use Rattle.spec.proofs.Bools.{clash}
 use Rattle.laws.proofs.Lists.{put-part}
 use Rattle.laws.proofs.Frame.{frame-found}
 use Rattle.laws.proofs.Pokes.{pokes-append, pokes-page}
 use Rattle.laws.proofs.Contents.{length-bytes, get-bytes}
-use Rattle.book.specs.Lent.{store}
 use Rattle.ranges.proofs.Found.{page-none}
 use Rattle.laws.proofs.Overwrite.{mix, mix-part}
 

@@ -8,10 +8,9 @@ ghost use lib.ListN.{length};
 ghost use Rattle.spec.specs.Numbers.{SetupOk};
 ghost use Rattle.spec.specs.Book.{frameCount};
 ghost use Rattle.spec.specs.declared.Setup.{Setup};
-ghost use Rattle.spec.specs.Frames.{memOf, pokes};
+ghost use Rattle.spec.specs.Frames.{memOf, pokes, store};
 ghost use Rattle.spec.specs.Access.{cellOk, userRangeOk, bytesAt};
 ghost use Rattle.sound.specs.Table.{Ready};
-ghost use Rattle.book.specs.Lent.{store};
 use ranges::frame_at;
 
 // How many of `left` bytes from an address on lie in its page.
@@ -36,12 +35,12 @@ pub fn user_bytes<'a>(
     book: &[u64],
     tags: &[u64; 272],
     bases: &[u64; 273],
-    table: &[u16; 16384],
+    table: &[u16; 1024],
     number: u64,
     va: u64,
     n: usize,
 ) -> &'a [u8]
-    requires { ⌜ (length (now frames) ≡ 4096 * frameCount (now book)) × Ready (now book) (now tags) (now bases) (now table) × (1 ≤ number) × (number ≤ 16) ⌝ }
+    requires { ⌜ (length (now frames) ≡ 4096 * frameCount (now book)) × Ready (now book) number (now tags) (now bases) (now table) × (1 ≤ number) × (number ≤ 16) ⌝ }
     requires { ⌜ (va % 4096 + n ≤ 4096) × (cellOk false (memOf (store (now frames) (now book)) number va) ≡ true) ⌝ }
     ensures { λ r. ⌜ now r ≡ bytesAt (memOf (store (now (frames .entry)) (now (book .entry))) number) va n ⌝ }
 {
@@ -60,12 +59,12 @@ pub fn read_user(
     book: &[u64],
     tags: &[u64; 272],
     bases: &[u64; 273],
-    table: &[u16; 16384],
+    table: &[u16; 1024],
     number: u64,
     addr: u64,
     buf: &mut [u8],
 )
-    requires { ⌜ (length (now frames) ≡ 4096 * frameCount (now book)) × Ready (now book) (now tags) (now bases) (now table) × (1 ≤ number) × (number ≤ 16) ⌝ }
+    requires { ⌜ (length (now frames) ≡ 4096 * frameCount (now book)) × Ready (now book) number (now tags) (now bases) (now table) × (1 ≤ number) × (number ≤ 16) ⌝ }
     requires { ⌜ ((setup : Setup) × SetupOk setup × (userRangeOk setup (memOf (store (now frames) (now book)) number) false addr (length (now buf)) ≡ true)) ⌝ }
     ensures { λ _. ⌜ now (buf .exit) ≡ bytesAt (memOf (store (now (frames .entry)) (now (book .entry))) number) addr (length (now (buf .entry))) ⌝ }
 {
@@ -86,12 +85,12 @@ fn write_part(
     book: &[u64],
     tags: &[u64; 272],
     bases: &[u64; 273],
-    table: &[u16; 16384],
+    table: &[u16; 1024],
     number: u64,
     va: u64,
     bytes: &[u8],
 )
-    requires { ⌜ (length (now frames) ≡ 4096 * frameCount (now book)) × Ready (now book) (now tags) (now bases) (now table) × (1 ≤ number) × (number ≤ 16) ⌝ }
+    requires { ⌜ (length (now frames) ≡ 4096 * frameCount (now book)) × Ready (now book) number (now tags) (now bases) (now table) × (1 ≤ number) × (number ≤ 16) ⌝ }
     requires { ⌜ (va % 4096 + length (now bytes) ≤ 4096) × (cellOk true (memOf (store (now frames) (now book)) number va) ≡ true) ⌝ }
     ensures { λ _. ⌜ store (now (frames .exit)) (now (book .entry)) ≡ pokes (store (now (frames .entry)) (now (book .entry))) number va (now (bytes .entry)) ⌝ }
 {
@@ -110,12 +109,12 @@ pub fn write_user(
     book: &[u64],
     tags: &[u64; 272],
     bases: &[u64; 273],
-    table: &[u16; 16384],
+    table: &[u16; 1024],
     number: u64,
     addr: u64,
     bytes: &[u8],
 )
-    requires { ⌜ (length (now frames) ≡ 4096 * frameCount (now book)) × Ready (now book) (now tags) (now bases) (now table) × (1 ≤ number) × (number ≤ 16) ⌝ }
+    requires { ⌜ (length (now frames) ≡ 4096 * frameCount (now book)) × Ready (now book) number (now tags) (now bases) (now table) × (1 ≤ number) × (number ≤ 16) ⌝ }
     requires { ⌜ ((setup : Setup) × SetupOk setup × (userRangeOk setup (memOf (store (now frames) (now book)) number) true addr (length (now bytes)) ≡ true)) ⌝ }
     ensures { λ _. ⌜ store (now (frames .exit)) (now (book .entry)) ≡ pokes (store (now (frames .entry)) (now (book .entry))) number addr (now (bytes .entry)) ⌝ }
 {

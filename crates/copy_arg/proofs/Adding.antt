@@ -1,10 +1,10 @@
 -- One string more, from the tests that are made; and what it leaves.
 use Prim.Native.Nat.{ℕ, _+_, _-_, _≤_, _<_}
 use native.Mathlib.Omega.{arith}
-use mathlib.Core.Path.{_≡_, sym, ap, _∙_}
+use mathlib.Core.Path.{_≡_, refl, sym, ap, _∙_}
 use mathlib.Core.Bool.{Bool, true, false, not, _||_}
-use mathlib.Core.List.{List, [], _∷_, _++_}
-use lib.ListN.{length, take, set}
+use mathlib.Core.List.{List, [], _∷_}
+use lib.ListN.{length, take, set, replicate}
 use borrow.Author.Tests.{ltb-false}
 use Rattle.spec.specs.Tests.{_is_, _above_, _⇒_else_}
 use Rattle.spec.specs.Numbers.{argLimit}
@@ -32,22 +32,20 @@ module _ (setup : Setup) (t : Str) (used count : ℕ) where
 
   -- from what was read
   module _ (before after : List ℕ) (r : Held) (told : Told (argLimit setup) t used before r after) where
-    pub added-bad : not (r .whole) ≡ true → Added setup t used count before (record { error = 35; size = 0 }) after
-    added-bad h =
-        let x : not (t .whole) ≡ true = ap not (sym (told .whole)) ∙ h in
-        record { error = rw x; size = λ z. absurd (omega arith); bytes = λ z. absurd (omega arith) }
+    pub added-bad : not (r .whole) ≡ true → (left : List ℕ) → left ≡ replicate (length before) 0 → Added setup t used count before (record { error = 35; size = 0 }) left
+    added-bad h left zeros = let x : not (t .whole) ≡ true = ap not (sym (told .whole)) ∙ h in record { error = rw x; size = refl; bytes = zeros }
 
     module _ (h : not (r .whole) ≡ false) where
       whole : not (t .whole) ≡ false
       whole = ap not (sym (told .whole)) ∙ h
 
-      pub added-over : (r .size is argLimit setup || over (r .size)) ≡ true → Added setup t used count before (record { error = 33; size = 0 }) after
-      added-over o =
+      pub added-over : (r .size is argLimit setup || over (r .size)) ≡ true → (left : List ℕ) → left ≡ replicate (length before) 0 → Added setup t used count before (record { error = 33; size = 0 }) left
+      added-over o left zeros =
           let y : (t .size is argLimit setup || over (t .size)) ≡ true = rw (told .size) at o in
           record {
             error = split (t .size is argLimit setup) (λ q. rw (whole, q)) (λ q. rw (whole, q, or-fact (t .size is argLimit setup) (over (t .size)) y q));
-            size = λ z. absurd (omega arith);
-            bytes = λ z. absurd (omega arith);
+            size = refl;
+            bytes = zeros;
           }
 
       pub added-fine : (r .size is argLimit setup || over (r .size)) ≡ false → argLimit setup ≤ length before → length (take (t .size) (t .buffer)) ≡ t .size
@@ -61,8 +59,8 @@ module _ (setup : Setup) (t : Str) (used count : ℕ) where
           let g : r .size < argLimit setup - used = omega (arith, told .size) in
           record {
             error = rw (whole, z .0, z .1);
-            size = λ e. told .size;
-            bytes = λ e.
+            size = told .size;
+            bytes =
                 rw (n, told .text g)
                 (sym (put-append before text (0 ∷ []) used (omega arith) ∙ put-one (put before used text) (used + length text) 0 (rw (length-put before text used (omega arith)) (omega arith))));
           }

@@ -5,7 +5,7 @@ use Prim.Native.Nat.{ℕ, _+_, _-_, _<_}
 use mathlib.Core.Path.{_≡_}
 use mathlib.Core.Bool.{not}
 use mathlib.Core.List.{List, [], _∷_, _++_}
-use lib.ListN.{take}
+use lib.ListN.{length, take, replicate}
 use Rattle.spec.specs.Tests.{_is_, _above_, _⇒_else_}
 use Rattle.spec.specs.Numbers.{argLimit}
 use Rattle.spec.specs.Frames.{put}
@@ -30,8 +30,8 @@ stringError setup str used count =
     stackSize (used + str .size + 1) (count + 1) above argLimit setup ⇒ 33 else
     0
 
--- what that leaves: its refusal; or 0, the string's length, and the string with its NUL behind those before it
+-- what that leaves: its refusal, with the buffer all zeros; or 0, the string's length, and the string with its NUL behind those before it
 pub record Added (setup : Setup) (t : Str) (used count : ℕ) (before : List ℕ) (r : More) (after : List ℕ) : Type 0 where
   pub error : r .error ≡ stringError setup t used count
-  pub size : r .error ≡ 0 → r .size ≡ t .size
-  pub bytes : r .error ≡ 0 → after ≡ put before used (take (t .size) (t .buffer) ++ 0 ∷ [])
+  pub size : r .size ≡ (r .error is 0 ⇒ t .size else 0)
+  pub bytes : after ≡ (r .error is 0 ⇒ put before used (take (t .size) (t .buffer) ++ 0 ∷ []) else replicate (length before) 0)

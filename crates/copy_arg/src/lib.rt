@@ -6,11 +6,10 @@ ghost use Prim.Native.Nat.{_*_, _≤_, _<_};
 ghost use lib.ListN.{length};
 ghost use Rattle.spec.specs.Numbers.{SetupOk, argLimit};
 ghost use Rattle.spec.specs.Book.{frameCount};
-ghost use Rattle.spec.specs.Frames.{memOf};
+ghost use Rattle.spec.specs.Frames.{memOf, store};
 ghost use Rattle.spec.specs.Access.{copyStr};
 ghost use Rattle.spec.specs.Exec.{argBuffer, stackSize};
 ghost use Rattle.sound.specs.Table.{Ready};
-ghost use Rattle.book.specs.Lent.{store};
 ghost use Rattle.copy_arg.specs.Strings.{Told, Added};
 use spec::Setup;
 use uaccess::Str;
@@ -29,13 +28,13 @@ fn read_string(
     book: &[u64],
     tags: &[u64; 272],
     bases: &[u64; 273],
-    table: &[u16; 16384],
+    table: &[u16; 1024],
     number: u64,
     s: u64,
     buf: &mut [u8],
     used: usize,
 ) -> Str
-    requires { ⌜ (length (now frames) ≡ 4096 * frameCount (now book)) × Ready (now book) (now tags) (now bases) (now table) × (1 ≤ number) × (number ≤ 16) ⌝ }
+    requires { ⌜ (length (now frames) ≡ 4096 * frameCount (now book)) × Ready (now book) number (now tags) (now bases) (now table) × (1 ≤ number) × (number ≤ 16) ⌝ }
     requires { ⌜ (argLimit setup ≤ length (now buf)) × (used < argLimit setup) × SetupOk setup ⌝ }
     ensures { λ r. ⌜ Told (argLimit setup) (copyStr setup (memOf (store (now (frames .entry)) (now (book .entry))) number) (argBuffer setup) s) used (now (buf .entry)) r (now (buf .exit)) ⌝ }
 {
@@ -75,21 +74,21 @@ fn read_string(
 }
 
 // Reads the string at user address `s`, and puts it and its NUL behind `used` bytes of `count` strings if it is within the limit with
-// them. If it is not, nothing is promised of the buffer.
+// them. If it is refused, the buffer is zeros.
 pub fn copy_arg(
     setup: Setup,
     frames: &[u8],
     book: &[u64],
     tags: &[u64; 272],
     bases: &[u64; 273],
-    table: &[u16; 16384],
+    table: &[u16; 1024],
     number: u64,
     s: u64,
     buf: &mut [u8],
     used: usize,
     count: usize,
 ) -> More
-    requires { ⌜ (length (now frames) ≡ 4096 * frameCount (now book)) × Ready (now book) (now tags) (now bases) (now table) × (1 ≤ number) × (number ≤ 16) ⌝ }
+    requires { ⌜ (length (now frames) ≡ 4096 * frameCount (now book)) × Ready (now book) number (now tags) (now bases) (now table) × (1 ≤ number) × (number ≤ 16) ⌝ }
     requires { ⌜ (argLimit setup ≤ length (now buf)) × (stackSize used count ≤ argLimit setup) × SetupOk setup ⌝ }
     ensures { λ r. ⌜ Added setup (copyStr setup (memOf (store (now (frames .entry)) (now (book .entry))) number) (argBuffer setup) s) used count (now (buf .entry)) r (now (buf .exit)) ⌝ }
 {
@@ -111,12 +110,14 @@ pub fn copy_arg(
     let nargs = (count + 1) as u64;
     let over = (n as u64 == limit) | (args::stack_size(strings, nargs) > limit);
     if !str.whole {
+        frame_bytes::zero(buf);
         return More {
             error: spec::BAD_ADDRESS,
             size: 0,
         };
     }
     if over {
+        frame_bytes::zero(buf);
         return More {
             error: spec::ENOVMEM,
             size: 0,

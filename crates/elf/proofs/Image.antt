@@ -1,26 +1,18 @@
 -- The checks of a whole image, and what they show.
 -- Assumes nothing.
-use mathlib.Core.Path.{_≡_, refl, sym, ap, _∙_}
+use mathlib.Core.Path.{_≡_, refl}
 use mathlib.Core.Bool.{Bool, true, false, not, _||_}
 use mathlib.Core.List.{List, [], _∷_}
 use Prim.Native.Nat.{ℕ, _+_, _*_, _%_, _<_, _≤_}
 use native.Mathlib.Omega.{arith}
-use lib.Dec.{eqb, ltb}
 use lib.ListN.{length, take}
-use borrow.Author.Tests.{lt-ltb, le-ltb, ltb-false, eqb-true, eqb-false}
+use borrow.Author.Tests.{lt-ltb, le-ltb, ltb-false}
 use Rattle.spec.specs.Tests.{_is_, _isnt_, _below_, _above_, _⇒_else_, _orElse_, same}
-use Rattle.spec.specs.Elf.{magic, entry, phoff, phnum, ehdrError, phdrs, phdrError, segmentsOf, entryInText, elfError, errorNumber}
-use Rattle.spec.specs.declared.ElfError.{ElfError}
-use Rattle.spec.specs.declared.ElfError.the-variants.{Truncated, BadMagic}
+use Rattle.spec.specs.Elf.{magic, phoff, phnum, ehdrError, phdrs, phdrError, segmentsOf, entryInText, elfError}
 use Rattle.header.specs.Header.{ehdrOf, fieldsError}
-use Rattle.elf.specs.Reader.{Said, said, parsed, left, scanError, imageError}
+use Rattle.elf.specs.Reader.{scanError, imageError}
 use Rattle.header.specs.declared.Ehdr.{Ehdr}
-use Rattle.elf.specs.declared.Elf.{Elf as Held}
-use Rattle.elf.specs.declared.Parsed.{Parsed}
-use Rattle.elf.specs.declared.Parsed.the-variants.{Elf, Refused}
-use Rattle.spec.proofs.Bools.{split}
-use Rattle.laws.proofs.Checks.{checks, passes, failed, or-else}
-use Rattle.elf.proofs.Errors.{numbered}
+use Rattle.laws.proofs.Checks.{passes, failed, or-else}
 
 -- ---- the ELF header
 
@@ -57,16 +49,6 @@ module _ (image : List ℕ) where
   unfolding elfError ehdrError fieldsError scanError phdrs segmentsOf
   by-fields h m = rw (le-ltb (length image) 64 h, m)
 
--- ---- what `parse` says
-
-pub says-no : (image : List ℕ) (e : ElfError) → errorNumber e ≡ elfError image → said (Refused e) ≡ parsed image
-unfolding parsed
-says-no image e q = rw (← q, numbered e)
-
-pub says-yes : (image : List ℕ) → 0 ≡ elfError image → said (Elf (record { entry = entry image; phoff = phoff image; phnum = phnum image })) ≡ parsed image
-unfolding parsed
-says-yes image q = rw (← q)
-
 -- ---- what a caller learns from it
 
 -- of an accepted image: its headers lie in it and pass, and its entry is in text
@@ -95,21 +77,3 @@ accepted image e =
       headers = rest .0;
       text = found (entryInText image) (rest .1);
     }
-
--- an accepted image's number is 0, and its fields are the image's; a refused one's number is the refusal's
-either : (image : List ℕ) (x : Said) → x ≡ parsed image → (x .number ≡ elfError image) × (elfError image ≡ 0 → x ≡ record { number = 0; entry = entry image; phoff = phoff image; phnum = phnum image })
-unfolding parsed
-either image x e =
-    split (elfError image is 0)
-    (λ q. let y : x ≡ record { number = 0; entry = entry image; phoff = phoff image; phnum = phnum image } = rw q at e in (ap (λ (s : Said). s .number) y ∙ sym (eqb-true (elfError image) 0 q), λ z. y))
-    (λ q. let y : x ≡ record { number = elfError image; entry = 0; phoff = 0; phnum = 0 } = rw q at e in (ap (λ (s : Said). s .number) y, λ z. absurd (eqb-false (elfError image) 0 q z)))
-
-pub says-number : (image : List ℕ) (r : Parsed) → said r ≡ parsed image → said r .number ≡ elfError image
-says-number image r e = either image (said r) e .0
-
-pub says-fields : (image : List ℕ) (h : Held) → said (Elf h) ≡ parsed image
-    → (h .entry ≡ entry image) × (h .phoff ≡ phoff image) × (h .phnum ≡ phnum image)
-says-fields image h e =
-    let p = either image (said (Elf h)) e in
-    let y = p .1 (sym (p .0)) in
-    (ap (λ (s : Said). s .entry) y, ap (λ (s : Said). s .phoff) y, ap (λ (s : Said). s .phnum) y)

@@ -2,4 +2,6 @@ pub mod Image
 pub mod Walk
 pub mod Errors
 pub mod Checked
-pub mod Ahead
+pub mod HeaderAt
+pub mod Indexed
+pub mod Tables

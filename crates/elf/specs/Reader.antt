@@ -1,43 +1,34 @@
--- What the reader's types stand for in the specification: a segment, a step over one header, and the answer of `parse` with the
--- scope's number. The code walks the headers once, so that checks 21 to 27 are stated here from any header on; `parsed` is the
--- whole, and is `elfError`'s.
+-- What a reader holds, and what its types stand for in the specification: a segment, and a step over one header. The code walks the
+-- headers once, so that checks 21 to 27 are stated here from any header on.
 -- Assumes nothing.
 use Prim.Native.Nat.{ℕ, _+_, _-_, _*_, _%_, _^_, _≤_}
 use mathlib.Core.Path.{_≡_}
-use mathlib.Core.Bool.{Bool, true, false, not, _&&_, _||_}
+use mathlib.Core.Bool.{Bool, false, _&&_, _||_}
 use mathlib.Core.List.{List, [], _∷_, map}
 use lib.ListN.{length, take, drop}
-use Rattle.spec.specs.Tests.{_is_, _isnt_, _above_, _⇒_else_, _orElse_, any, filter}
+use Rattle.spec.specs.Tests.{_is_, _above_, _⇒_else_, _orElse_, any, filter}
 use Rattle.spec.specs.Elf.{Phdr, Segment as Loadable, phdrsFrom, loads, flagPerm, phdrAt, phdrError, segmentOf, inFile, errorNumber, entry, phoff, phnum, elfError}
-use Rattle.spec.specs.declared.ElfError.{ElfError}
 use Rattle.header.specs.declared.Ehdr.{Ehdr}
 use Rattle.header.specs.Header.{fieldsError}
 use Rattle.elf.specs.declared.Seen.{Seen}
 use Rattle.elf.specs.declared.Step.{Step}
 use Rattle.elf.specs.declared.Step.the-variants.{Stop, Next}
-use Rattle.elf.specs.declared.Parsed.{Parsed}
-use Rattle.elf.specs.declared.Parsed.the-variants.{Elf, Refused as No}
 use Rattle.elf.specs.declared.Segment.{Segment as Held}
 use Rattle.elf.specs.declared.Load.{Load}
 use Rattle.elf.specs.declared.Load.the-variants.{Skip, Segment}
 
--- ---- answers
+-- ---- what a reader holds
 
--- what `parse` says: the scope's number, 0 for an image that is accepted, and then where it is entered and where its headers stand
-pub record Said : Type 0 where
-  pub number : ℕ
-  pub entry : ℕ
-  pub phoff : ℕ
-  pub phnum : ℕ
+-- the header table of an image, and where it is entered; a refused one has no header, and is entered nowhere
+unfoldable pub tableOf : List ℕ → List ℕ
+tableOf image = elfError image is 0 ⇒ take (56 * phnum image) (drop (phoff image) image) else []
 
-abbrev pub said : Parsed → Said
-said (Elf e) = record { number = 0; entry = e .entry; phoff = e .phoff; phnum = e .phnum }
-said (No e) = record { number = errorNumber e; entry = 0; phoff = 0; phnum = 0 }
+unfoldable pub entryOf : List ℕ → ℕ
+entryOf image = elfError image is 0 ⇒ entry image else 0
 
-unfoldable pub parsed : List ℕ → Said
-parsed image =
-    elfError image is 0 ⇒ record { number = 0; entry = entry image; phoff = phoff image; phnum = phnum image } else
-    record { number = elfError image; entry = 0; phoff = 0; phnum = 0 }
+-- n bytes of an image from a place on, or none where they leave the image, which those of an accepted image's segment never do
+abbrev pub partOf : List ℕ → ℕ → ℕ → List ℕ
+partOf image from n = from + n above length image ⇒ [] else take n (drop from image)
 
 -- what a loader reads at a header: the segment that it describes, unless it is skipped
 abbrev pub segmentFrom : Phdr → Held

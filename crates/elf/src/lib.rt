@@ -1,32 +1,32 @@
-// ELF-64 executables, as r9's elf.rs: an image is checked as a static aarch64 executable, and its loadable segments are read.
-// Where segments may go in memory is the loader's business. Fields and headers are read by the crates field and header.
+// ELF-64 executables, as r9's elf.rs: an image is checked as a static aarch64 executable, and its loadable segments are read through
+// its reader, `Elf`, which `parse` alone makes. Where segments may go in memory is the loader's business. Fields and headers are read
+// by the crates field, header and phdr.
+//
+// The borrow checker covers no function over a struct that holds a slice, so that the few here are thin, each is proved by hand, and
+// functions on plain slices and numbers do the work. Callers use those at the end of this file, which take an image: `number_of`
+// parses it, and the others ask that it is accepted, so that it is parsed once.
 
 ghost use mathlib.Core.Path.{_≡_};
 ghost use mathlib.Core.Bool.{false};
-ghost use Prim.Native.Nat.{_+_, _*_, _≤_};
-ghost use lib.ListN.{length};
-ghost use Rattle.spec.specs.Elf.{phdrAt};
+ghost use Prim.Native.Nat.{_+_, _*_, _≤_, _<_};
+ghost use lib.ListN.{length, take, drop};
+ghost use Rattle.spec.specs.Elf.{phoff, phnum, entry, phdrAt, elfError};
 ghost use Rattle.header.specs.Header.{verdictNumber};
 ghost use Rattle.phdr.specs.Phdr.{phdrOf};
-ghost use Rattle.elf.specs.Reader.{left, scanError, imageError, Steps, said, parsed, loadOf, loadIn};
-pub use field::error_number;
+ghost use Rattle.elf.specs.Reader.{left, scanError, imageError, Steps, tableOf, entryOf, partOf, loadOf, loadIn};
 use header::Ehdr;
-pub use header::PHDR_SIZE;
+use header::PHDR_SIZE;
 use header::Verdict;
 use phdr::Phdr;
 use spec::ElfError;
 
-// A validated executable image: where it is entered, and where in it its program headers stand. The image itself stays the caller's.
-pub struct Elf {
-    pub entry: u64,
-    pub phoff: usize,
-    pub phnum: usize,
-}
-
-// What an image is parsed to: for Result<Elf, ElfError>.
-pub enum Parsed {
-    Elf(Elf),
-    Refused(ElfError),
+// A checked image: the image, its program headers, where it is entered, and the number that it is refused with, or 0. A refused one has
+// no header and the entry 0. The fields are private: no other crate makes one, or changes one.
+pub struct Elf<'a> {
+    image: &'a [u8],
+    table: &'a [u8],
+    entry: u64,
+    number: u64,
 }
 
 // A loadable segment: `memsz` bytes at `vaddr`, the first of which are the image's `filesz` bytes at `offset`, and the rest zero.
@@ -115,26 +115,46 @@ fn judge(image: &[u8], h: Ehdr) -> Verdict
     }
 }
 
-// Validates `image` as a static aarch64 executable. A refusal says which check it failed first.
-pub fn parse(image: &[u8]) -> Parsed
-    ensures { λ r. ⌜ said r ≡ parsed (now (image .entry)) ⌝ }
+// What an image is refused with: the number of the check that it failed first, or 0.
+fn error(image: &[u8]) -> u64
+    ensures { λ n. ⌜ n ≡ elfError (now (image .entry)) ⌝ }
 {
     if image.len() < header::EHDR_SIZE {
-        return Parsed::Refused(ElfError::Truncated);
+        return field::error_number(ElfError::Truncated);
     }
     if !field::has_magic(image) {
-        return Parsed::Refused(ElfError::BadMagic);
+        return field::error_number(ElfError::BadMagic);
+    }
+    let v = judge(image, header::read_ehdr(image));
+    match v {
+        Verdict::Refused(e) => field::error_number(e),
+        Verdict::Fine => 0,
+    }
+}
+
+// The program headers of an image that is refused with `number`, or accepted if that is 0.
+fn table_in<'a>(image: &'a [u8], number: u64) -> &'a [u8]
+    requires { ⌜ number ≡ elfError (now image) ⌝ }
+    ensures { λ r. ⌜ now r ≡ tableOf (now (image .entry)) ⌝ }
+{
+    if number != 0 {
+        return &image[..0];
     }
     let h = header::read_ehdr(image);
-    let v = judge(image, h);
-    match v {
-        Verdict::Refused(e) => Parsed::Refused(e),
-        Verdict::Fine => Parsed::Elf(Elf {
-            entry: h.entry,
-            phoff: h.phoff as usize,
-            phnum: h.phnum as usize,
-        }),
+    let from = h.phoff as usize;
+    let to = from + PHDR_SIZE * h.phnum as usize;
+    &image[from..to]
+}
+
+// Where an image is entered that is refused with `number`, or accepted if that is 0.
+fn entry_in(image: &[u8], number: u64) -> u64
+    requires { ⌜ number ≡ elfError (now image) ⌝ }
+    ensures { λ r. ⌜ r ≡ entryOf (now (image .entry)) ⌝ }
+{
+    if number != 0 {
+        return 0;
     }
+    header::read_ehdr(image).entry
 }
 
 // The segment that the program header at a place of an image describes, unless it is skipped.
@@ -156,13 +176,118 @@ fn segment_at(image: &[u8], at: usize) -> Load
     })
 }
 
-// The segment that header `i` of a table of program headers describes, unless it is skipped: what r9's `Elf::segments` yields. A header
-// that isn't in the table describes none. The fields are checked only where `parse` accepted the image.
-pub fn segment_in(table: &[u8], i: usize) -> Load
+// The segment that header `i` of a table of program headers describes, unless it is skipped. A header that isn't in the table describes
+// none.
+fn segment_in(table: &[u8], i: usize) -> Load
     ensures { λ r. ⌜ r ≡ loadIn (now (table .entry)) i ⌝ }
 {
     if i >= table.len() / PHDR_SIZE {
         return Load::Skip;
     }
     segment_at(table, PHDR_SIZE * i)
+}
+
+// `n` bytes of an image from a place on, or none where they leave the image.
+fn part<'a>(image: &'a [u8], from: usize, n: usize) -> &'a [u8]
+    ensures { λ r. ⌜ now r ≡ partOf (now (image .entry)) from n ⌝ }
+{
+    if from > image.len() {
+        return &image[..0];
+    }
+    if n > image.len() - from {
+        return &image[..0];
+    }
+    let to = from + n;
+    &image[from..to]
+}
+
+// The reader of an image that is refused with `number`, or accepted if that is 0.
+fn of<'a>(image: &'a [u8], number: u64) -> Elf<'a>
+    requires { ⌜ number ≡ elfError (now image) ⌝ }
+    ensures { λ r. ⌜ (r .image ≡ image .entry) × (now (r .table) ≡ tableOf (now (image .entry))) × (r .entry ≡ entryOf (now (image .entry))) × (r .number ≡ number) ⌝ }
+{
+    let table = table_in(image, number);
+    let entry = entry_in(image, number);
+    Elf {
+        image,
+        table,
+        entry,
+        number,
+    }
+}
+
+// Validates `image` as a static aarch64 executable. A refusal's number says which check it failed first.
+pub fn parse<'a>(image: &'a [u8]) -> Elf<'a>
+    ensures { λ r. ⌜ (r .image ≡ image .entry) × (now (r .table) ≡ tableOf (now (image .entry))) × (r .entry ≡ entryOf (now (image .entry))) × (r .number ≡ elfError (now (image .entry))) ⌝ }
+{
+    of(image, error(image))
+}
+
+impl<'a> Elf<'a> {
+    // The number that the image is refused with, or 0.
+    pub fn number(self) -> u64
+        ensures { λ n. ⌜ n ≡ self .entry .number ⌝ }
+    {
+        self.number
+    }
+
+    // Where the image is entered.
+    pub fn entry(self) -> u64
+        ensures { λ n. ⌜ n ≡ self .entry .entry ⌝ }
+    {
+        self.entry
+    }
+
+    // The segment that program header `i` describes, unless it is skipped: what r9's `Elf::segments` yields. Past the table there is none.
+    pub fn segment(self, i: usize) -> Load
+        ensures { λ r. ⌜ r ≡ loadIn (now (self .entry .table)) i ⌝ }
+    {
+        segment_in(self.table, i)
+    }
+
+    // The file bytes of a segment, or none where they leave the image.
+    pub fn file(self, g: Segment) -> &'a [u8]
+        ensures { λ r. ⌜ now r ≡ partOf (now (self .entry .image)) (g .offset) (g .filesz) ⌝ }
+    {
+        part(self.image, g.offset, g.filesz)
+    }
+}
+
+// The number that an image is refused with, 11 to 27, or 0: it is parsed.
+pub fn number_of(image: &[u8]) -> u64
+    ensures { λ r. ⌜ r ≡ elfError (now (image .entry)) ⌝ }
+{
+    parse(image).number()
+}
+
+// Where an accepted image is entered.
+pub fn entry_of(image: &[u8]) -> u64
+    requires { ⌜ elfError (now image) ≡ 0 ⌝ }
+    ensures { λ r. ⌜ r ≡ entry (now (image .entry)) ⌝ }
+{
+    entry_in(image, 0)
+}
+
+// How many program headers an accepted image has.
+pub fn count_of(image: &[u8]) -> usize
+    requires { ⌜ elfError (now image) ≡ 0 ⌝ }
+    ensures { λ r. ⌜ r ≡ phnum (now (image .entry)) ⌝ }
+{
+    header::read_ehdr(image).phnum as usize
+}
+
+// The segment that program header `i` of an accepted image describes, unless it is skipped.
+pub fn segment_of(image: &[u8], i: usize) -> Load
+    requires { ⌜ (elfError (now image) ≡ 0) × (i < phnum (now image)) ⌝ }
+    ensures { λ r. ⌜ r ≡ loadOf (phdrAt (now (image .entry)) (phoff (now (image .entry)) + 56 * i)) ⌝ }
+{
+    of(image, 0).segment(i)
+}
+
+// The file bytes of a segment of an accepted image.
+pub fn file_of<'a>(image: &'a [u8], g: Segment) -> &'a [u8]
+    requires { ⌜ (elfError (now image) ≡ 0) × (g .offset + g .filesz ≤ length (now image)) ⌝ }
+    ensures { λ r. ⌜ now r ≡ take (g .filesz) (drop (g .offset) (now (image .entry))) ⌝ }
+{
+    of(image, 0).file(g)
 }

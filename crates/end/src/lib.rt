@@ -2,10 +2,9 @@
 // a process in the same way.
 
 ghost use mathlib.Core.Path.{_≡_};
-ghost use Rattle.spec.specs.Machine.{end, plainly};
-ghost use Rattle.spec.specs.World.{Does};
-ghost use Rattle.front.specs.Numbers.{stateOf, call};
-use front::left::Left;
+ghost use Rattle.spec.specs.Machine.{end, plainly, call};
+ghost use Rattle.spec.specs.World.{Does, stateOf};
+use spec::Left;
 use spec::Answer;
 use spec::Procs;
 use spec::Setup;

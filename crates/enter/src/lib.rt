@@ -4,7 +4,7 @@
 ghost use mathlib.Core.Path.{_≡_};
 ghost use mathlib.Core.List.{List};
 ghost use Prim.Native.Nat.{ℕ};
-ghost use Rattle.book.specs.Lent.{store};
+ghost use Rattle.spec.specs.Frames.{store};
 ghost use Rattle.install.specs.Installing.{Fitting};
 ghost use Rattle.enter.specs.Entering.{Enterable, entered, next, entering};
 use exec::Plan;

@@ -1,29 +1,30 @@
--- Short histories on the 184-byte image, computed: a process starts, writes, breaks and forks, and parent and child differ afterwards;
--- the same under a smaller setup, where frames are few and text is shared; and a setup that is turned away.
+-- Short histories on the 184-byte image, computed under a small setup: a process starts, writes, breaks and forks, and parent and child
+-- differ afterwards; frames are few and text is shared; and a setup that is turned away.
 use mathlib.Core.Path.{_≡_, refl}
 use mathlib.Core.Bool.{true, false}
 use mathlib.Core.List.{List, [], _∷_, map}
 use Prim.Native.Nat.{ℕ, _-_, _*_}
 use lib.ListN.{replicate}
 use Rattle.spec.specs.Tests.{_is_, all, same, ascii}
-use Rattle.spec.specs.Numbers.{deposit, setupOk, pageBytes, zeroPage}
+use Rattle.spec.specs.Numbers.{setupOk, pageBytes, zeroPage}
 use Rattle.spec.specs.Book.{zeroProc, segment, stack}
 use Rattle.spec.specs.Frames.{place, share, release, pokes}
 use Rattle.spec.specs.Sound.{soundBook}
 use Rattle.spec.specs.Elf.{ehdrError, phdrs, phdrError, segmentsOf, elfError}
 use Rattle.spec.specs.Exec.{argBuffer, copyArgv}
 use Rattle.spec.specs.Segment.{ibrk}
-use Rattle.spec.specs.Machine.{Ask, start, replace, break, fork, end, user-range-ok, copy-from-user, copy-to-user, try-copy-str-from-user, Call, Reply, numberOf, valueOf, judge}
+use Rattle.spec.specs.Machine.{start, replace, break, fork, end, user-range-ok, copy-from-user, copy-to-user, try-copy-str-from-user, Call, call, Reply, numberOf, valueOf, judge}
 use Rattle.spec.specs.World.{State, answer, after}
 use Rattle.spec.specs.declared.Setup.{Setup}
 use Rattle.spec.proofs.Examples.{image184}
 
+-- a school's setup: 1 MB of addresses, one page of stack
+abbrev school : Setup
+school = record { utzero = 65536; ustktop = 1048576; ustksize = 4096; uaddrtop = 1048576 }
+
 -- frames and book with no process
 abbrev fresh : Setup → ℕ → State
 fresh setup n = record { setup = setup; store = record { frames = replicate (4096 * n) 0; book = replicate (17 * n) 0 }; procs = record { all = replicate 16 zeroProc } }
-
-abbrev call : ℕ → Ask → Call
-call n q = record { number = n; ask = q }
 
 -- the answers of calls, first call first
 abbrev play : State → List Call → List Reply
@@ -45,31 +46,27 @@ calls =
     ∷ call 1 (copy-to-user 73730 (5 ∷ 6 ∷ []))
     ∷ call 1 (break 77825)
     ∷ call 1 (copy-from-user (replicate 3 9) 77823)
-    ∷ call 1 (fork 2 (segment 65536 69632 1 ∷ segment 69632 73728 3 ∷ stack deposit ∷ []))
+    ∷ call 1 (fork 2 (segment 65536 69632 1 ∷ segment 69632 73728 3 ∷ stack school ∷ []))
     ∷ call 2 (copy-to-user 73730 (7 ∷ []))
     ∷ call 1 (copy-from-user (replicate 2 9) 73730)
     ∷ call 2 (copy-from-user (replicate 2 9) 73730)
     ∷ call 1 (break 73729)
     ∷ call 1 (copy-from-user (replicate 2 9) 73730)
     ∷ call 1 (user-range-ok 77823 1 false)
-    ∷ call 1 (try-copy-str-from-user (replicate 5 9) (deposit .ustktop - 8))
+    ∷ call 1 (try-copy-str-from-user (replicate 5 9) (school .ustktop - 8))
     ∷ call 2 (copy-to-user 65536 (1 ∷ []))
     ∷ call 2 (break 0)
     ∷ call 1 end
     ∷ []
 
-pub played : map told (play (fresh deposit 16) calls)
+pub played : map told (play (fresh school 10) calls)
     ≡ (0 ∷ 0 ∷ []) ∷ (0 ∷ 0 ∷ 1 ∷ 2 ∷ 3 ∷ 4 ∷ 0 ∷ 0 ∷ []) ∷ (0 ∷ 0 ∷ []) ∷ (0 ∷ 0 ∷ []) ∷ (0 ∷ 0 ∷ 0 ∷ 0 ∷ 0 ∷ []) ∷ (0 ∷ 0 ∷ []) ∷ (0 ∷ 0 ∷ [])
     ∷ (0 ∷ 0 ∷ 5 ∷ 6 ∷ []) ∷ (0 ∷ 0 ∷ 7 ∷ 6 ∷ []) ∷ (0 ∷ 0 ∷ []) ∷ (0 ∷ 0 ∷ 5 ∷ 6 ∷ []) ∷ (0 ∷ 1 ∷ []) ∷ (0 ∷ 3 ∷ 108 ∷ 101 ∷ 120 ∷ 9 ∷ 9 ∷ [])
     ∷ (35 ∷ 0 ∷ []) ∷ (4 ∷ 0 ∷ []) ∷ (0 ∷ 0 ∷ []) ∷ []
 unfolding setupOk ehdrError phdrs phdrError segmentsOf elfError ibrk argBuffer copyArgv place share release pokes soundBook pageBytes zeroPage judge answer after
 played = refl
 
--- ---- another setup
-
--- a school's: 1 MB of addresses, one page of stack
-abbrev school : Setup
-school = record { utzero = 65536; ustktop = 1048576; ustksize = 4096; uaddrtop = 1048576 }
+-- ---- its limits
 
 -- a break one page past its limit, and to it, which wants more frames; its last byte and an empty range one past it, a start with arguments over a quarter of its stack
 pub at-school : map told (play (fresh school 4)

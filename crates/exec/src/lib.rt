@@ -4,13 +4,9 @@
 ghost use mathlib.Core.Path.{_≡_};
 ghost use mathlib.Core.Bool.{true};
 ghost use Rattle.spec.specs.Numbers.{SetupOk};
-ghost use Rattle.spec.specs.Elf.{segmentsOf};
+ghost use Rattle.spec.specs.Elf.{elfError, segmentsOf};
 ghost use Rattle.spec.specs.Exec.{layoutOk, imageBss};
-ghost use Rattle.elf.specs.Reader.{said, parsed};
-ghost use Rattle.elf.specs.declared.Parsed;
 ghost use Rattle.exec.specs.Plan.{refusedPlan, planOf};
-use elf::Elf;
-use elf::Parsed;
 use layout::Fit;
 use spec::Setup;
 use spec::UserSegment;
@@ -48,16 +44,16 @@ fn refused(number: u64, elf: u64) -> Plan
     }
 }
 
-// The plan of an image whose layout is right, given its bss: its segments, which may be too many, then the stack, and its pages.
-fn fill(setup: Setup, image: &[u8], h: Elf, bss: VirtRange) -> Plan
-    requires { ⌜ said (Parsed.Elf h) ≡ parsed (now image) ⌝ }
+// The plan of an accepted image whose layout is right, given its bss: its segments, which may be too many, then the stack, and its pages.
+fn fill(setup: Setup, image: &[u8], bss: VirtRange) -> Plan
+    requires { ⌜ elfError (now image) ≡ 0 ⌝ }
     requires { ⌜ layoutOk setup (segmentsOf (now image)) ≡ true ⌝ }
     requires { ⌜ bss ≡ imageBss (now image) ⌝ }
     requires { ⌜ SetupOk setup ⌝ }
     ensures { λ r. ⌜ r ≡ planOf setup (now (image .entry)) ⌝ }
 {
     let size = setup.ustksize;
-    let r = recorded::segments(image, h, bss);
+    let r = recorded::segments(image, bss);
     let count = r.count;
     let mut segments = r.segments;
     if count > 15 {
@@ -69,11 +65,12 @@ fn fill(setup: Setup, image: &[u8], h: Elf, bss: VirtRange) -> Plan
     };
     let pages = mem::page_count(segments, count) + mem::pages(behind) + size / spec::PAGE_SIZE_4K;
     let stack = setup::stack(setup);
+    let pc = elf::entry_of(image);
     segments[count] = stack;
     Plan {
         number: 0,
         elf: 0,
-        entry: h.entry,
+        entry: pc,
         segments,
         count,
         bss,
@@ -81,18 +78,18 @@ fn fill(setup: Setup, image: &[u8], h: Elf, bss: VirtRange) -> Plan
     }
 }
 
-// The plan of an image that was parsed: its layout, then the rest.
-fn plan_parsed(setup: Setup, image: &[u8], h: Elf) -> Plan
-    requires { ⌜ said (Parsed.Elf h) ≡ parsed (now image) ⌝ }
+// The plan of an accepted image: its layout, then the rest.
+fn plan_parsed(setup: Setup, image: &[u8]) -> Plan
+    requires { ⌜ elfError (now image) ≡ 0 ⌝ }
     requires { ⌜ SetupOk setup ⌝ }
     ensures { λ r. ⌜ r ≡ planOf setup (now (image .entry)) ⌝ }
 {
-    let f = layout::layout(setup, image, h);
+    let f = layout::layout(setup, image);
     match f {
         Fit::Refused => refused(spec::EBADEXEC, 0),
         Fit::Fits(l) => {
             let bss = l.bss;
-            fill(setup, image, h, bss)
+            fill(setup, image, bss)
         }
     }
 }
@@ -102,9 +99,9 @@ pub fn plan_of(setup: Setup, image: &[u8]) -> Plan
     requires { ⌜ SetupOk setup ⌝ }
     ensures { λ r. ⌜ r ≡ planOf setup (now (image .entry)) ⌝ }
 {
-    let p = elf::parse(image);
-    match p {
-        Parsed::Refused(e) => refused(spec::EBADEXEC, elf::error_number(e)),
-        Parsed::Elf(h) => plan_parsed(setup, image, h),
+    let number = elf::number_of(image);
+    if number != 0 {
+        return refused(spec::EBADEXEC, number);
     }
+    plan_parsed(setup, image)
 }

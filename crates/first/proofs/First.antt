@@ -9,11 +9,10 @@ use borrow.Author.Tests.{eqb-true, le-ltb}
 use Rattle.spec.specs.Tests.{_is_, _below_, within, _⇒_else_}
 use Rattle.spec.specs.Numbers.{setupOk}
 use Rattle.spec.specs.Book.{valid, frameCount}
-use Rattle.spec.specs.Frames.{sized}
+use Rattle.spec.specs.Frames.{sized, store}
 use Rattle.spec.specs.World.{State, sound, taken}
 use Rattle.spec.proofs.Bools.{both, clash, not-true, within-means}
 use Rattle.spec.proofs.Chain.{here, past, not-holds, not-fails}
-use Rattle.book.specs.Lent.{store}
 use Rattle.laws.proofs.Checks.{or-else}
 use Rattle.sound.specs.Numbers.{soundError}
 use Rattle.first.specs.Numbers.{numberError, plainError, beginError, forkError}

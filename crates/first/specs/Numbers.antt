@@ -3,24 +3,11 @@
 -- Assumes nothing.
 use Prim.Native.Nat.{ℕ}
 use mathlib.Core.Bool.{Bool, true, not, _&&_}
-use mathlib.Core.List.{List}
 use Rattle.spec.specs.Tests.{_⇒_else_, _orElse_}
 use Rattle.spec.specs.Numbers.{setupOk}
 use Rattle.spec.specs.Book.{valid}
 use Rattle.spec.specs.Frames.{sized}
-use Rattle.spec.specs.Machine.{Ask, Call}
 use Rattle.spec.specs.World.{State, sound, taken}
-use Rattle.spec.specs.declared.Procs.{Procs}
-use Rattle.spec.specs.declared.Setup.{Setup}
-use Rattle.book.specs.Lent.{store}
-
--- the setup, frames, book and records as a state
-abbrev pub stateOf : Setup → List ℕ → List ℕ → Procs → State
-stateOf setup frames book procs = record { setup = setup; store = store frames book; procs = procs }
-
--- a call of process n
-abbrev pub call : ℕ → Ask → Call
-call n q = record { number = n; ask = q }
 
 -- 1, 38, 2 and 3; `fits`: the call's argument lengths sum to their bytes
 unfoldable pub numberError : State → ℕ → Bool → ℕ

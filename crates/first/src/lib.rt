@@ -2,11 +2,10 @@
 // made here, once a call.
 
 ghost use mathlib.Core.Path.{_≡_};
-ghost use lib.ListN.{length};
-ghost use Rattle.spec.specs.Frames.{sized};
-ghost use Rattle.sound.specs.Table.{Blank, Ready};
-ghost use Rattle.book.specs.Lent.{store};
-ghost use Rattle.first.specs.Numbers.{stateOf, numberError};
+ghost use Rattle.spec.specs.Frames.{sized, store};
+ghost use Rattle.spec.specs.World.{stateOf};
+ghost use Rattle.sound.specs.Table.{Zeros, Leaves};
+ghost use Rattle.first.specs.Numbers.{numberError};
 use procs::is_number;
 use spec::Procs;
 use spec::Setup;
@@ -23,8 +22,8 @@ pub fn sizes_ok(frames: &[u8], book: &[u64]) -> bool
     ((frames.len() == 4096 * count) & (words == 17 * count)) & (!(count < 1) & (count < 1025))
 }
 
-// 1, 38, 2 and 3 of a call: the first that is given, or 0. `fits`: its argument lengths sum to their bytes. Where none is given, the three
-// lists are ready for the call's lookups.
+// 1, 38, 2 and 3 of a call: the first that is given, or 0. `fits`: its argument lengths sum to their bytes. The three lists come in as
+// zeros; where the book was found sound, they are ready for the call's lookups, and else zeros again.
 pub fn number_ready(
     setup: Setup,
     frames: &[u8],
@@ -34,17 +33,17 @@ pub fn number_ready(
     fits: bool,
     tags: &mut [u64; 272],
     bases: &mut [u64; 273],
-    table: &mut [u16; 16384],
+    table: &mut [u16; 1024],
 ) -> u64
-    requires { ⌜ (length (now tags) ≡ 272) × (length (now bases) ≡ 273) × (length (now table) ≡ 16384) × Blank (now table) ⌝ }
+    requires { ⌜ Zeros (now tags) (now bases) (now table) ⌝ }
     ensures { λ r. ⌜ r ≡ numberError (stateOf setup (now (frames .entry)) (now (book .entry)) procs) number fits ⌝ }
-    ensures { λ r. ⌜ (r ≡ 0 → Ready (now (book .entry)) (now (tags .exit)) (now (bases .exit)) (now (table .exit))) ⌝ }
+    ensures { λ r. ⌜ Leaves r (now (book .entry)) procs number (now (tags .exit)) (now (bases .exit)) (now (table .exit)) ⌝ }
 {
     let ok = sizes_ok(frames, book) & fits;
     if !ok {
         return spec::SIZES;
     }
-    let e = sound::prepare(setup, book, procs, tags, bases, table);
+    let e = sound::prepare(setup, book, procs, number, tags, bases, table);
     if e != 0 {
         return e;
     }
@@ -67,7 +66,7 @@ pub fn number_error(
 {
     let mut tags = [0u64; 272];
     let mut bases = [0u64; 273];
-    let mut table = [0u16; 16384];
+    let mut table = [0u16; 1024];
     number_ready(
         setup,
         frames,

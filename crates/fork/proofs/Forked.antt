@@ -115,7 +115,7 @@ pub copied-more : (m₀ m t : Store) (parent child : ℕ) (gs : List UserSegment
 copied-more m₀ m t parent child gs g c e k = copied-some m₀ m t parent child gs (g ∷ []) c e k
 
 -- pages shared, then copied: these are the pages of the parent's as they were found
-pub fork-store : (m t u : Store) (tags bases table : List ℕ) (n child : ℕ) (gs : List UserSegment) → valid n ≡ true → valid child ≡ true → (n ≡ child → ⊥) → Ready (m .book) tags bases table → t ≡ share m n child
+pub fork-store : (m t u : Store) (tags bases table : List ℕ) (n child : ℕ) (gs : List UserSegment) → valid n ≡ true → valid child ≡ true → (n ≡ child → ⊥) → Ready (m .book) n tags bases table → t ≡ share m n child
     → u ≡ place t child (pagesOf (λ a. frameBytes (t .frames) (frameOf (t .book) n a)) gs) → u ≡ place (share m n child) child (pagesOf (λ a. frameBytes (m .frames) (frameOf (m .book) n a)) gs)
 fork-store m t u tags bases table n child gs v w ne r e h =
     h ∙ ap (place t child) (bytes-same m t n gs (tells-share m t tags bases table n child v w ne r e .1))

@@ -24,7 +24,7 @@ use Rattle.laws.proofs.Held.{Counted, unheld, valid-low, valid-high, mapping-ot
 use Rattle.laws.proofs.Sweep.{other-place, here-count}
 use Rattle.laws.proofs.Share.{shares, wordFor, share-count, share-frames}
 use Rattle.sound.specs.Table.{Ready}
-use Rattle.book.specs.Lent.{foundOf}
+use Rattle.book.specs.Answers.{foundOf}
 use Rattle.fork.specs.Lent.{Held, Tells, Kept}
 
 -- at most all numbers below c pass a test
@@ -77,7 +77,7 @@ held-share m t n child v u ne counts e =
         let l′ : k < frameCount (m .book) = omega (arith, many) in
         nz (stays k ∙ unheld (m .book) counts k l′ (more (shares n (m .book) k) (holders (m .book) k) (sym (share-holders m n child v u k l′) ∙ z)) n (valid-low n v) (valid-high n v))
 
-pub tells-share : (m t : Store) (tags bases table : List ℕ) (n child : ℕ) → valid n ≡ true → valid child ≡ true → (n ≡ child → ⊥) → Ready (m .book) tags bases table → t ≡ share m n child
+pub tells-share : (m t : Store) (tags bases table : List ℕ) (n child : ℕ) → valid n ≡ true → valid child ≡ true → (n ≡ child → ⊥) → Ready (m .book) n tags bases table → t ≡ share m n child
     → Tells (t .book) tags bases table n × Kept m t n
 tells-share m t tags bases table n child v u ne r e =
     let h = held-share m t n child v u ne (r .mappings .counts) e in
@@ -148,5 +148,5 @@ pub kept-both : (m t u : Store) (n : ℕ) → Kept m t n → Kept t u n → Kept
 kept-both m t u n a b = record { same = λ page. b .same page ∙ a .same page; bytes = λ page. b .bytes page ∙ a .bytes page }
 
 -- what a look into the lists answers is the frame that the page has now
-pub told-is : (book tags bases table : List ℕ) (n page : ℕ) (r : Found) → Tells book tags bases table n → ((b : List ℕ) → Ready b tags bases table → r ≡ foundOf (frameOf b n page)) → r ≡ foundOf (frameOf book n page)
+pub told-is : (book tags bases table : List ℕ) (n page : ℕ) (r : Found) → Tells book tags bases table n → ((b : List ℕ) → Ready b n tags bases table → r ≡ foundOf (frameOf b n page)) → r ≡ foundOf (frameOf book n page)
 told-is book tags bases table n page r h e = e (h .checked) (h .ready) ∙ ap foundOf (sym (h .same page))

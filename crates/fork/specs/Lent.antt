@@ -6,16 +6,16 @@ use mathlib.Core.Path.{_≡_}
 use mathlib.Core.Bool.{true}
 use mathlib.Core.List.{List}
 use Rattle.spec.specs.Book.{frameCount, mapping, holders, frameOf, procAt}
-use Rattle.spec.specs.Frames.{Store, share, frameBytes}
+use Rattle.spec.specs.Frames.{Store, share, frameBytes, store}
 use Rattle.spec.specs.History.{typed}
 use Rattle.spec.specs.declared.Proc.{Proc}
 use Rattle.spec.specs.declared.UserSegment.{UserSegment}
 use Rattle.spec.specs.declared.Procs.{Procs}
 use Rattle.spec.specs.declared.Setup.{Setup}
+use Rattle.spec.specs.World.{stateOf}
 use Rattle.sound.specs.Table.{Ready}
-use Rattle.book.specs.Lent.{store}
 use Rattle.pagealloc.specs.Lent.{Mapped}
-use Rattle.front.specs.Numbers.{stateOf, forkError}
+use Rattle.front.specs.Numbers.{forkError}
 
 -- a segment whose pages can be copied: whole pages, each of which process n has
 pub record Copyable (book : List ℕ) (n : ℕ) (g : UserSegment) : Type 0 where
@@ -32,7 +32,7 @@ Held book n = (k : ℕ) → k < frameCount book → (mapping book k n ≡ 0 → 
 -- now; and none of its frames is free
 pub record Tells (book tags bases table : List ℕ) (n : ℕ) : Type 0 where
   pub checked : List ℕ
-  pub ready : Ready checked tags bases table
+  pub ready : Ready checked n tags bases table
   pub same : (page : ℕ) → frameOf book n page ≡ frameOf checked n page
   pub held : Held book n
 
@@ -50,5 +50,5 @@ pub record Shares (frames book tags bases table : List ℕ) (p : Proc) (n child 
   pub types : typed (stateOf setup frames was procs) ≡ true
   pub record-is : p ≡ procAt procs n
   pub passed : forkError (stateOf setup frames was procs) n child ≡ 0
-  pub ready : Ready was tags bases table
+  pub ready : Ready was n tags bases table
   pub shared : store frames book ≡ share (store frames was) n child

@@ -5,8 +5,7 @@ ghost use mathlib.Core.List.{[], _∷_};
 ghost use Prim.Native.Nat.{_*_, _%_, _^_, _≤_, _<_};
 ghost use lib.ListN.{length};
 ghost use Rattle.spec.specs.Book.{frameCount, frameOf};
-ghost use Rattle.spec.specs.Frames.{pagesOf, place, frameBytes};
-ghost use Rattle.book.specs.Lent.{store};
+ghost use Rattle.spec.specs.Frames.{pagesOf, place, frameBytes, store};
 ghost use Rattle.pagealloc.specs.Lent.{Passed, Mapped};
 ghost use Rattle.fork.specs.Lent.{Tells, Kept};
 
@@ -17,7 +16,7 @@ pub fn copy_segment(
     book: &mut [u64],
     tags: &[u64; 272],
     bases: &[u64; 273],
-    table: &[u16; 16384],
+    table: &[u16; 1024],
     top: usize,
     parent: u64,
     child: u64,

@@ -5,16 +5,12 @@ pub mod copy;
 pub mod count;
 
 ghost use mathlib.Core.Path.{_≡_};
-ghost use mathlib.Core.List.{List};
-ghost use Prim.Native.Nat.{ℕ};
 ghost use Rattle.spec.specs.Book.{frameOf, used, procAt, piecesOf, dataOnly};
-ghost use Rattle.spec.specs.Frames.{pagesOf, place, share, frameBytes};
-ghost use Rattle.spec.specs.Machine.{fork, plainly};
-ghost use Rattle.spec.specs.World.{Does};
-ghost use Rattle.book.specs.Lent.{store};
-ghost use Rattle.front.specs.Numbers.{stateOf, call};
+ghost use Rattle.spec.specs.Frames.{pagesOf, place, share, frameBytes, store};
+ghost use Rattle.spec.specs.Machine.{fork, plainly, call};
+ghost use Rattle.spec.specs.World.{Does, stateOf};
 ghost use Rattle.fork.specs.Lent.{Shares};
-use front::left::Left;
+use spec::Left;
 use spec::Answer;
 use spec::Proc;
 use spec::Procs;
@@ -27,7 +23,7 @@ fn copy_segments(
     book: &mut [u64],
     tags: &[u64; 272],
     bases: &[u64; 273],
-    table: &[u16; 16384],
+    table: &[u16; 1024],
     p: Proc,
     number: u64,
     child: u64,
@@ -66,7 +62,7 @@ pub fn fork(
 {
     let mut tags = [0u64; 272];
     let mut bases = [0u64; 273];
-    let mut table = [0u16; 16384];
+    let mut table = [0u16; 1024];
     let e = front::numbers::fork_ready(
         setup,
         frames,

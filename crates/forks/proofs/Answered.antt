@@ -10,7 +10,7 @@ use Rattle.spec.specs.Tests.{_isnt_, _above_, _⇒_else_, _orElse_, same}
 use Rattle.spec.specs.Numbers.{setupOk}
 use Rattle.spec.specs.Book.{valid, free, sameSegment, used, procAt, zeroProc}
 use Rattle.spec.specs.Frames.{sized}
-use Rattle.spec.specs.Machine.{Ask, fork, Reply, plainly, refuse, judge, weigh, copied}
+use Rattle.spec.specs.Machine.{Ask, fork, Reply, plainly, refuse, judge, weigh, copied, call}
 use Rattle.spec.specs.World.{State, sound, taken, view, aloneFor, copy, answer, Does}
 use Rattle.spec.specs.declared.UserSegment.{UserSegment}
 use Rattle.spec.specs.declared.Answer.{Answer}
@@ -18,8 +18,8 @@ use Rattle.spec.specs.declared.Answer.the-variants.{Done, Refused}
 use Rattle.spec.specs.declared.Proc.{Proc}
 use Rattle.spec.proofs.Bools.{split}
 use Rattle.laws.proofs.Checks.{or-else}
-use Rattle.front.specs.Numbers.{call, numberError, forkError}
-use Rattle.front.specs.declared.left.Left.{Left}
+use Rattle.front.specs.Numbers.{numberError, forkError}
+use Rattle.spec.specs.declared.Left.{Left}
 use Rattle.front.proofs.Answers.{orRefuse, in-order, refused-first, goes-on}
 use Rattle.front.proofs.First.{fork-none}
 use Rattle.forks.specs.Fork.{recordOf, listError, forkNumber}

@@ -37,12 +37,13 @@ use denote.Triple.Clauses.{ensured, lasts}
 use Rattle.spec.specs.Tests.{same}
 use Rattle.spec.specs.Book.{frameCount, isFree, sameSegment, used, piecesOf, procAt}
 use Rattle.spec.specs.Machine.{copied}
-use Rattle.spec.specs.World.{State, view, setProc, copy}
+use Rattle.spec.specs.World.{State, view, setProc, copy, stateOf}
 use Rattle.spec.specs.declared.UserSegment.{UserSegment}
 use Rattle.spec.specs.declared.Proc.{Proc}
 use Rattle.spec.specs.declared.Procs.{Procs}
 use Rattle.spec.specs.declared.Setup.{Setup}
 use Rattle.spec.specs.declared.Answer.the-variants.{Done, Refused}
+use Rattle.spec.specs.Frames.{store}
 use Rattle.spec.proofs.Proc as P
 use Rattle.spec.proofs.Proc.Laws as P′
 use Rattle.spec.proofs.Procs as Ps
@@ -50,10 +51,9 @@ use Rattle.spec.proofs.Procs.Laws as Ps′
 use Rattle.spec.proofs.Setup as Se
 use Rattle.spec.proofs.Setup.Laws as Se′
 use Rattle.laws.proofs.Record.{Whole}
-use Rattle.book.specs.Lent.{store}
 use Rattle.records.proofs.Whole.{whole-procs}
-use Rattle.front.specs.Numbers.{stateOf, forkError}
-use Rattle.front.specs.declared.left.Left.{Left}
+use Rattle.front.specs.Numbers.{forkError}
+use Rattle.spec.specs.declared.Left.{Left}
 use Rattle.front.proofs.First.{fork-none, sizes-words}
 use Rattle.front.proofs.States.{state-is}
 use Rattle.fork.proofs.Told.{count-most}

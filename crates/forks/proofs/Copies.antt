@@ -7,10 +7,9 @@ use lib.ListN.{length, getD, take}
 use lib.Seq.{take-all}
 use borrow.Author.Tests.{eq-eqb, ne-eqb}
 use Rattle.spec.specs.Book.{frameCount, frameOf, dataOnly, zeroSegment}
-use Rattle.spec.specs.Frames.{Store, pagesOf, place, frameBytes}
+use Rattle.spec.specs.Frames.{Store, pagesOf, place, frameBytes, store}
 use Rattle.spec.specs.declared.UserSegment.{UserSegment}
 use Rattle.spec.proofs.Lists.{take-next}
-use Rattle.book.specs.Lent.{store}
 use Rattle.pagealloc.specs.Lent.{Passed}
 use Rattle.fork.specs.Lent.{Held, Kept}
 use Rattle.fork.proofs.Forked.{data-append, mapped-still, Copied, copied-none, copied-some}

@@ -10,8 +10,8 @@ use Rattle.spec.specs.Tests.{_is_, same}
 use Rattle.spec.specs.Numbers.{pageUp}
 use Rattle.spec.specs.Book.{valid, frameCount, frameOf, sameSegment, unused, used, zeroSegment, bssSegment, pageCount, piecesOf, dataOnly, procAt}
 use Rattle.spec.specs.Sound.{Sound, Shape}
-use Rattle.spec.specs.Frames.{Store, pagesOf, place, share, frameBytes}
-use Rattle.spec.specs.World.{State, setProc}
+use Rattle.spec.specs.Frames.{Store, pagesOf, place, share, frameBytes, store}
+use Rattle.spec.specs.World.{State, setProc, stateOf}
 use Rattle.spec.specs.declared.UserSegment.{UserSegment}
 use Rattle.spec.specs.declared.Procs.{Procs}
 use Rattle.spec.specs.declared.Answer.the-variants.{Done}
@@ -24,9 +24,7 @@ use Rattle.laws.proofs.Share.{share-length}
 use Rattle.laws.proofs.Pages.{pages-append}
 use Rattle.laws.proofs.Place.{place-append}
 use Rattle.laws.proofs.Record.{Whole, same-is}
-use Rattle.book.specs.Lent.{store}
-use Rattle.front.specs.Numbers.{stateOf}
-use Rattle.front.specs.declared.left.Left.{Left}
+use Rattle.spec.specs.declared.Left.{Left}
 use Rattle.front.proofs.First.{Forks, fork-none, fork-other, sizes-words}
 use Rattle.front.proofs.Living.{passed-sound, living-shape}
 use Rattle.pagealloc.specs.Lent.{Passed}

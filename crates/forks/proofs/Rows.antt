@@ -7,7 +7,7 @@ use Rattle.spec.proofs.Setup as Se
 use Rattle.spec.proofs.UserSegment as S
 use Rattle.spec.proofs.Proc as P
 use Rattle.spec.proofs.Procs as Ps
-use Rattle.front.proofs.left.Left as Lf
+use Rattle.spec.proofs.Left as Lf
 
 -- of the setup, of a segment, of a record, of the records, and of what a call leaves
 abbrev pub Nums : RattleType

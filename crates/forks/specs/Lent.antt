@@ -8,12 +8,12 @@ use mathlib.Core.List.{List}
 use lib.ListN.{length, getD}
 use Rattle.spec.specs.Tests.{_below_}
 use Rattle.spec.specs.Book.{zeroSegment, sameSegment, unused, pageCount, piecesOf, dataOnly, procAt}
-use Rattle.spec.specs.Frames.{share}
+use Rattle.spec.specs.Frames.{share, store}
 use Rattle.spec.specs.declared.UserSegment.{UserSegment}
 use Rattle.spec.specs.declared.Procs.{Procs}
 use Rattle.spec.specs.declared.Setup.{Setup}
-use Rattle.book.specs.Lent.{store}
-use Rattle.front.specs.Numbers.{stateOf, forkError}
+use Rattle.spec.specs.World.{stateOf}
+use Rattle.front.specs.Numbers.{forkError}
 use Rattle.fork.specs.Lent.{Copyable}
 
 -- place i of a record is used, and holds segment g

@@ -8,41 +8,48 @@ ghost use Prim.Native.Nat.{ℕ, _+_, _*_, _%_, _≤_, _<_};
 ghost use lib.ListN.{length, getD};
 ghost use Rattle.spec.specs.Tests.{_is_};
 ghost use Rattle.spec.specs.Book.{frameCount, owns, frameOf, dataOnly, zeroSegment};
-ghost use Rattle.spec.specs.Frames.{pagesOf, place, frameBytes};
-ghost use Rattle.book.specs.Lent.{store};
+ghost use Rattle.spec.specs.Frames.{pagesOf, place, frameBytes, store};
 ghost use Rattle.pagealloc.specs.Lent.{Passed};
 ghost use Rattle.fork.specs.Lent.{Held, Kept};
 ghost use Rattle.forks.specs.Lent.{Bounded};
 use spec::UserSegment;
+
+// No frame: frames are numbered up to 1,023.
+const NOT_NOTED: u16 = 65535;
 
 // How many pages above `start` the page of a word lies, or 1,024 if the word isn't of process `number` or its page lies below.
 fn pages_above(w: u64, number: u64, start: u64) -> u64
     requires { ⌜ (1 ≤ number) × (start % 4096 ≡ 0) ⌝ }
     ensures { λ r. ⌜ ((i : ℕ) → i < 1024 → owns number (start + 4096 * i) w ≡ (r is i)) ⌝ }
 {
-    let page = w / 4096;
-    let first = start / 4096;
-    if (w % 4096 / 16 != number) | (page < first) {
+    let page = book::page_of(w);
+    if (book::owner_of(w) != number) | (page < start) {
         return 1024;
     }
-    page - first
+    (page - start) / 4096
 }
 
-// The frames of process `number`'s pages: in place i that of the page i pages above `start`, if the process has it.
-fn frames_from(book: &[u64], number: u64, start: u64) -> [u16; 1024]
-    requires { ⌜ (1 ≤ number) × (number ≤ 16) × (start % 4096 ≡ 0) × (frameCount (now book) ≤ 1024) ⌝ }
-    ensures { λ r. ⌜ (length r ≡ 1024) × ((i k : ℕ) → i < 1024 → frameOf (now (book .entry)) number (start + 4096 * i) ≡ some k → getD r i 0 ≡ k) ⌝ }
+// The frames of process `number`'s `count` pages from `start` on: in place i that of the page i pages above it, if the process has it.
+// The pass goes from the last frame down, where new pages are placed, and ends with the last page.
+fn frames_from(book: &[u64], number: u64, start: u64, count: u64) -> [u16; 1024]
+    requires { ⌜ (1 ≤ number) × (number ≤ 16) × (start % 4096 ≡ 0) × (frameCount (now book) ≤ 1024) × (count ≤ 1024) ⌝ }
+    ensures { λ r. ⌜ (length r ≡ 1024) × ((i k : ℕ) → i < count → frameOf (now (book .entry)) number (start + 4096 * i) ≡ some k → getD r i 0 ≡ k) ⌝ }
 {
-    let frames = book.len() / 17;
     let place = (number - 1) as usize;
-    let mut own = [0u16; 1024];
-    let mut k = 0;
-    while k < frames {
+    let mut own = [NOT_NOTED; 1024];
+    let mut left = count;
+    let mut k = book.len() / 17;
+    while left > 0 {
+        if k == 0 {
+            return own;
+        }
+        k -= 1;
         let i = pages_above(book[17 * k + place], number, start);
-        let at = k;
-        k += 1;
-        if i < 1024 {
-            own[i as usize] = at as u16;
+        if i < count {
+            if own[i as usize] == NOT_NOTED {
+                own[i as usize] = k as u16;
+                left -= 1;
+            }
         }
     }
     own
@@ -67,7 +74,8 @@ pub fn copy_data(
     let range = recorded.range;
     let end = range.end;
     let mut page = range.start;
-    let own = frames_from(book, number, page);
+    let count = mem::pages(range);
+    let own = frames_from(book, number, page, count);
     let mut i: usize = 0;
     let mut c = top;
     while page < end {

@@ -14,18 +14,16 @@ ghost use lib.ListN.{length};
 ghost use Rattle.spec.specs.Tests.{same};
 ghost use Rattle.spec.specs.Numbers.{pageUp};
 ghost use Rattle.spec.specs.Book.{valid, frameCount, frameOf, sameSegment, used, bssSegment, piecesOf, dataOnly, procAt};
-ghost use Rattle.spec.specs.Frames.{pagesOf, place, frameBytes};
-ghost use Rattle.spec.specs.Machine.{fork, plainly};
-ghost use Rattle.spec.specs.World.{setProc, Does};
+ghost use Rattle.spec.specs.Frames.{pagesOf, place, frameBytes, store};
+ghost use Rattle.spec.specs.Machine.{fork, plainly, call};
+ghost use Rattle.spec.specs.World.{setProc, Does, stateOf};
 ghost use Rattle.spec.specs.declared.Answer.the-variants.{Done, Refused};
-ghost use Rattle.book.specs.Lent.{store};
 ghost use Rattle.pagealloc.specs.Lent.{Passed};
 ghost use Rattle.fork.specs.Lent.{Held};
-ghost use Rattle.front.specs.Numbers.{stateOf, call};
 ghost use Rattle.forks.specs.Fork.{recordOf, forkNumber, sharedBy};
 ghost use Rattle.forks.specs.Lent.{Bounded, Shared};
 pub use copy::copy_segments;
-use front::left::Left;
+use spec::Left;
 pub use list::same_list;
 use spec::Answer;
 use spec::Proc;
@@ -55,20 +53,7 @@ fn fork_number(
 ) -> u64
     ensures { λ r. ⌜ r ≡ forkNumber (stateOf setup (now (frames .entry)) (now (book .entry)) procs) number child alike ⌝ }
 {
-    let mut tags = [0u64; 272];
-    let mut bases = [0u64; 273];
-    let mut table = [0u16; 16384];
-    let e = front::numbers::fork_ready(
-        setup,
-        frames,
-        book,
-        procs,
-        number,
-        child,
-        &mut tags,
-        &mut bases,
-        &mut table,
-    );
+    let e = front::numbers::fork_error(setup, frames, book, procs, number, child);
     if !alike & (e != spec::SIZES) & (e != spec::SETUP) & front::record::is_number(number) {
         return spec::TORN;
     }

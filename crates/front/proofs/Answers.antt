@@ -8,7 +8,7 @@ use Rattle.spec.specs.Tests.{_isnt_, _⇒_else_, _orElse_, same}
 use Rattle.spec.specs.Numbers.{setupOk}
 use Rattle.spec.specs.Book.{valid, free, sameSegment, used, procAt}
 use Rattle.spec.specs.Frames.{sized}
-use Rattle.spec.specs.Machine.{Ask, start, fork, plain, kind, Reply, outcome, refuse, lengthsFit, judge, weigh}
+use Rattle.spec.specs.Machine.{Ask, start, fork, plain, kind, Reply, outcome, refuse, lengthsFit, judge, weigh, call}
 use Rattle.spec.specs.World.{State, sound, taken, view, aloneFor, answer, leave, after, Does}
 use Rattle.spec.specs.declared.UserSegment.{UserSegment}
 use Rattle.spec.proofs.Bools.{or-test}
@@ -16,7 +16,7 @@ use Rattle.spec.proofs.Lists.{same-self}
 use Rattle.spec.proofs.Chain.{here, past, isnt-holds-through, isnt-fails-through}
 use Rattle.spec.proofs.Taken.{refused-keeps}
 use Rattle.laws.proofs.Record.{is-same}
-use Rattle.front.specs.Numbers.{call, numberError, plainError, beginError, forkError}
+use Rattle.front.specs.Numbers.{numberError, plainError, beginError, forkError}
 
 -- a refusal where there is a number, and the rest where there is none
 abbrev pub orRefuse : ℕ → Ask → Reply → Reply

@@ -5,9 +5,8 @@ ghost use mathlib.Core.Bool.{true};
 ghost use mathlib.Core.List.{List};
 ghost use Prim.Native.Nat.{ℕ};
 ghost use Rattle.spec.specs.Book.{valid};
-ghost use Rattle.spec.specs.World.{forget};
+ghost use Rattle.spec.specs.World.{forget, stateOf};
 ghost use Rattle.spec.specs.declared.Setup.{Setup};
-ghost use Rattle.front.specs.Numbers.{stateOf};
 use spec::Procs;
 
 // A process ends, as `bad_address` ends it: its frames lose a holder and keep their bytes, and its record is zero.

@@ -1,8 +1,7 @@
-// What the ten calls share: records by value, the numbers that come first in every call, a record's pages, a process that ends, and
-// what a call leaves. Every call begins here, so that the order of numbers 1 to 5 is written once.
+// What the ten calls share: records by value, the numbers that come first in every call, a record's pages, and a process that
+// ends. Every call begins here, so that the order of numbers 1 to 5 is written once.
 
 pub mod ending;
-pub mod left;
 pub mod numbers;
 pub mod pages;
 pub mod record;

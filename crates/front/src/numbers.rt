@@ -1,9 +1,12 @@
 // Numbers 1, 38 and 2 to 5, which come first in every call, in that order; those up to 3 stand in crate first.
 
 ghost use mathlib.Core.Path.{_≡_};
-ghost use lib.ListN.{length};
-ghost use Rattle.sound.specs.Table.{Blank, Ready};
-ghost use Rattle.front.specs.Numbers.{stateOf, plainError, beginError, forkError};
+ghost use mathlib.Core.Bool.{not, _&&_};
+ghost use Rattle.spec.specs.Tests.{_⇒_else_};
+ghost use Rattle.spec.specs.Book.{valid, lives as livesOf, procAt};
+ghost use Rattle.spec.specs.World.{stateOf};
+ghost use Rattle.sound.specs.Table.{Zeros, Leaves};
+ghost use Rattle.front.specs.Numbers.{plainError, beginError, forkError};
 pub use first::number_error;
 pub use first::number_ready;
 pub use first::sizes_ok;
@@ -22,11 +25,11 @@ pub fn plain_ready(
     fits: bool,
     tags: &mut [u64; 272],
     bases: &mut [u64; 273],
-    table: &mut [u16; 16384],
+    table: &mut [u16; 1024],
 ) -> u64
-    requires { ⌜ (length (now tags) ≡ 272) × (length (now bases) ≡ 273) × (length (now table) ≡ 16384) × Blank (now table) ⌝ }
+    requires { ⌜ Zeros (now tags) (now bases) (now table) ⌝ }
     ensures { λ r. ⌜ r ≡ plainError (stateOf setup (now (frames .entry)) (now (book .entry)) procs) number fits ⌝ }
-    ensures { λ r. ⌜ (r ≡ 0 → Ready (now (book .entry)) (now (tags .exit)) (now (bases .exit)) (now (table .exit))) ⌝ }
+    ensures { λ r. ⌜ Leaves r (now (book .entry)) procs number (now (tags .exit)) (now (bases .exit)) (now (table .exit)) ⌝ }
 {
     let e = number_ready(setup, frames, book, procs, number, fits, tags, bases, table);
     if e != 0 {
@@ -51,7 +54,7 @@ pub fn plain_error(
 {
     let mut tags = [0u64; 272];
     let mut bases = [0u64; 273];
-    let mut table = [0u16; 16384];
+    let mut table = [0u16; 1024];
     plain_ready(
         setup,
         frames,
@@ -86,26 +89,10 @@ pub fn begin_error(
     0
 }
 
-// 1 to 5 of a fork whose list is the record's own, and the lists for its lookups.
-pub fn fork_ready(
-    setup: Setup,
-    frames: &[u8],
-    book: &[u64],
-    procs: Procs,
-    number: u64,
-    child: u64,
-    tags: &mut [u64; 272],
-    bases: &mut [u64; 273],
-    table: &mut [u16; 16384],
-) -> u64
-    requires { ⌜ (length (now tags) ≡ 272) × (length (now bases) ≡ 273) × (length (now table) ≡ 16384) × Blank (now table) ⌝ }
-    ensures { λ r. ⌜ r ≡ forkError (stateOf setup (now (frames .entry)) (now (book .entry)) procs) number child ⌝ }
-    ensures { λ r. ⌜ (r ≡ 0 → Ready (now (book .entry)) (now (tags .exit)) (now (bases .exit)) (now (table .exit))) ⌝ }
+// 3 of the child's number, 4 of the parent and 5 of the child, which come next in a fork.
+fn child_error(procs: Procs, number: u64, child: u64) -> u64
+    ensures { λ r. ⌜ r ≡ (not (valid child) ⇒ 3 else not (valid number && livesOf (procAt procs number)) ⇒ 4 else not (not (valid child && livesOf (procAt procs child))) ⇒ 5 else 0) ⌝ }
 {
-    let e = number_ready(setup, frames, book, procs, number, true, tags, bases, table);
-    if e != 0 {
-        return e;
-    }
     if !is_number(child) {
         return spec::NUMBER;
     }
@@ -116,4 +103,45 @@ pub fn fork_ready(
         return spec::TAKEN;
     }
     0
+}
+
+// 1 to 5 of a fork whose list is the record's own, and the lists for its lookups.
+pub fn fork_ready(
+    setup: Setup,
+    frames: &[u8],
+    book: &[u64],
+    procs: Procs,
+    number: u64,
+    child: u64,
+    tags: &mut [u64; 272],
+    bases: &mut [u64; 273],
+    table: &mut [u16; 1024],
+) -> u64
+    requires { ⌜ Zeros (now tags) (now bases) (now table) ⌝ }
+    ensures { λ r. ⌜ r ≡ forkError (stateOf setup (now (frames .entry)) (now (book .entry)) procs) number child ⌝ }
+    ensures { λ r. ⌜ Leaves r (now (book .entry)) procs number (now (tags .exit)) (now (bases .exit)) (now (table .exit)) ⌝ }
+{
+    let e = number_ready(setup, frames, book, procs, number, true, tags, bases, table);
+    if e != 0 {
+        return e;
+    }
+    child_error(procs, number, child)
+}
+
+// The same for a fork that looks no page up.
+pub fn fork_error(
+    setup: Setup,
+    frames: &[u8],
+    book: &[u64],
+    procs: Procs,
+    number: u64,
+    child: u64,
+) -> u64
+    ensures { λ r. ⌜ r ≡ forkError (stateOf setup (now (frames .entry)) (now (book .entry)) procs) number child ⌝ }
+{
+    let e = number_error(setup, frames, book, procs, number, true);
+    if e != 0 {
+        return e;
+    }
+    child_error(procs, number, child)
 }

@@ -39,15 +39,14 @@ use denote.Triple.Call.{calls-at}
 use denote.Triple.End.{all, lastsOf}
 use denote.Triple.Walked.{says}
 use Rattle.spec.specs.Machine.{Call}
-use Rattle.spec.specs.World.{Does}
+use Rattle.spec.specs.World.{Does, stateOf}
 use Rattle.spec.specs.declared.Procs.{Procs}
 use Rattle.spec.proofs.Procs as P
 use Rattle.spec.proofs.Procs.Laws as P′
 use Rattle.spec.proofs.Answer as N
-use Rattle.front.specs.Numbers.{stateOf}
-use Rattle.front.specs.declared.left.Left.{Left}
-use Rattle.front.proofs.left.Left as L
-use Rattle.front.proofs.left.Left.Laws as L′
+use Rattle.spec.specs.declared.Left.{Left}
+use Rattle.spec.proofs.Left as L
+use Rattle.spec.proofs.Left.Laws as L′
 use Rattle.told.specs.declared.Told.{Told}
 use Rattle.told.specs.Tells.{toldOf, Tells}
 use Rattle.told.proofs.Told as O

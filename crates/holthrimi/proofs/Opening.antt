@@ -14,11 +14,10 @@ use denote.Exit.{yes}
 use denote.Laws.{valss}
 use denote.Ref.{RefT}
 use denote.Triple.End.{Fins, all}
-use Rattle.spec.specs.World.{State}
+use Rattle.spec.specs.World.{State, stateOf}
 use Rattle.spec.specs.declared.Procs.{Procs}
 use Rattle.spec.proofs.Procs as P
 use Rattle.spec.proofs.Setup as S
-use Rattle.front.specs.Numbers.{stateOf}
 use Rattle.holthrimi.proofs.Params.{Par, slots, rows, spells}
 use Rattle.holthrimi.proofs.Telling.{Given-to, of-setup, of-procs, Setting}
 

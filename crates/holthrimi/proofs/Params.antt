@@ -2,7 +2,6 @@
 -- and that the value is of the type.
 -- Assumes nothing.
 use Prim.Native.Nat.{ℕ}
-use mathlib.Core.Bool.{Bool}
 use mathlib.Core.List.{List, [], _∷_}
 use lib.Dec.{T}
 use lib.ListN.{length}
@@ -19,6 +18,7 @@ use denote.Ref.{mut-tells, shr-tells}
 use denote.Slice.{sliceVal, mut-slice-tells, shr-slice-tells}
 use denote.Struct.Laws as LL
 use Rattle.spec.proofs.Procs as P
+use Rattle.spec.proofs.UserSegment as G
 use Rattle.spec.proofs.Setup as S
 use Rattle.spec.proofs.Setup.Laws as S′
 
@@ -71,7 +71,16 @@ module _ {n : ℕ} where
       typed = λ κs x is. (tt, (tt, (record { fits = is .0 .1 .0 }, tt)));
     }
 
-    -- and to write
+    -- a lent list of segments, to read
+    abbrev pub segments : Par n
+    segments = record {
+      slot = SliceRef j ok G.the-row tt;
+      val = λ κs x. sliceVal (x .ptr) (length (x .now));
+      tells = λ κs. shr-slice-tells (nameOf (j ∷ [])) (meetAt n (j ∷ []) ok κs) G.the-row;
+      typed = λ κs x is. (tt, (tt, (record { fits = is .0 .1 .0 }, tt)));
+    }
+
+    -- bytes and words to write
     abbrev pub bytes-mut : Par n
     bytes-mut = record {
       slot = SliceRefMut j ok u8 tt;

@@ -3,8 +3,8 @@
 
 ghost use mathlib.Core.Path.{_≡_};
 ghost use mathlib.Core.List.{[]};
-ghost use Rattle.spec.specs.Machine.{user-range-ok, try-copy-str-from-user};
-ghost use Rattle.front.specs.Numbers.{stateOf, call};
+ghost use Rattle.spec.specs.Machine.{user-range-ok, try-copy-str-from-user, call};
+ghost use Rattle.spec.specs.World.{stateOf};
 ghost use Rattle.told.specs.Tells.{Tells};
 use spec::Procs;
 use spec::Setup;

@@ -2,14 +2,14 @@
 // that call's own crate (`start::start`; the copies in access) with the other arguments as they are, puts back the records that it
 // leaves, and tells its answer.
 
-ghost use mathlib.Core.Path.{_≡_};
 ghost use mathlib.Core.List.{[]};
 ghost use Rattle.spec.specs.Book.{used, procAt};
-ghost use Rattle.spec.specs.Machine.{start, replace, push, break, fork, end, copy-from-user, copy-to-user};
-ghost use Rattle.front.specs.Numbers.{stateOf, call};
+ghost use Rattle.spec.specs.Machine.{start, replace, push, break, fork, end, copy-from-user, copy-to-user, call};
+ghost use Rattle.spec.specs.World.{stateOf};
 ghost use Rattle.told.specs.Tells.{Tells};
 use spec::Procs;
 use spec::Setup;
+use spec::UserSegment;
 use told::Told;
 
 #[no_mangle]
@@ -112,6 +112,25 @@ pub extern "C" fn holthrimi_fork(
 {
     let before = *procs;
     let left = fork::fork(setup, frames, book, before, number, child);
+    *procs = left.procs;
+    told::tell(left.answer)
+}
+
+// The same with the parent's recorded segments lent as a list, which the call compares with the record.
+#[no_mangle]
+pub extern "C" fn holthrimi_fork_list(
+    setup: Setup,
+    frames: &mut [u8],
+    book: &mut [u64],
+    procs: &mut Procs,
+    number: u64,
+    child: u64,
+    segments: &[UserSegment],
+) -> Told
+    ensures { λ r. ⌜ Tells (stateOf setup (now (frames .entry)) (now (book .entry)) (now (procs .entry))) (call number (fork child (now (segments .entry)))) (stateOf setup (now (frames .exit)) (now (book .exit)) (now (procs .exit))) r [] ⌝ }
+{
+    let before = *procs;
+    let left = forks::fork_list(setup, frames, book, before, number, child, segments);
     *procs = left.procs;
     told::tell(left.answer)
 }

@@ -7,12 +7,12 @@ ghost use Rattle.spec.specs.Elf.{elfError};
 ghost use Rattle.spec.specs.Exec.{stackSize};
 ghost use Rattle.spec.specs.Name.{kstrcpy};
 ghost use Rattle.spec.specs.SetupText.{readSetup};
+ghost use Rattle.spec.specs.World.{stateOf};
 ghost use Rattle.segment.specs.Rule.{optOf, breakOf};
 ghost use Rattle.text.specs.Text.{Puts};
 ghost use Rattle.setup_text.specs.Said.{told};
 ghost use Rattle.setup_put.specs.Text.{setupIn};
 ghost use Rattle.args.specs.Sizes.{saturated};
-ghost use Rattle.front.specs.Numbers.{stateOf};
 ghost use Rattle.holthrimi.specs.Rules.{bssOf, ruleOf, ibrkIn, argsIn, planIn, plannedOf, bookWords, bookError};
 use exec::Plan;
 use segment::Break;
@@ -152,11 +152,7 @@ pub extern "C" fn holthrimi_kstrcpy(dst: &mut [u8; 28], src: &[u8])
 pub extern "C" fn holthrimi_parse(image: &[u8]) -> u64
     ensures { λ r. ⌜ r ≡ elfError (now (image .entry)) ⌝ }
 {
-    let p = elf::parse(image);
-    match p {
-        elf::Parsed::Elf(_) => 0,
-        elf::Parsed::Refused(e) => elf::error_number(e),
-    }
+    elf::number_of(image)
 }
 
 // The plan of an image, or 38 for a setup that breaks a condition.

@@ -19,7 +19,6 @@ use Rattle.elf.specs.declared.Load.the-variants.{Skip, Segment as Taken}
 use Rattle.elf.proofs.Walk.{segmentIn, front, segs, segs-none, segs-some}
 use Rattle.spec.proofs.Bools.{split}
 use Rattle.spec.specs.declared.Setup.{Setup}
-use Rattle.elf.proofs.Ahead.{Ahead, ahead-here}
 use Rattle.layout.specs.Fits.{laid, fitOf, nothing, lastOf, fits}
 use Rattle.layout.specs.declared.Laid.{Laid}
 use Rattle.layout.specs.declared.Fit.{Fit}
@@ -59,11 +58,11 @@ module _ (setup : Setup) where
   fits-load image before (Taken g) gs c = fits-one image before g gs c
 
   -- one header of a layout
-  pub fits-some : (image : List ℕ) (at k : ℕ) (before : Laid) (f : Fit) → 0 < k → Ahead image at k → f ≡ fitOf setup before (loadOf (phdrAt image at))
+  pub fits-some : (image : List ℕ) (at k : ℕ) (before : Laid) (f : Fit) → 0 < k → CheckedLoad (length image) (loadOf (phdrAt image at)) → f ≡ fitOf setup before (loadOf (phdrAt image at))
       → fits setup before (segs image at k) ≡ then setup f (segs image (at + 56) (k - 1))
   fits-some image at k before f h a e =
       let l = loadOf (phdrAt image at) in
-      ap (fits setup before) (segs-some image at k l h refl) ∙ fits-load image before l (segs image (at + 56) (k - 1)) (ahead-here image at k h a)
+      ap (fits setup before) (segs-some image at k l h refl) ∙ fits-load image before l (segs image (at + 56) (k - 1)) a
       ∙ ap (λ (x : Fit). then setup x (segs image (at + 56) (k - 1))) (sym e)
 
   -- no more headers

@@ -3,13 +3,10 @@
 
 ghost use mathlib.Core.Path.{_≡_};
 ghost use Prim.Native.Nat.{_+_, _-_, _*_, _^_, _≤_, _<_};
-ghost use lib.ListN.{length};
-ghost use Rattle.spec.specs.Elf.{phdrAt, segmentsOf};
-ghost use Rattle.elf.specs.Reader.{CheckedLoad, loadOf, said, parsed};
+ghost use Rattle.spec.specs.Elf.{phoff, phnum, phdrAt, elfError, segmentsOf};
+ghost use Rattle.elf.specs.Reader.{loadOf};
 ghost use Rattle.layout.specs.Fits.{fitOf, nothing, fits};
-use elf::Elf;
 use elf::Load;
-use elf::Parsed;
 use elf::Segment;
 use spec::Setup;
 use spec::VirtRange;
@@ -56,31 +53,30 @@ fn lay(setup: Setup, before: Laid, g: Segment) -> Fit
 }
 
 // The layout with the segment of one more program header, if it has one.
-fn lay_header(setup: Setup, image: &[u8], h: Elf, i: usize, before: Laid) -> Fit
-    requires { ⌜ (h .phoff + 56 * h .phnum ≤ length (now image)) × (i < h .phnum) ⌝ }
-    requires { ⌜ CheckedLoad (length (now image)) (loadOf (phdrAt (now image) (h .phoff + 56 * i))) ⌝ }
-    ensures { λ r. ⌜ r ≡ fitOf setup before (loadOf (phdrAt (now (image .entry)) (h .phoff + 56 * i))) ⌝ }
+fn lay_header(setup: Setup, image: &[u8], i: usize, before: Laid) -> Fit
+    requires { ⌜ (elfError (now image) ≡ 0) × (i < phnum (now image)) ⌝ }
+    ensures { λ r. ⌜ r ≡ fitOf setup before (loadOf (phdrAt (now (image .entry)) (phoff (now (image .entry)) + 56 * i))) ⌝ }
 {
-    let l = checked::segment_of(image, h, i);
+    let l = elf::segment_of(image, i);
     match l {
         Load::Skip => Fit::Fits(before),
         Load::Segment(g) => lay(setup, before, g),
     }
 }
 
-// Checks that an image fits the user address space, as text and rodata, then at most one data segment, which the bss follows.
-pub fn layout(setup: Setup, image: &[u8], h: Elf) -> Fit
-    requires { ⌜ said (Parsed.Elf h) ≡ parsed (now image) ⌝ }
+// Checks that an accepted image fits the user address space, as text and rodata, then at most one data segment, which the bss follows.
+pub fn layout(setup: Setup, image: &[u8]) -> Fit
+    requires { ⌜ elfError (now image) ≡ 0 ⌝ }
     ensures { λ r. ⌜ r ≡ fits setup nothing (segmentsOf (now (image .entry))) ⌝ }
 {
     let mut seen = Laid {
         closed: false,
         bss: VirtRange { start: 0, end: 0 },
     };
-    let n = h.phnum;
+    let n = elf::count_of(image);
     let mut k = 0;
     while k < n {
-        let f = lay_header(setup, image, h, k, seen);
+        let f = lay_header(setup, image, k, seen);
         k += 1;
         match f {
             Fit::Refused => {

@@ -1,28 +1,19 @@
 -- An image's segments, then its bss, then the stack, placed one after the other, are all that a start places.
 use Prim.Native.Nat.{ℕ, _+_, _-_, _%_, _≤_}
 use native.Mathlib.Omega.{arith}
-use mathlib.Core.Path.{_≡_, refl, sym, ap, _∙_}
+use mathlib.Core.Path.{_≡_, sym, ap, _∙_}
 use mathlib.Core.List.{List, [], _∷_, _++_}
 use Rattle.spec.specs.Numbers.{maxTop, pageUp, pageBytes, zeroPage, SetupOk}
-use Rattle.spec.specs.Book.{segment, stack, bssSegment}
+use Rattle.spec.specs.Book.{stack, bssSegment}
 use Rattle.spec.specs.Frames.{Store, Page, pagesOf, place}
-use Rattle.spec.specs.Elf.{segmentsOf, elfError}
+use Rattle.spec.specs.Elf.{segmentsOf}
 use Rattle.spec.specs.Exec.{imageError, imageBss, startPieces, fileByte}
 use Rattle.spec.specs.declared.VirtRange.{VirtRange}
-use Rattle.spec.specs.declared.ElfError.{ElfError}
 use Rattle.spec.specs.declared.Setup.{Setup}
-use Rattle.elf.specs.Reader.{said, parsed}
-use Rattle.elf.specs.declared.Parsed.the-variants.{Refused}
-use Rattle.elf.proofs.Image.{says-number}
-use Rattle.elf.proofs.Errors.{not-zero}
 use Rattle.laws.proofs.Place.{place-append}
-use Rattle.laws.proofs.Accepted.{accepted-means, image-recorded}
+use Rattle.laws.proofs.Accepted.{image-recorded}
 use Rattle.load.specs.Pages.{segmentPages}
 use Rattle.load.proofs.Segments.{start-pages}
-
--- an accepted image is parsed
-pub not-refused : (setup : Setup) (image : List ℕ) (e : ElfError) → imageError setup image ≡ 0 → said (Refused e) ≡ parsed image → ⊥
-not-refused setup image e z h = not-zero e (says-number image (Refused e) h ∙ accepted-means setup image z .elf)
 
 pub record Fits (bss : VirtRange) : Type 0 where
   pub start : bss .start ≤ maxTop

@@ -4,21 +4,18 @@
 
 ghost use mathlib.Core.Path.{_≡_};
 ghost use mathlib.Core.Bool.{true};
-ghost use Prim.Native.Nat.{ℕ, _+_, _*_, _-_, _^_, _≤_, _<_};
+ghost use Prim.Native.Nat.{_+_, _*_, _-_, _≤_, _<_};
 ghost use lib.ListN.{length};
 ghost use Rattle.spec.specs.Numbers.{maxTop, SetupOk, pageBytes};
 ghost use Rattle.spec.specs.declared.Setup.{Setup};
 ghost use Rattle.spec.specs.Book.{frameCount};
-ghost use Rattle.spec.specs.Frames.{pagesOf, place};
-ghost use Rattle.spec.specs.Elf.{phdrAt, segmentsOf};
+ghost use Rattle.spec.specs.Frames.{pagesOf, place, store};
+ghost use Rattle.spec.specs.Elf.{phoff, phnum, phdrAt, elfError, segmentsOf};
 ghost use Rattle.spec.specs.Exec.{layoutOk, imageBss, imageError, startPieces, fileByte};
-ghost use Rattle.elf.specs.Reader.{loadOf, CheckedLoad, said, parsed};
-ghost use Rattle.book.specs.Lent.{store};
+ghost use Rattle.elf.specs.Reader.{loadOf};
 ghost use Rattle.pagealloc.specs.Lent.{Passed};
 ghost use Rattle.load.specs.Pages.{segmentPages, loadPages, LaidLoad};
-use elf::Elf;
 use elf::Load;
-use elf::Parsed;
 use spec::Setup;
 use spec::VirtRange;
 
@@ -29,23 +26,22 @@ fn load_header(
     top: usize,
     owner: u64,
     image: &[u8],
-    h: Elf,
     i: usize,
     bss: VirtRange,
 ) -> usize
-    requires { ⌜ (length (now frames) ≡ 4096 * frameCount (now book)) × (1 ≤ owner) × (owner ≤ 16) × (h .phoff + 56 * h .phnum ≤ length (now image)) × (i < h .phnum) × (bss .start ≤ maxTop) ⌝ }
-    requires { ⌜ CheckedLoad (length (now image)) (loadOf (phdrAt (now image) (h .phoff + 56 * i))) × LaidLoad (loadOf (phdrAt (now image) (h .phoff + 56 * i))) ⌝ }
+    requires { ⌜ (length (now frames) ≡ 4096 * frameCount (now book)) × (1 ≤ owner) × (owner ≤ 16) × (elfError (now image) ≡ 0) × (i < phnum (now image)) × (bss .start ≤ maxTop) ⌝ }
+    requires { ⌜ LaidLoad (loadOf (phdrAt (now image) (phoff (now image) + 56 * i))) ⌝ }
     requires { ⌜ Passed top (now book) ⌝ }
-    ensures { λ _. ⌜ store (now (frames .exit)) (now (book .exit)) ≡ place (store (now (frames .entry)) (now (book .entry))) owner (loadPages (now (image .entry)) bss (loadOf (phdrAt (now (image .entry)) (h .phoff + 56 * i)))) ⌝ }
+    ensures { λ _. ⌜ store (now (frames .exit)) (now (book .exit)) ≡ place (store (now (frames .entry)) (now (book .entry))) owner (loadPages (now (image .entry)) bss (loadOf (phdrAt (now (image .entry)) (phoff (now (image .entry)) + 56 * i)))) ⌝ }
     ensures { λ r. ⌜ Passed r (now (book .exit)) ⌝ }
 {
-    let l = checked::segment_of(image, h, i);
+    let l = elf::segment_of(image, i);
     match l {
         Load::Skip => top,
         Load::Segment(g) => {
             let recorded = recorded::user_segment(bss, g);
             let vaddr = g.vaddr;
-            let file = checked::file_of(image, h, g);
+            let file = elf::file_of(image, g);
             pagealloc::place::load_segment(frames, book, top, owner, recorded, vaddr, file)
         }
     }
@@ -57,20 +53,19 @@ fn load_segments(
     book: &mut [u64],
     owner: u64,
     image: &[u8],
-    h: Elf,
     bss: VirtRange,
 ) -> usize
     requires { ⌜ (length (now frames) ≡ 4096 * frameCount (now book)) × (1 ≤ owner) × (owner ≤ 16) × (bss .start ≤ maxTop) ⌝ }
-    requires { ⌜ said (Parsed.Elf h) ≡ parsed (now image) ⌝ }
+    requires { ⌜ elfError (now image) ≡ 0 ⌝ }
     requires { ⌜ ((setup : Setup) × SetupOk setup × (layoutOk setup (segmentsOf (now image)) ≡ true)) ⌝ }
     ensures { λ _. ⌜ store (now (frames .exit)) (now (book .exit)) ≡ place (store (now (frames .entry)) (now (book .entry))) owner (segmentPages bss (segmentsOf (now (image .entry)))) ⌝ }
     ensures { λ r. ⌜ Passed r (now (book .exit)) ⌝ }
 {
     let mut top = book.len() / 17;
-    let n = h.phnum;
+    let n = elf::count_of(image);
     let mut i = 0;
     while i < n {
-        top = load_header(frames, book, top, owner, image, h, i, bss);
+        top = load_header(frames, book, top, owner, image, i, bss);
         i += 1;
     }
     top
@@ -93,10 +88,7 @@ pub fn load(
         start: ustktop - setup.ustksize,
         end: ustktop,
     };
-    let Parsed::Elf(h) = elf::parse(image) else {
-        return;
-    };
-    let top = load_segments(frames, book, owner, image, h, bss);
+    let top = load_segments(frames, book, owner, image, bss);
     let start = mem::page_up(bss.start);
     let end = bss.end;
     let next = pagealloc::place::map_zeroed(frames, book, top, owner, VirtRange { start, end });

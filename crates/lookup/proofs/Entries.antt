@@ -13,9 +13,10 @@ use Rattle.spec.proofs.Bools.{within-test}
 use Rattle.laws.proofs.Frame.{frame-found, once-means, frame-is}
 use Rattle.plan.specs.Plan.{owner, hits, nth, rank}
 use Rattle.plan.proofs.Within.{hit-fact, rank-below, rank-word, hit-owner}
-use Rattle.table.specs.Table.{placeAt, placeWith, entry}
+use Rattle.table.specs.Table.{placeAt, placeWith, entry, firstOf}
 use Rattle.table.proofs.Pass.{with-found, option-some}
-use Rattle.book.specs.Lent.{foundOf}
+use Rattle.table.proofs.Counting.{rank-own}
+use Rattle.book.specs.Answers.{foundOf}
 use Rattle.lookup.specs.Ready.{answerOf, Ready}
 
 -- a frame as an entry
@@ -36,16 +37,18 @@ found-none (some i) f = absurd (f i refl)
 pub place-of : (book : List ℕ) (k n : ℕ) → 1 ≤ n → n ≤ 16 → placeAt book (16 * k + (n - 1)) ≡ mapping book k n
 place-of book k n l h = ap₂ (mapping book) (omega arith) (omega arith)
 
-module _ (b tags bases table : List ℕ) (r : Ready b tags bases table) where
-  -- the entry of a rank is its page's frame
-  pub lookup : (w k : ℕ) → k < 272 → hits tags bases w k ≡ true → getD table (rank tags bases w k) 0 ≡ frameEntry (frameOf b (ownerOf w) (pageOf w))
-  lookup w k hk e =
+module _ (b : List ℕ) (number : ℕ) (tags bases table : List ℕ) (r : Ready b number tags bases table) where
+  -- the entry of a rank of the process is its page's frame
+  pub lookup : (w k : ℕ) → k < 272 → hits tags bases w k ≡ true → ownerOf w ≡ number → getD table (rank tags bases w k - firstOf bases number) 0 ≡ frameEntry (frameOf b (ownerOf w) (pageOf w))
+  lookup w k hk e of =
       let below = rank-below tags bases (r .plan) w k hk e in
       let o = option-some (placeWith b (16 * frameCount b) (nth tags bases (rank tags bases w k))) (r .full (rank tags bases w k) below) in
       let i = with-found b (nth tags bases (rank tags bases w k)) (16 * frameCount b) (o .0) (o .1) in
       let is : placeAt b (o .0) ≡ w = i .1 ∙ rank-word tags bases (r .plan) w k hk e in
       let own = hit-owner tags bases (r .plan) w k hk e in
-      r .tabled (rank tags bases w k) below ∙ ap entry (o .1) ∙ at (o .0) (i .0) is (some-word w (own-low k w own))
+      let in-own = rank-own tags bases (r .plan) w k number hk e (own ∙ of) in
+      let back : firstOf bases number + (rank tags bases w k - firstOf bases number) ≡ rank tags bases w k = omega (arith, in-own .0) in
+      r .tabled .frames (rank tags bases w k - firstOf bases number) (in-own .1) ∙ ap (λ (t : ℕ). entry (placeWith b (16 * frameCount b) (nth tags bases t))) back ∙ ap entry (o .1) ∙ at (o .0) (i .0) is (some-word w (own-low k w own))
     where
       own-low : (k w : ℕ) → owner k ≡ ownerOf w → 1 ≤ ownerOf w
       own-low k w e = omega arith

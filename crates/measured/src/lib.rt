@@ -10,7 +10,6 @@ ghost use Rattle.spec.specs.Numbers.{deposit};
 ghost use Rattle.spec.specs.Book.{free};
 ghost use Rattle.spec.specs.Sound.{soundBook};
 ghost use Rattle.spec.specs.Elf.{elfError};
-use elf::Parsed;
 use spec::Procs;
 
 // Every byte becomes 0.
@@ -39,7 +38,8 @@ pub extern "C" fn measured_free(book: &[u64]) -> usize
     book::free_count(book)
 }
 
-// Whether the book is sound, by the deposit machine's numbers; one of more than 17,408 words, 1,024 frames', is not.
+// Whether the book is sound, by the deposit machine's numbers, found as for a call that process 1 makes; a book of more than 17,408
+// words, 1,024 frames', is not.
 #[no_mangle]
 pub extern "C" fn measured_sound(book: &[u64], procs: Procs) -> bool
     ensures { λ r. ⌜ (length (now (book .entry)) ≤ 17408 → r ≡ soundBook deposit (now (book .entry)) procs) × (17408 < length (now (book .entry)) → r ≡ false) ⌝ }
@@ -47,7 +47,19 @@ pub extern "C" fn measured_sound(book: &[u64], procs: Procs) -> bool
     if 17408 < book.len() {
         return false;
     }
-    sound::sound_error(setup::deposit(), book, procs) == 0
+    let mut tags = [0u64; 272];
+    let mut bases = [0u64; 273];
+    let mut table = [0u16; 1024];
+    sound::prepare(
+        setup::deposit(),
+        book,
+        procs,
+        1,
+        &mut tags,
+        &mut bases,
+        &mut table,
+    )
+        == 0
 }
 
 // The number that an image is refused with by the ELF reader, or 0.
@@ -55,8 +67,5 @@ pub extern "C" fn measured_sound(book: &[u64], procs: Procs) -> bool
 pub extern "C" fn measured_parse(image: &[u8]) -> u64
     ensures { λ r. ⌜ r ≡ elfError (now (image .entry)) ⌝ }
 {
-    match elf::parse(image) {
-        Parsed::Elf(_) => 0,
-        Parsed::Refused(e) => elf::error_number(e),
-    }
+    elf::number_of(image)
 }

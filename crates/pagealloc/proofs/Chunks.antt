@@ -8,10 +8,10 @@ use lib.ListN.{length, take, drop, length-drop}
 use lib.Seq.{length-take-le, take-add, take-length}
 use Rattle.spec.specs.Numbers.{pageDown}
 use Rattle.spec.specs.Book.{frameCount, frameOf}
-use Rattle.spec.specs.Frames.{Store, put, pokes}
+use Rattle.spec.specs.Frames.{Store, put, pokes, store}
 use Rattle.laws.proofs.Pokes.{pokes-append, pokes-page}
 use Rattle.spec.specs.declared.Found.the-variants.{At, Nothing}
-use Rattle.book.specs.Lent.{store, foundOf}
+use Rattle.book.specs.Answers.{foundOf}
 use Rattle.pagealloc.specs.Lent.{Mapped}
 use Rattle.book.proofs.Searches.{Framed, page-found}
 use Rattle.pagealloc.proofs.Copying.{not-missing}

@@ -10,7 +10,7 @@ use Rattle.spec.specs.Book.{holders}
 use Rattle.spec.specs.Frames.{put, frameBytes}
 use Rattle.spec.specs.declared.Found.the-variants.{Nothing}
 use Rattle.laws.proofs.Lists.{by-order}
-use Rattle.book.specs.Lent.{foundOf}
+use Rattle.book.specs.Answers.{foundOf}
 use Rattle.book.proofs.Searches.{found-none}
 
 -- a used frame and a free frame lie apart

@@ -11,14 +11,14 @@ use lib.ListN.{length}
 use borrow.Author.Tests.{eqb-true, eqb-false}
 use Rattle.spec.specs.Numbers.{zeroPage}
 use Rattle.spec.specs.Book.{wordOf, frameCount, holders, highest, isFree, freeFrame, segment}
-use Rattle.spec.specs.Frames.{Store, enter, put, Page, pagesFrom, pagesOf, hold, place}
+use Rattle.spec.specs.Frames.{Store, enter, put, Page, pagesFrom, pagesOf, hold, place, store}
 use Rattle.spec.specs.declared.Found.the-variants.{At, Nothing}
 use Rattle.spec.proofs.Bools.{split}
 use Rattle.spec.proofs.Search.{hit, miss, highest-none}
 use Rattle.spec.proofs.Enter.{enter-length, enter-count, holders-here, holders-else}
 use Rattle.laws.proofs.Lists.{by-order}
 use Rattle.laws.proofs.Place.{place-none}
-use Rattle.book.specs.Lent.{store, foundOf}
+use Rattle.book.specs.Answers.{foundOf}
 use Rattle.book.proofs.Searches.{found-at, found-none}
 use Rattle.pagealloc.specs.Lent.{Passed}
 

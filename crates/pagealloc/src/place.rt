@@ -9,8 +9,8 @@ ghost use Prim.Native.Nat.{_+_, _*_, _%_, _^_, _≤_, _<_};
 ghost use lib.ListN.{length};
 ghost use Rattle.spec.specs.Numbers.{pageBytes, zeroPage};
 ghost use Rattle.spec.specs.Book.{frameCount, holders, isFree, highest, segment};
-ghost use Rattle.spec.specs.Frames.{enter, pagesOf, hold, place, frameBytes};
-ghost use Rattle.book.specs.Lent.{store, foundOf};
+ghost use Rattle.spec.specs.Frames.{enter, pagesOf, hold, place, frameBytes, store};
+ghost use Rattle.book.specs.Answers.{foundOf};
 ghost use Rattle.pagealloc.specs.Lent.{Passed};
 ghost use Rattle.pagealloc.specs.Contents.{fileAt};
 

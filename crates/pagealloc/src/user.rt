@@ -6,8 +6,7 @@ ghost use Prim.Native.Nat.{_+_, _*_, _^_, _≤_, _<_};
 ghost use lib.ListN.{length};
 ghost use Rattle.spec.specs.Numbers.{pageDown};
 ghost use Rattle.spec.specs.Book.{frameCount};
-ghost use Rattle.spec.specs.Frames.{put, pokes};
-ghost use Rattle.book.specs.Lent.{store};
+ghost use Rattle.spec.specs.Frames.{put, pokes, store};
 ghost use Rattle.pagealloc.specs.Lent.{Mapped};
 
 // The bytes from `at` on become `s`.

@@ -5,15 +5,17 @@ use mathlib.Core.Path.{_≡_, refl, sym, ap, _∙_}
 use mathlib.Core.List.{List}
 use lib.Dec.{ltb}
 use lib.ListN.{length, getD, set, length-set}
-use lib.Seq.{getD-set-same, getD-set-other}
+use lib.Seq.{getD-set-same, getD-set-other, ext-getD}
 use borrow.Author.Tests.{ltb-true, ltb-false, lt-ltb}
 use borrow.Author.Count.{below-more}
+use Rattle.spec.specs.Numbers.{bytesFrom}
 use Rattle.spec.specs.Book.{zeroSegment, bssSegment, procAt}
 use Rattle.spec.specs.declared.UserSegment.{UserSegment}
 use Rattle.spec.specs.declared.Proc.{Proc}
 use Rattle.spec.specs.declared.Procs.{Procs}
 use Rattle.spec.proofs.Bools.{split}
-use Rattle.plan.specs.Plan.{seat, part, maxPages, tag, size, sumTo, partAt, tagAt, baseAt, Small, Laid, LaidTo, LaidAll}
+use Rattle.laws.proofs.Contents.{length-bytes, get-bytes}
+use Rattle.plan.specs.Plan.{seat, part, maxPages, tag, size, sumTo, partAt, tagAt, baseAt, tagsOf, basesOf, Small, Laid, LaidTo, LaidAll}
 use Rattle.plan.proofs.Ranks.{sum-none, sum-more}
 
 -- ---- the parts of a record
@@ -132,4 +134,24 @@ laid-all ps tags bases t n e r =
           (λ k l. set-before bases 272 t k l ∙ r .base-is k (omega arith))
           (getD-set-same bases 272 t 0 (omega (arith, r .bases-long)) ∙ r .sum ∙ ap (baseAt ps) d) m (omega arith);
       sum = r .sum ∙ ap (baseAt ps) d;
+      tags-long = r .tags-long;
+      bases-long = length-set bases 272 t ∙ r .bases-long;
     }
+
+-- ---- the plan as lists
+
+-- a list that has f's values is f's list
+pub list-from : (f : ℕ → ℕ) (n : ℕ) (l : List ℕ) → length l ≡ n → ((i : ℕ) → i < n → getD l i 0 ≡ f i) → l ≡ bytesFrom f 0 n
+list-from f n l long e =
+    ext-getD 0 l (bytesFrom f 0 n) (long ∙ sym (length-bytes f 0 n)) (λ i h.
+    let m : i < n = omega (arith, long) in
+    e i m ∙ ap f (omega arith) ∙ sym (get-bytes f 0 n i m))
+
+module _ {ps : Procs} {tags bases : List ℕ} {total : ℕ} (r : LaidAll ps tags bases total) where
+  pub tags-are : tags ≡ tagsOf ps
+  unfolding tagsOf
+  tags-are = list-from (tagAt ps) 272 tags (r .tags-long) (r .tag-is)
+
+  pub bases-are : bases ≡ basesOf ps
+  unfolding basesOf
+  bases-are = list-from (baseAt ps) 273 bases (r .bases-long) (λ i h. r .base-is i (omega arith))

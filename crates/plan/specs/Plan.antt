@@ -9,7 +9,7 @@ use mathlib.Core.List.{List}
 use lib.ListN.{length, getD}
 use lib.Dec.{leb}
 use Rattle.spec.specs.Tests.{_is_, _below_, _⇒_else_}
-use Rattle.spec.specs.Numbers.{maxTop}
+use Rattle.spec.specs.Numbers.{maxTop, bytesFrom}
 use Rattle.spec.specs.Book.{wordOf, ownerOf, segment, zeroSegment, bssSegment, procAt}
 use Rattle.spec.specs.declared.UserSegment.{UserSegment}
 use Rattle.spec.specs.declared.Proc.{Proc}
@@ -49,6 +49,13 @@ tagAt ps k = tag (owner k) (partAt ps k)
 
 abbrev pub baseAt : Procs → ℕ → ℕ
 baseAt ps k = sumTo (λ i. size (partAt ps i)) k
+
+-- all tags; all bases, with the count of all pages after the last. Both are kept shut: written out they are long.
+unfoldable pub tagsOf : Procs → List ℕ
+tagsOf ps = bytesFrom (tagAt ps) 0 272
+
+unfoldable pub basesOf : Procs → List ℕ
+basesOf ps = bytesFrom (baseAt ps) 0 273
 
 -- ---- laying the plan
 
@@ -92,6 +99,8 @@ pub record LaidAll (ps : Procs) (tags bases : List ℕ) (total : ℕ) : Type 0 w
   pub tag-is : (k : ℕ) → k < 272 → getD tags k 0 ≡ tagAt ps k
   pub base-is : (k : ℕ) → k ≤ 272 → getD bases k 0 ≡ baseAt ps k
   pub sum : total ≡ baseAt ps 272
+  pub tags-long : length tags ≡ 272
+  pub bases-long : length bases ≡ 273
 
 -- ---- words and ranks
 

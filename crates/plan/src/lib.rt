@@ -34,7 +34,7 @@ fn lay(tags: &mut [u64; 272], bases: &mut [u64; 273], p: Proc, n: usize, total: 
     ensures { λ r. ⌜ Laid p n total (now (tags .entry)) (now (bases .entry)) (now (tags .exit)) (now (bases .exit)) r 17 ⌝ }
 {
     let segments = p.segments;
-    let owner = 16 * (n as u64 + 1);
+    let owner = n as u64 + 1;
     let first = 17 * n;
     let mut t = total;
     let mut j = 0;
@@ -45,15 +45,15 @@ fn lay(tags: &mut [u64; 272], bases: &mut [u64; 273], p: Proc, n: usize, total: 
         let end = s.range.end;
         let perm = s.perm;
         let k = first + j;
-        tags[k] = start + owner + perm;
+        tags[k] = book::pack(start, owner, perm);
         bases[k] = t;
         t += (end - start) / 4096;
         j += 1;
     }
-    let from = (p.bss.start + 4095) / 4096 * 4096;
+    let from = mem::page_up(p.bss.start);
     let to = p.bss.end;
     let k = first + 16;
-    tags[k] = from + owner + DATA;
+    tags[k] = book::pack(from, owner, DATA);
     bases[k] = t;
     t + (to - from) / 4096
 }
@@ -117,7 +117,7 @@ pub fn part_of(tags: &[u64; 272], bases: &[u64; 273], w: u64) -> usize
     requires { ⌜ Plan (now tags) (now bases) ⌝ }
     ensures { λ r. ⌜ PartOf (now (tags .entry)) (now (bases .entry)) w r ⌝ }
 {
-    let owner = (w % 4096 / 16) as usize;
+    let owner = book::owner_of(w) as usize;
     if owner == 0 {
         return 272;
     }

@@ -1,11 +1,9 @@
 // The call `push`: arguments onto the stack of a living process, as `push_args` of r9's exec.rs (crate push_args). All of its
 // numbers are weighed before the first byte is written.
 
-ghost use mathlib.Core.Path.{_≡_};
-ghost use Rattle.spec.specs.Machine.{push, plainly};
-ghost use Rattle.spec.specs.World.{Does};
-ghost use Rattle.front.specs.Numbers.{stateOf, call};
-use front::left::Left;
+ghost use Rattle.spec.specs.Machine.{push, plainly, call};
+ghost use Rattle.spec.specs.World.{Does, stateOf};
+use spec::Left;
 use spec::Answer;
 use spec::Procs;
 use spec::Setup;
@@ -28,7 +26,7 @@ pub fn push(
 {
     let mut tags = [0u64; 272];
     let mut bases = [0u64; 273];
-    let mut table = [0u16; 16384];
+    let mut table = [0u16; 1024];
     let fits = args::lengths_fit(bytes, lengths);
     let e = front::numbers::plain_ready(
         setup,

@@ -12,11 +12,10 @@ ghost use Rattle.spec.specs.Tests.{sum};
 ghost use Rattle.spec.specs.Numbers.{SetupOk};
 ghost use Rattle.spec.specs.declared.Setup.{Setup};
 ghost use Rattle.spec.specs.Book.{frameCount};
-ghost use Rattle.spec.specs.Frames.{memOf};
+ghost use Rattle.spec.specs.Frames.{memOf, store};
 ghost use Rattle.spec.specs.Exec.{argsOf, strings, argsError, registers, pushOk};
 ghost use Rattle.spec.specs.World.{pushIn};
 ghost use Rattle.sound.specs.Table.{Ready};
-ghost use Rattle.book.specs.Lent.{store};
 ghost use Rattle.args_into.specs.Laid.{Laid};
 use spec::Setup;
 use spec::UserRegs;
@@ -27,13 +26,13 @@ pub fn push_ok(
     book: &[u64],
     tags: &[u64; 272],
     bases: &[u64; 273],
-    table: &[u16; 16384],
+    table: &[u16; 1024],
     number: u64,
     top: u64,
     size: u64,
     nargs: u64,
 ) -> bool
-    requires { ⌜ Ready (now book) (now tags) (now bases) (now table) × (1 ≤ number) × (number ≤ 16) ⌝ }
+    requires { ⌜ Ready (now book) number (now tags) (now bases) (now table) × (1 ≤ number) × (number ≤ 16) ⌝ }
     requires { ⌜ SetupOk setup ⌝ }
     ensures { λ r. ⌜ ((frames : List ℕ) (args : List (List ℕ)) → length (strings args) ≡ size → length args ≡ nargs → r ≡ pushOk setup (memOf (store frames (now (book .entry))) number) top args) ⌝ }
 {
@@ -67,7 +66,7 @@ fn write_args(
     book: &[u64],
     tags: &[u64; 272],
     bases: &[u64; 273],
-    table: &[u16; 16384],
+    table: &[u16; 1024],
     number: u64,
     pc: u64,
     top: u64,
@@ -75,7 +74,7 @@ fn write_args(
     size: usize,
     nargs: usize,
 ) -> UserRegs
-    requires { ⌜ (length (now frames) ≡ 4096 * frameCount (now book)) × Ready (now book) (now tags) (now bases) (now table) × (1 ≤ number) × (number ≤ 16) ⌝ }
+    requires { ⌜ (length (now frames) ≡ 4096 * frameCount (now book)) × Ready (now book) number (now tags) (now bases) (now table) × (1 ≤ number) × (number ≤ 16) ⌝ }
     requires { ⌜ ((setup : Setup) × (args : List (List ℕ)) × SetupOk setup × Laid top args size (now buf) × (length args ≡ nargs) × ((f : List ℕ) → pushOk setup (memOf (store f (now book)) number) top args ≡ true)) ⌝ }
     ensures { λ r. ⌜ ((args : List (List ℕ)) → Laid top args size (now (buf .entry)) → length args ≡ nargs → (store (now (frames .exit)) (now (book .entry)) ≡ pushIn (store (now (frames .entry)) (now (book .entry))) number top args) × (r ≡ registers pc top args)) ⌝ }
 {
@@ -104,14 +103,14 @@ pub fn push_args(
     book: &[u64],
     tags: &[u64; 272],
     bases: &[u64; 273],
-    table: &[u16; 16384],
+    table: &[u16; 1024],
     number: u64,
     pc: u64,
     top: u64,
     bytes: &[u8],
     lengths: &[u64],
 ) -> UserRegs
-    requires { ⌜ (length (now frames) ≡ 4096 * frameCount (now book)) × Ready (now book) (now tags) (now bases) (now table) × (1 ≤ number) × (number ≤ 16) ⌝ }
+    requires { ⌜ (length (now frames) ≡ 4096 * frameCount (now book)) × Ready (now book) number (now tags) (now bases) (now table) × (1 ≤ number) × (number ≤ 16) ⌝ }
     requires { ⌜ ((setup : Setup) × SetupOk setup × (sum (now lengths) ≡ length (now bytes)) × (argsError setup (argsOf (now bytes) (now lengths)) ≡ 0) × ((f : List ℕ) → pushOk setup (memOf (store f (now book)) number) top (argsOf (now bytes) (now lengths)) ≡ true)) ⌝ }
     ensures { λ _. ⌜ store (now (frames .exit)) (now (book .entry)) ≡ pushIn (store (now (frames .entry)) (now (book .entry))) number top (argsOf (now (bytes .entry)) (now (lengths .entry))) ⌝ }
     ensures { λ r. ⌜ r ≡ registers pc top (argsOf (now (bytes .entry)) (now (lengths .entry))) ⌝ }

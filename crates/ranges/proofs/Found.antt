@@ -7,11 +7,11 @@ use mathlib.Core.List.{List}
 use Rattle.spec.specs.Tests.{_is_}
 use Rattle.spec.specs.Numbers.{pageDown}
 use Rattle.spec.specs.Book.{permOf, mapping, frameOf}
-use Rattle.spec.specs.Frames.{memOf}
+use Rattle.spec.specs.Frames.{memOf, store}
 use Rattle.spec.specs.Access.{cellOk}
 use Rattle.spec.specs.declared.Found.{Found}
 use Rattle.spec.specs.declared.Found.the-variants.{Nothing}
-use Rattle.book.specs.Lent.{store, foundOf}
+use Rattle.book.specs.Answers.{foundOf}
 use Rattle.book.proofs.Searches.{found-none}
 
 -- a page of which nothing is found has no frame

@@ -6,12 +6,11 @@ use mathlib.Core.Bool.{Bool, true, false}
 use mathlib.Core.List.{List}
 use borrow.Author.Tests.{lt-ltb, le-ltb, eq-eqb, ne-eqb}
 use Rattle.spec.specs.Numbers.{pageDown, pageUp, SetupOk}
-use Rattle.spec.specs.Frames.{Mem, memOf}
+use Rattle.spec.specs.Frames.{Mem, memOf, store}
 use Rattle.spec.specs.Access.{cellOk, pagesOk, userRangeOk}
 use Rattle.spec.proofs.Ranges.{range-means, range-one}
 use Rattle.spec.specs.declared.Setup.{Setup}
 use Rattle.laws.proofs.Allowed.{cell-allowed, cell-page}
-use Rattle.book.specs.Lent.{store}
 
 -- ---- the check
 

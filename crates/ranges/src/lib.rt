@@ -6,10 +6,10 @@ ghost use mathlib.Core.List.{List};
 ghost use Prim.Native.Nat.{ℕ, _≤_};
 ghost use Rattle.spec.specs.Numbers.{SetupOk, pageDown};
 ghost use Rattle.spec.specs.Book.{frameOf};
-ghost use Rattle.spec.specs.Frames.{memOf};
+ghost use Rattle.spec.specs.Frames.{memOf, store};
 ghost use Rattle.spec.specs.Access.{cellOk, userRangeOk};
 ghost use Rattle.sound.specs.Table.{Ready};
-ghost use Rattle.book.specs.Lent.{foundOf, store};
+ghost use Rattle.book.specs.Answers.{foundOf};
 use spec::Setup;
 
 // The frame of the page that holds an address. The table answers; the book is there for the contract alone.
@@ -17,11 +17,11 @@ pub fn frame_at(
     book: &[u64],
     tags: &[u64; 272],
     bases: &[u64; 273],
-    table: &[u16; 16384],
+    table: &[u16; 1024],
     number: u64,
     va: u64,
 ) -> spec::Found
-    requires { ⌜ Ready (now book) (now tags) (now bases) (now table) × (1 ≤ number) × (number ≤ 16) ⌝ }
+    requires { ⌜ Ready (now book) number (now tags) (now bases) (now table) × (1 ≤ number) × (number ≤ 16) ⌝ }
     ensures { λ r. ⌜ r ≡ foundOf (frameOf (now (book .entry)) number (pageDown va)) ⌝ }
 {
     sound::frame_at(tags, bases, table, number as usize, mem::page_down(va))
@@ -32,12 +32,12 @@ fn user_page_ok(
     book: &[u64],
     tags: &[u64; 272],
     bases: &[u64; 273],
-    table: &[u16; 16384],
+    table: &[u16; 1024],
     number: u64,
     va: u64,
     write: bool,
 ) -> bool
-    requires { ⌜ Ready (now book) (now tags) (now bases) (now table) × (1 ≤ number) × (number ≤ 16) ⌝ }
+    requires { ⌜ Ready (now book) number (now tags) (now bases) (now table) × (1 ≤ number) × (number ≤ 16) ⌝ }
     ensures { λ r. ⌜ ((frames : List ℕ) → r ≡ cellOk write (memOf (store frames (now (book .entry))) number va)) ⌝ }
 {
     let spec::Found::At(k) = frame_at(book, tags, bases, table, number, va) else {
@@ -54,13 +54,13 @@ pub fn user_range_ok(
     book: &[u64],
     tags: &[u64; 272],
     bases: &[u64; 273],
-    table: &[u16; 16384],
+    table: &[u16; 1024],
     number: u64,
     addr: u64,
     len: u64,
     write: bool,
 ) -> bool
-    requires { ⌜ Ready (now book) (now tags) (now bases) (now table) × (1 ≤ number) × (number ≤ 16) ⌝ }
+    requires { ⌜ Ready (now book) number (now tags) (now bases) (now table) × (1 ≤ number) × (number ≤ 16) ⌝ }
     requires { ⌜ SetupOk setup ⌝ }
     ensures { λ r. ⌜ ((frames : List ℕ) → r ≡ userRangeOk setup (memOf (store frames (now (book .entry))) number) write addr len) ⌝ }
 {

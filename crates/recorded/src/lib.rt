@@ -3,15 +3,11 @@
 
 ghost use mathlib.Core.Path.{_≡_};
 ghost use Prim.Native.Nat.{_+_, _-_, _*_, _^_, _≤_, _<_};
-ghost use lib.ListN.{length};
-ghost use Rattle.spec.specs.Elf.{phdrAt, segmentsOf};
+ghost use Rattle.spec.specs.Elf.{phoff, phnum, phdrAt, elfError, segmentsOf};
 ghost use Rattle.spec.specs.Exec.{kept};
-ghost use Rattle.elf.specs.Reader.{CheckedLoad, loadOf, said, parsed};
-ghost use Rattle.elf.specs.declared.Parsed;
+ghost use Rattle.elf.specs.Reader.{loadOf};
 ghost use Rattle.recorded.specs.Pages.{pagesIn, pushed, recordedWith, recorded};
-use elf::Elf;
 use elf::Load;
-use elf::Parsed;
 use elf::Segment;
 use spec::UserSegment;
 use spec::VirtRange;
@@ -68,22 +64,21 @@ fn push(before: Recorded, u: UserSegment) -> Recorded
 }
 
 // The recorded segments with that of one more program header, if it has one.
-fn push_header(image: &[u8], h: Elf, i: usize, bss: VirtRange, before: Recorded) -> Recorded
-    requires { ⌜ (h .phoff + 56 * h .phnum ≤ length (now image)) × (i < h .phnum) ⌝ }
-    requires { ⌜ CheckedLoad (length (now image)) (loadOf (phdrAt (now image) (h .phoff + 56 * i))) ⌝ }
+fn push_header(image: &[u8], i: usize, bss: VirtRange, before: Recorded) -> Recorded
+    requires { ⌜ (elfError (now image) ≡ 0) × (i < phnum (now image)) ⌝ }
     requires { ⌜ (bss .start ≤ 2 ^ 64 - 4096) × (before .count < 2 ^ 63) ⌝ }
-    ensures { λ r. ⌜ r ≡ recordedWith bss before (loadOf (phdrAt (now (image .entry)) (h .phoff + 56 * i))) ⌝ }
+    ensures { λ r. ⌜ r ≡ recordedWith bss before (loadOf (phdrAt (now (image .entry)) (phoff (now (image .entry)) + 56 * i))) ⌝ }
 {
-    let l = checked::segment_of(image, h, i);
+    let l = elf::segment_of(image, i);
     match l {
         Load::Skip => before,
         Load::Segment(g) => push(before, user_segment(bss, g)),
     }
 }
 
-// The segments that an image's pages make, given its bss, as Plan 9's TSEG and DSEG.
-pub fn segments(image: &[u8], h: Elf, bss: VirtRange) -> Recorded
-    requires { ⌜ said (Parsed.Elf h) ≡ parsed (now image) ⌝ }
+// The segments that an accepted image's pages make, given its bss, as Plan 9's TSEG and DSEG.
+pub fn segments(image: &[u8], bss: VirtRange) -> Recorded
+    requires { ⌜ elfError (now image) ≡ 0 ⌝ }
     requires { ⌜ bss .start ≤ 2 ^ 64 - 4096 ⌝ }
     ensures { λ r. ⌜ r ≡ recorded (kept bss (segmentsOf (now (image .entry)))) ⌝ }
 {
@@ -93,10 +88,10 @@ pub fn segments(image: &[u8], h: Elf, bss: VirtRange) -> Recorded
     };
     let segments = [zero; 16];
     let mut seen = Recorded { segments, count: 0 };
-    let n = h.phnum;
+    let n = elf::count_of(image);
     let mut k = 0;
     while k < n {
-        seen = push_header(image, h, k, bss, seen);
+        seen = push_header(image, k, bss, seen);
         k += 1;
     }
     seen

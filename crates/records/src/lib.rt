@@ -104,7 +104,7 @@ fn bss_ok(setup: Setup, low: u64, bss: VirtRange) -> bool
     if end < start {
         return false;
     }
-    let first = (start + 4095) / 4096 * 4096;
+    let first = mem::page_up(start);
     (utzero <= start) & (end % 4096 == 0) & (low <= first)
 }
 

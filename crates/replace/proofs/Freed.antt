@@ -4,17 +4,17 @@ use mathlib.Core.Path.{_≡_}
 use mathlib.Core.Bool.{true}
 use mathlib.Core.List.{List}
 use Rattle.spec.specs.Exec.{imageError}
-use Rattle.spec.specs.World.{State}
+use Rattle.spec.specs.World.{State, stateOf}
 use Rattle.spec.specs.declared.Procs.{Procs}
 use Rattle.spec.specs.declared.Setup.{Setup}
+use Rattle.spec.specs.Frames.{store}
 use Rattle.spec.proofs.Setups.{setup-means}
 use Rattle.laws.proofs.Record.{Whole}
 use Rattle.exec.specs.Plan.{planOf}
 use Rattle.exec.specs.declared.Plan.{Plan}
-use Rattle.front.specs.Numbers.{stateOf, plainError}
+use Rattle.front.specs.Numbers.{plainError}
 use Rattle.front.proofs.First.{Passed, plain-none, sizes-words}
 use Rattle.front.proofs.Living.{passed-sound}
-use Rattle.book.specs.Lent.{store}
 use Rattle.enter.specs.Entering.{Enterable}
 
 module _ (setup : Setup) (frames book : List ℕ) (procs : Procs) (n : ℕ) (whole : Whole procs) (first : plainError (stateOf setup frames book procs) n true ≡ 0) where

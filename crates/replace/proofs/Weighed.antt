@@ -10,11 +10,10 @@ use Rattle.spec.specs.Book.{free, alone, zeroProc, procAt, pageCount}
 use Rattle.spec.specs.Frames.{Store}
 use Rattle.spec.specs.Elf.{entry}
 use Rattle.spec.specs.Exec.{imageError, startPieces, registers, copyArgv}
-use Rattle.spec.specs.Machine.{replace, outcome, plainly, Machine, weigh}
+use Rattle.spec.specs.Machine.{replace, outcome, plainly, Machine, weigh, call}
 use Rattle.spec.specs.World.{State, view, setProc, procOf, leave}
 use Rattle.spec.specs.declared.Answer.{Answer}
 use Rattle.spec.specs.declared.Answer.the-variants.{Regs, Refused, Ended}
-use Rattle.front.specs.Numbers.{call}
 use Rattle.spec.specs.declared.Proc.{Proc}
 use Rattle.install.specs.Installing.{installed}
 use Rattle.enter.specs.declared.Entered.{Entered}

@@ -2,18 +2,16 @@
 // crate enter. Arguments are read and all but the frames is checked before the old pages go.
 
 ghost use mathlib.Core.Path.{_≡_};
-ghost use Rattle.spec.specs.Frames.{memOf};
+ghost use Rattle.spec.specs.Frames.{memOf, store};
 ghost use Rattle.spec.specs.Exec.{copyArgv};
-ghost use Rattle.spec.specs.Machine.{replace, plainly};
-ghost use Rattle.spec.specs.World.{Does};
+ghost use Rattle.spec.specs.Machine.{replace, plainly, call};
+ghost use Rattle.spec.specs.World.{Does, stateOf};
 ghost use Rattle.sound.specs.Table.{Ready};
-ghost use Rattle.book.specs.Lent.{store};
-ghost use Rattle.front.specs.Numbers.{stateOf, call};
 ghost use Rattle.enter.specs.Entering.{Enterable};
 ghost use Rattle.replace.specs.Becoming.{Became};
 use enter::Entered;
 use exec::Plan;
-use front::left::Left;
+use spec::Left;
 use spec::Answer;
 use spec::Proc;
 use spec::Procs;
@@ -27,7 +25,7 @@ fn enter_argv(
     book: &mut [u64],
     tags: &[u64; 272],
     bases: &[u64; 273],
-    table: &[u16; 16384],
+    table: &[u16; 1024],
     p: Proc,
     number: u64,
     image: &[u8],
@@ -35,7 +33,7 @@ fn enter_argv(
     name: &[u8],
     argv: u64,
 ) -> Entered
-    requires { ⌜ Ready (now book) (now tags) (now bases) (now table) ⌝ }
+    requires { ⌜ Ready (now book) number (now tags) (now bases) (now table) ⌝ }
     requires { ⌜ Enterable setup (store (now frames) (now book)) number (now image) plan ⌝ }
     ensures { λ r. ⌜ Became setup (store (now (frames .entry)) (now (book .entry))) p number (now (image .entry)) (now (name .entry)) (copyArgv setup (memOf (store (now (frames .entry)) (now (book .entry))) number) argv) (store (now (frames .exit)) (now (book .exit))) r ⌝ }
 {
@@ -99,7 +97,7 @@ pub fn replace(
 {
     let mut tags = [0u64; 272];
     let mut bases = [0u64; 273];
-    let mut table = [0u16; 16384];
+    let mut table = [0u16; 1024];
     let e = front::numbers::plain_ready(
         setup,
         frames,

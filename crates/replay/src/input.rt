@@ -8,15 +8,8 @@ pub const INPUT_SIZE: usize = LINE_MAX + 1 + 65536;
 
 // Where the line ends: at its line feed, or where the input that is there does.
 pub(crate) fn line_end(input: &[u8], s: Session) -> usize {
-    let end = room::least(s.end, input.len());
-    let mut at = s.at;
-    while at < end {
-        if input[at] == b'\n' {
-            return at;
-        }
-        at += 1;
-    }
-    end
+    let there = room::part(input, 0, s.end);
+    room::least(buffers::words::end(there, s.at, b'\n'), there.len())
 }
 
 // Behind the line that ends at `end`.

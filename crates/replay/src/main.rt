@@ -3,7 +3,6 @@
 mod input;
 
 use buffers::room;
-use input::INPUT_SIZE;
 use script::asked::Asked;
 use script::asked::Kind;
 use script::taken;
@@ -85,7 +84,7 @@ fn turn(
     book: &mut [u64; session::BOOK_SIZE],
     space: &mut [u8; taken::SPACE_MAX],
     list: &mut taken::List,
-    input: &mut [u8; INPUT_SIZE],
+    input: &mut [u8; input::INPUT_SIZE],
     s: Session,
 ) -> Session {
     let end = input::line_end(input, s);
@@ -103,7 +102,7 @@ fn main() {
     let mut book = [0u64; session::BOOK_SIZE];
     let mut space = [0u8; taken::SPACE_MAX];
     let mut list = [0u64; taken::ARGS];
-    let mut input = [0u8; INPUT_SIZE];
+    let mut input = [0u8; input::INPUT_SIZE];
     let mut s = fresh(0, 0, 0, false);
     // A proved loop has to end, and nothing says that the input does: it has fewer bytes than this.
     let mut left: u64 = u64::MAX;

@@ -2,7 +2,6 @@
 use crate::texts::put;
 use crate::texts::put_bytes;
 use crate::texts::put_named;
-use segment::Bss;
 use spec::Answer;
 
 // Writes the registers that a program is entered with.
@@ -72,7 +71,7 @@ pub(crate) fn put_kept(bytes: &[u8]) {
 }
 
 // Writes the answer of the break's rule: its value, and the bss's start and end.
-pub(crate) fn put_rule(setup: spec::Setup, bss: Bss, free: u64, addr: u64) {
+pub(crate) fn put_rule(setup: spec::Setup, bss: segment::Bss, free: u64, addr: u64) {
     if !setup::setup_ok(setup) {
         put_answer(Answer::Refused(spec::SETUP));
         return;
@@ -84,7 +83,7 @@ pub(crate) fn put_rule(setup: spec::Setup, bss: Bss, free: u64, addr: u64) {
     }
     put_named(b"ok ", b.value);
     let after = b.bss;
-    if let Bss::Set(r) = after {
+    if let segment::Bss::Set(r) = after {
         put_named(b" ", r.start);
         put_named(b" ", r.end);
     }

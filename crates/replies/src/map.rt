@@ -2,11 +2,8 @@
 // first begin with a space. It shows where each page lies and who holds its frame, with a torn book too.
 ghost use Prim.Native.Nat.{_+_, _*_, _<_};
 ghost use lib.ListN.{length};
-use crate::answers::put_answer;
 use crate::texts::put;
 use crate::texts::put_named;
-use buffers::room::part;
-use spec::Answer;
 use spec::VirtRange;
 
 // Writes a space and a name without the zeros at its end, with dots for what is no sign; nothing for no name.
@@ -24,7 +21,7 @@ fn put_name(name: [u8; 28]) {
     }
     if 0 < end {
         put(b" ");
-        put(part(&text, 0, end));
+        put(buffers::room::part(&text, 0, end));
     }
 }
 
@@ -104,11 +101,11 @@ fn put_segment(book: &[u64], number: u64, segment: spec::UserSegment) -> u64 {
 // Writes the table of a living process.
 pub(crate) fn put_map(book: &[u64], procs: spec::Procs, number: u64) {
     if !procs::is_number(number) {
-        put_answer(Answer::Refused(spec::NUMBER));
+        crate::answers::put_answer(spec::Answer::Refused(spec::NUMBER));
         return;
     }
     if !procs::lives(procs, number) {
-        put_answer(Answer::Refused(spec::DEAD));
+        crate::answers::put_answer(spec::Answer::Refused(spec::DEAD));
         return;
     }
     let at = (std::num::wrapping_sub_u64(number, 1) % 16) as usize;

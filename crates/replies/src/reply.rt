@@ -7,7 +7,6 @@ use crate::texts::put_named;
 use buffers::bytes::Why;
 use script::asked::Asked;
 use script::asked::Kind;
-use segment::Bss;
 
 // Writes that a line or a file has more bytes than it may have.
 fn put_large(most: usize) {
@@ -35,7 +34,7 @@ pub fn put_reply(
     a: Asked,
     answer: spec::Answer,
 ) {
-    let bss = Bss::Set(mem::range(a.number, a.second));
+    let bss = segment::Bss::Set(mem::range(a.number, a.second));
     let kind = a.kind;
     match kind {
         Kind::Nothing => return,
@@ -43,7 +42,7 @@ pub fn put_reply(
         Kind::Sum => sums::put_sums(procs, book, frames),
         Kind::Map => map::put_map(book, procs, a.number),
         Kind::Rule => answers::put_rule(setup, bss, a.third, a.fourth),
-        Kind::RuleNone => answers::put_rule(setup, Bss::Unset, a.number, a.second),
+        Kind::RuleNone => answers::put_rule(setup, segment::Bss::Unset, a.number, a.second),
         Kind::Range => answers::put_yes(answer),
         Kind::From => answers::put_copied(answer, bytes),
         Kind::Text => answers::put_string(answer, bytes),

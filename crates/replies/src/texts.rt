@@ -1,5 +1,4 @@
 // Text on standard output: numbers and bytes.
-use buffers::room::part;
 
 // Writes text. What cannot be written is left out.
 pub(crate) fn put(text: &[u8]) {
@@ -41,5 +40,5 @@ pub(crate) fn put_bytes(bytes: &[u8]) {
             n = 0;
         }
     }
-    put(part(&text, 0, 2 * n));
+    put(buffers::room::part(&text, 0, 2 * n));
 }

@@ -3,8 +3,8 @@
 
 ghost use mathlib.Core.Path.{_≡_};
 ghost use mathlib.Core.Bool.{true};
-ghost use Prim.Native.Nat.{ℕ, _+_, _*_, _<_, _≤_};
-ghost use lib.ListN.{length, getD, set};
+ghost use Prim.Native.Nat.{_+_, _*_, _<_, _≤_};
+ghost use lib.ListN.{length, set};
 ghost use Rattle.spec.specs.Book.{frameCount};
 ghost use Rattle.rows.specs.Rows.{OrOf, OrBut, FourBut, Masks, Own, FourOwn, Single, Singles};
 
@@ -87,7 +87,7 @@ fn is_own(book: &[u64], k: usize, n: usize) -> bool
 {
     let w = book[17 * k + n];
     let count = book[17 * k + 16];
-    (w % 4096 / 16 == n as u64 + 1) & (count == 1)
+    (book::owner_of(w) == n as u64 + 1) & (count == 1)
 }
 
 // Whether the four frames from `k` on have their only mapping in place `n`, each.
@@ -115,7 +115,7 @@ fn place_of(w: u64, other: usize) -> usize
     requires { ⌜ other ≤ 16 ⌝ }
     ensures { λ r. ⌜ (r ≤ 16) × (other < 16 → r < 16) ⌝ }
 {
-    let owner = (w % 4096 / 16) as usize;
+    let owner = book::owner_of(w) as usize;
     if owner == 0 {
         return other;
     }

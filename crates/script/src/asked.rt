@@ -1,6 +1,6 @@
 // What a line asks for: a kind, numbers, and how far the program's buffers are filled for it. It goes by value through every step.
-use crate::words;
 use buffers::bytes::Why;
+use buffers::words;
 
 // The most frames that there are: one more than a book may have, to try number 1. The longest file, and the longest line.
 pub const FRAMES_MAX: usize = 1025;

@@ -3,4 +3,3 @@
 pub mod asked;
 mod lines;
 pub mod taken;
-mod words;

@@ -4,8 +4,7 @@ use crate::asked;
 use crate::asked::Asked;
 use crate::asked::FRAMES_MAX;
 use crate::asked::Kind;
-use crate::words;
-use buffers::room;
+use buffers::words;
 
 // The longest buffer that a copy is lent.
 const BUFFER_MAX: u64 = 65536;
@@ -78,7 +77,7 @@ fn within(a: Asked, bytes: usize, words: usize) -> Asked {
 
 // What a line asks for by its first word and its numbers, of so many bytes of frames and words of book.
 pub(crate) fn asks(line: &[u8], bytes: usize, words: usize) -> Asked {
-    if (line.len() == 0) | words::same(room::part(line, 0, 1), b"#") {
+    if (line.len() == 0) | words::same(buffers::room::part(line, 0, 1), b"#") {
         return asked::with(Kind::Nothing, [0; 4]);
     }
     if asked::LINE_MAX < line.len() {

@@ -4,9 +4,9 @@ use crate::asked;
 use crate::asked::Asked;
 use crate::asked::Kind;
 use crate::lines;
-use crate::words;
 use buffers::bytes;
 use buffers::room;
+use buffers::words;
 
 // The space has places for a name, as much of it as a record keeps; for the bytes of arguments, as many as are over the limit of a
 // start or push; and for other bytes, with one more than a file may have, by which a longer one is seen to be one.

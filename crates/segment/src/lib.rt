@@ -72,7 +72,7 @@ fn moved(setup: Setup, range: VirtRange, addr: u64, free: u64) -> Break
         return accepted(bss);
     }
     // 4,096 × free may pass 64 bits: the pages that the growth touches are counted instead.
-    if (newtop - end + 4095) / 4096 > free {
+    if mem::page_up(newtop - end) / 4096 > free {
         return refused(spec::ENOVMEM, range);
     }
     accepted(bss)

@@ -9,11 +9,10 @@ use native.Mathlib.Omega.{arith}
 use lib.ListN.{length}
 use Rattle.spec.specs.Tests.{same, _⇒_else_}
 use Rattle.spec.specs.Book.{sameSegment, unused, used, procAt}
-use Rattle.spec.specs.Machine.{fork, Outcome, accepted, refused, ended, outcome, Reply, judge}
+use Rattle.spec.specs.Machine.{fork, Outcome, accepted, refused, ended, outcome, Reply, judge, call}
 use Rattle.spec.specs.World.{State, leave, answer, after, Does}
 use Rattle.spec.specs.declared.UserSegment.{UserSegment}
 use Rattle.laws.proofs.Record.{Whole}
-use Rattle.front.specs.Numbers.{call}
 
 unlike : (xs ys us : List UserSegment) → length us < length xs → same sameSegment xs us ≡ same sameSegment (xs ++ ys) us
 unlike [] ys us h = absurd (not-suc-le-zero h)

@@ -1,8 +1,9 @@
 // The calls that lines ask for. A new line of a call has an arm here.
+ghost use Rattle.session.specs.Setting.{BookSet};
 use crate::BOOK_SIZE;
 use crate::Session;
 use buffers::room;
-use front::left::Left;
+use spec::Left;
 use script::asked::Asked;
 use script::asked::Kind;
 use script::taken::BYTES_AT;
@@ -82,7 +83,9 @@ fn enter(
 }
 
 // Makes the book what a line says.
-pub fn set(book: &mut [u64; BOOK_SIZE], a: Asked) {
+pub fn set(book: &mut [u64; BOOK_SIZE], a: Asked)
+    ensures { λ _. ⌜ BookSet a (now (book .entry)) (now (book .exit)) ⌝ }
+{
     let i = a.number as usize;
     let kind = a.kind;
     match kind {

@@ -7,8 +7,7 @@ use mathlib.Core.Bool.{Bool, true, false}
 use mathlib.Core.List.{List}
 use Rattle.spec.specs.Tests.{_isnt_, _⇒_else_}
 use Rattle.spec.specs.Book.{permOf, frameCount, mapping, holders}
-use Rattle.spec.specs.Frames.{enter, sweep, join, share}
-use Rattle.book.specs.Lent.{store}
+use Rattle.spec.specs.Frames.{enter, sweep, join, share, store}
 use Rattle.laws.proofs.Share.{shares, wordFor}
 use Rattle.laws.proofs.Sweep.{later-count}
 

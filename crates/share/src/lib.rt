@@ -8,14 +8,13 @@ ghost use Prim.Native.Nat.{ℕ, _+_, _*_, _≤_, _<_};
 ghost use lib.ListN.{length};
 ghost use Rattle.spec.specs.Tests.{_isnt_};
 ghost use Rattle.spec.specs.Book.{wordOf, pageOf, permOf, frameCount, holders};
-ghost use Rattle.spec.specs.Frames.{enter, share};
-ghost use Rattle.book.specs.Lent.{store};
+ghost use Rattle.spec.specs.Frames.{enter, share, store};
 
 // Whether a word is a mapping that fork shares: of text or rodata.
 fn is_shared(w: u64) -> bool
     ensures { λ r. ⌜ r ≡ (w isnt 0 && permOf w isnt 3) ⌝ }
 {
-    (w != 0) & (w % 16 != 3)
+    (w != 0) & (book::perm_of(w) != spec::DATA)
 }
 
 // The child's mapping beside w.
@@ -23,7 +22,7 @@ fn word_for(w: u64, child: usize) -> u64
     requires { ⌜ child ≤ 16 ⌝ }
     ensures { λ r. ⌜ r ≡ wordOf (pageOf w) child (permOf w) ⌝ }
 {
-    w / 4096 * 4096 + 16 * (child as u64) + w % 16
+    book::pack(book::page_of(w), child as u64, book::perm_of(w))
 }
 
 // Frame `k` gets the child's mapping `w`, and a holder more.

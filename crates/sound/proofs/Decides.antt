@@ -2,19 +2,18 @@
 use Prim.Native.Nat.{ℕ, _+_, _-_, _*_, _/_, _%_, _<_, _≤_}
 use native.Mathlib.Omega.{arith}
 use mathlib.Core.Path.{_≡_, refl, sym, ap, subst, _∙_}
-use mathlib.Core.Bool.{Bool, true, false, not}
+use mathlib.Core.Bool.{Bool, true, false}
 use mathlib.Core.Option.{Option, none, some}
 use mathlib.Core.List.{List}
 use lib.ListN.{length, getD}
-use borrow.Author.Tests.{eqb-false, ne-eqb, not-true}
-use Rattle.spec.specs.Tests.{_is_, _isnt_, all, allBelow}
+use Rattle.spec.specs.Tests.{all}
 use Rattle.spec.specs.Book.{wordOf, pageOf, ownerOf, permOf, valid, frameCount, mapping, frameOf, permIn, bookPerm, zeroSegment, zeroProc, permAt, procAt, piecesOf}
 use Rattle.spec.specs.Numbers.{SetupOk}
 use Rattle.spec.specs.Sound.{soundBook, Word, Mappings, Sound}
 use Rattle.spec.specs.declared.Setup.{Setup}
 use Rattle.spec.specs.declared.Proc.{Proc}
 use Rattle.spec.specs.declared.Procs.{Procs}
-use Rattle.spec.proofs.Bools.{all-at, all-test, below-at, below-test, within-test}
+use Rattle.spec.proofs.Bools.{split, all-at, all-test, within-test}
 use Rattle.spec.proofs.Words.{unpack, repack, used-word}
 use Rattle.laws.proofs.Record.{Whole}
 use Rattle.laws.proofs.Lists.{by-order}
@@ -23,52 +22,29 @@ use Rattle.laws.proofs.Owned.{valid-means, valid-test}
 use Rattle.laws.proofs.Facts.{sound-facts, facts-sound, sound-between}
 use Rattle.records.specs.Records.{passes}
 use Rattle.plan.specs.Plan.{hits, rank, nth, LaidAll}
-use Rattle.table.specs.Table.{placeAt, placeWith, entry, Planned, Tabled, FramedAll, marked}
-use Rattle.sound.proofs.Counting.{count-le, Lists, counted}
+use Rattle.table.specs.Table.{placeAt, placeWith, Planned, FramedAll, Full, Marked}
 use Rattle.plan.proofs.Within.{rank-below, rank-word}
 use Rattle.lookup.proofs.Entries.{place-of}
-use Rattle.table.proofs.Pass.{with-found, with-missing, entry-none, option-some}
+use Rattle.table.proofs.Pass.{with-found, with-missing, option-some}
+use Rattle.table.proofs.Counting.{numbered, placeNumber}
 use Rattle.plan.proofs.Parts.{each-made, parts-of, place-gives}
 use Rattle.plan.proofs.Passing.{Mapped, shape-pass, pass-shape}
 use Rattle.sound.proofs.Planning.{Good, Made, base-total, rank-hits, rank-good, rank-gives, gives-rank, nth-apart, plan}
 
--- ---- places in use are as many as ranks
+-- ---- ranks whose words stand in places are no more than the places
 
--- each rank's word stands in a place, and the places' words are ranks' words, each once
-pub record Matched (b : List ℕ) (word : ℕ → ℕ) (N T : ℕ) : Type 0 where
-  pub apart : (t u : ℕ) → t < T → u < T → word t ≡ word u → t ≡ u
-  pub some : (t : ℕ) → t < T → word t ≡ 0 → ⊥
-  pub full : (t : ℕ) → t < T → placeWith b N (word t) ≡ none → ⊥
-  pub fits : (i : ℕ) → i < N → (placeAt b i ≡ 0 → ⊥) → (t : ℕ) × (t < T) × (word t ≡ placeAt b i)
-  pub once : (i j : ℕ) → i < N → j < N → (placeAt b i ≡ 0 → ⊥) → placeAt b i ≡ placeAt b j → i ≡ j
-
-pub few-matched : (b : List ℕ) (word : ℕ → ℕ) (N T : ℕ) → Matched b word N T → T ≤ N
-few-matched b word N T m = omega (arith, counted (λ k. placeAt b k isnt 0) N T place lists, count-le (λ k. placeAt b k isnt 0) N)
+pub few-matched : (b : List ℕ) (word : ℕ → ℕ) (N T : ℕ) → ((t u : ℕ) → t < T → u < T → word t ≡ word u → t ≡ u) → ((t : ℕ) → t < T → placeWith b N (word t) ≡ none → ⊥) → T ≤ N
+few-matched b word N T apart full = numbered N T place (λ t h. holds t h .0) (λ t u h l e. apart t u h l (sym (holds t h .1) ∙ ap (placeAt b) e ∙ holds u l .1))
   where
-    index : Option ℕ → ℕ
-    index none = 0
-    index (some i) = i
-
     place : ℕ → ℕ
-    place t = index (placeWith b N (word t))
+    place t = placeNumber (placeWith b N (word t))
 
     holds : (t : ℕ) → t < T → (place t < N) × (placeAt b (place t) ≡ word t)
     holds t h =
-        let o = option-some (placeWith b N (word t)) (m .full t h) in
+        let o = option-some (placeWith b N (word t)) (full t h) in
         let f = with-found b (word t) N (o .0) (o .1) in
-        let e : o .0 ≡ place t = ap index (sym (o .1)) in
+        let e : o .0 ≡ place t = ap placeNumber (sym (o .1)) in
         rw e at f
-
-    lists : Lists (λ k. placeAt b k isnt 0) N T place
-    lists = record {
-      below = λ t h. holds t h .0;
-      pass = λ t h. ap not (ne-eqb (placeAt b (place t)) 0 (λ z. m .some t h (sym (holds t h .1) ∙ z)));
-      apart = λ t u h l e. m .apart t u h l (sym (holds t h .1) ∙ ap (placeAt b) e ∙ holds u l .1);
-      onto = λ i h p.
-          let nz = eqb-false (placeAt b i) 0 (not-true _ p) in
-          let r = m .fits i h nz in
-          (r .0, r .1, sym (m .once i (place (r .0)) h (holds (r .0) (r .1) .0) nz (sym (r .2) ∙ sym (holds (r .0) (r .1) .1))));
-    }
 
 -- ---- records that a sound book goes with pass
 
@@ -94,14 +70,11 @@ module _ {setup : Setup} {ps : Procs} {tags bases : List ℕ} {total : ℕ} (m :
   abbrev N : ℕ
   N = 16 * frameCount b
 
-  abbrev Full : Type 0
-  Full = (t : ℕ) → t < getD bases 272 0 → placeWith b (16 * frameCount b) (nth tags bases t) ≡ none → ⊥
-
   abbrev Ranked : ℕ → Type 0
   Ranked w = (t : ℕ) × (t < getD bases 272 0) × (nth tags bases t ≡ w)
 
   -- what the pass finds tells that the book is sound
-  module _ (most : total ≤ 16384) (planned : Planned b tags bases (16 * frameCount b)) (framed : FramedAll b (frameCount b)) (full : Full) where
+  module _ (most : total ≤ 16384) (planned : Planned b tags bases (16 * frameCount b)) (framed : FramedAll b (frameCount b)) (full : Full b tags bases) where
     -- of a mapping
     index : (k n : ℕ) → k < frameCount b → valid n ≡ true → 16 * k + (n - 1) < 16 * frameCount b
     index k n l v = omega (arith, valid-means n v .0, valid-means n v .1)
@@ -222,7 +195,7 @@ module _ {setup : Setup} {ps : Procs} {tags bases : List ℕ} {total : ℕ} (m :
     pub framed-of : FramedAll b (frameCount b)
     framed-of k l = record { owner = λ n v nz. h .words k n l v nz .owner; beside = λ p q. h .beside k p q l; count = h .counts k l }
 
-    pub full-of : Full
+    pub full-of : Full b tags bases
     full-of t ht z =
         let w : ℕ = nth tags bases t in
         let g = rank-good m t ht in
@@ -241,22 +214,9 @@ module _ {setup : Setup} {ps : Procs} {tags bases : List ℕ} {total : ℕ} (m :
 
     -- there are no more pages than places
     pub total-of : total ≤ 16 * frameCount b
-    total-of = rw (base-total m) at (few-matched b (nth tags bases) (16 * frameCount b) (getD bases 272 0) (record {
-      apart = nth-apart m;
-      some = λ t l z. omega (arith, ap ownerOf z, rank-good m t l .owner .0);
-      full = full-of;
-      fits = word-rank;
-      once = one-place;
-    }))
+    total-of = rw (base-total m) at (few-matched b (nth tags bases) (16 * frameCount b) (getD bases 272 0) (nth-apart m) full-of)
 
--- ---- the last test, of all ranks
-
-module _ (b tags bases table : List ℕ) (tab : Tabled b tags bases table (16 * frameCount b)) where
-  full-fact : allBelow (getD bases 272 0) (marked table) ≡ true → (t : ℕ) → t < getD bases 272 0 → placeWith b (16 * frameCount b) (nth tags bases t) ≡ none → ⊥
-  full-fact e t h z = eqb-false (getD table t 0) 0 (not-true _ (below-at (getD bases 272 0) (marked table) e t h)) (tab t h ∙ ap entry z)
-
-  full-test : ((t : ℕ) → t < getD bases 272 0 → placeWith b (16 * frameCount b) (nth tags bases t) ≡ none → ⊥) → allBelow (getD bases 272 0) (marked table) ≡ true
-  full-test f = below-test (getD bases 272 0) (marked table) (λ t h. ap not (ne-eqb (getD table t 0) 0 (λ z. f t h (entry-none (placeWith b (16 * frameCount b) (nth tags bases t)) (sym (tab t h) ∙ z)))))
+-- ---- what the pass finds
 
 pub made : (setup : Setup) → SetupOk setup → (ps : Procs) → Whole ps → all (passes setup) (ps .all) ≡ true → (tags bases : List ℕ) (total : ℕ) → LaidAll ps tags bases total → Made setup ps tags bases total
 made setup ok ps w e tags bases total laid = record {
@@ -266,15 +226,11 @@ made setup ok ps w e tags bases total laid = record {
   laid = laid;
 }
 
--- what it answers decides
+-- it decides
 pub decided : {setup : Setup} (ps : Procs) (tags bases : List ℕ) (total : ℕ) → Made setup ps tags bases total → total ≤ 16384
-    → (b table : List ℕ) → Planned b tags bases (16 * frameCount b) → Tabled b tags bases table (16 * frameCount b) → FramedAll b (frameCount b) → (r : Bool) → r ≡ allBelow total (marked table)
-    → (r ≡ true → Sound setup b ps) × (Sound setup b ps → r ≡ true)
-decided ps tags bases total m most b table planned tab framed r q =
-    let d : total ≡ getD bases 272 0 = sym (base-total m) in (
-      λ x. tells m b most planned framed (full-fact b tags bases table tab (ap (λ (n : ℕ). allBelow n (marked table)) (sym d) ∙ sym q ∙ x)),
-      λ s. q ∙ ap (λ (n : ℕ). allBelow n (marked table)) d ∙ full-test b tags bases table tab (full-of m b s),
-    )
+    → (b : List ℕ) (number : ℕ) (table : List ℕ) (r : Bool) → Marked b tags bases number table r → (r ≡ true → Sound setup b ps) × (Sound setup b ps → r ≡ true)
+decided ps tags bases total m most b number table r found =
+    (λ x. tells m b most (found .planned x) (found .framed x) (found .full x), λ s. split r (λ q. q) (λ q. absurd (found .no q (planned-of m b s) (framed-of m b s) (full-of m b s))))
 
 same-answer : (a b : Bool) → (a ≡ true → b ≡ true) → (b ≡ true → a ≡ true) → a ≡ b
 same-answer true b f g = sym (f refl)

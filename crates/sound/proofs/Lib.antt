@@ -1,5 +1,4 @@
 -- Laws of the check, from the plan that is laid to the book being sound.
 pub mod Planning
-pub mod Counting
 pub mod Decides
 pub mod Lookup

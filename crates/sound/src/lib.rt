@@ -1,6 +1,7 @@
 // Refusal 2: is the book sound? Added: r9 keeps its pages in page tables of its own making, and here the book and the records are
 // lent. The answer is found in one pass over the book (crate table), against a plan of all pages that the records call for (crate plan),
-// and the pass leaves a table by which the rest of a call finds the frame of a page without the book (crate lookup).
+// and the pass leaves a table by which the rest of a call finds the frame of a page of the process that makes it, without the book
+// (crate lookup).
 
 ghost use mathlib.Core.Path.{_≡_};
 ghost use mathlib.Core.Bool.{true};
@@ -8,27 +9,27 @@ ghost use Prim.Native.Nat.{_≤_};
 ghost use lib.ListN.{length};
 ghost use Rattle.spec.specs.Numbers.{SetupOk};
 ghost use Rattle.spec.specs.Sound.{soundBook};
-ghost use Rattle.table.specs.Table.{Blank};
-ghost use Rattle.lookup.specs.Ready.{Ready};
 ghost use Rattle.sound.specs.Numbers.{soundError};
+ghost use Rattle.sound.specs.Table.{Zeros, Filled, Leaves};
 pub use lookup::frame_at;
 use spec::Procs;
 use spec::Setup;
 
-// Is the book sound? If so, `tags` and `bases` hold the plan and `table` each page's frame, for the rest of the call; if not, what they
-// hold means nothing. The table comes in empty.
+// Is the book sound? If so, `tags` and `bases` hold the plan and `table` the frame of each page of process `number`, for the rest of the
+// call; if not, what they hold means nothing, and `prepare` clears them. All three come in as zeros.
 fn is_sound(
     setup: Setup,
     book: &[u64],
     procs: Procs,
+    number: u64,
     tags: &mut [u64; 272],
     bases: &mut [u64; 273],
-    table: &mut [u16; 16384],
+    table: &mut [u16; 1024],
 ) -> bool
-    requires { ⌜ (length (now book) ≤ 17408) × (length (now tags) ≡ 272) × (length (now bases) ≡ 273) × (length (now table) ≡ 16384) × Blank (now table) ⌝ }
+    requires { ⌜ (length (now book) ≤ 17408) × Zeros (now tags) (now bases) (now table) ⌝ }
     requires { ⌜ SetupOk setup ⌝ }
     ensures { λ r. ⌜ r ≡ soundBook setup (now (book .entry)) procs ⌝ }
-    ensures { λ r. ⌜ (r ≡ true → Ready (now (book .entry)) (now (tags .exit)) (now (bases .exit)) (now (table .exit))) ⌝ }
+    ensures { λ r. ⌜ (r ≡ true → Filled (now (book .entry)) procs number (now (tags .exit)) (now (bases .exit)) (now (table .exit))) ⌝ }
 {
     if !records::records_ok(setup, procs) {
         return false;
@@ -38,29 +39,38 @@ fn is_sound(
     if places < total {
         return false;
     }
-    if !table::mark(book, tags, bases, table) {
-        return false;
-    }
-    table::all_marked(table, total as usize)
+    table::mark(book, tags, bases, table, number)
 }
 
-// 38 for the setup, 2 for a book that is not sound, or 0, with the lists for the rest of the call as above.
+// All three lists as zeros.
+fn clear(tags: &mut [u64; 272], bases: &mut [u64; 273], table: &mut [u16; 1024])
+    ensures { λ _. ⌜ Zeros (now (tags .exit)) (now (bases .exit)) (now (table .exit)) ⌝ }
+{
+    *tags = [0u64; 272];
+    *bases = [0u64; 273];
+    *table = [0u16; 1024];
+}
+
+// 38 for the setup, 2 for a book that is not sound, or 0, with the lists for the rest of the call as above. A refusal leaves zeros in
+// them.
 pub fn prepare(
     setup: Setup,
     book: &[u64],
     procs: Procs,
+    number: u64,
     tags: &mut [u64; 272],
     bases: &mut [u64; 273],
-    table: &mut [u16; 16384],
+    table: &mut [u16; 1024],
 ) -> u64
-    requires { ⌜ (length (now book) ≤ 17408) × (length (now tags) ≡ 272) × (length (now bases) ≡ 273) × (length (now table) ≡ 16384) × Blank (now table) ⌝ }
+    requires { ⌜ (length (now book) ≤ 17408) × Zeros (now tags) (now bases) (now table) ⌝ }
     ensures { λ r. ⌜ r ≡ soundError setup (now (book .entry)) procs ⌝ }
-    ensures { λ r. ⌜ (r ≡ 0 → Ready (now (book .entry)) (now (tags .exit)) (now (bases .exit)) (now (table .exit))) ⌝ }
+    ensures { λ r. ⌜ Leaves r (now (book .entry)) procs number (now (tags .exit)) (now (bases .exit)) (now (table .exit)) ⌝ }
 {
     if !setup::setup_ok(setup) {
         return spec::SETUP;
     }
-    if !is_sound(setup, book, procs, tags, bases, table) {
+    if !is_sound(setup, book, procs, number, tags, bases, table) {
+        clear(tags, bases, table);
         return spec::TORN;
     }
     0
@@ -73,6 +83,6 @@ pub fn sound_error(setup: Setup, book: &[u64], procs: Procs) -> u64
 {
     let mut tags = [0u64; 272];
     let mut bases = [0u64; 273];
-    let mut table = [0u16; 16384];
-    prepare(setup, book, procs, &mut tags, &mut bases, &mut table)
+    let mut table = [0u16; 1024];
+    prepare(setup, book, procs, 0, &mut tags, &mut bases, &mut table)
 }

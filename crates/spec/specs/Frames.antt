@@ -16,6 +16,10 @@ pub record Store : Type 0 where
   pub frames : List ℕ
   pub book : List ℕ
 
+-- lent frame bytes and book
+abbrev pub store : List ℕ → List ℕ → Store
+store frames book = record { frames = frames; book = book }
+
 -- 1: frame bytes are 4,096 a frame, book words seventeen (02, 10/13), frames 1 to 1,024
 abbrev pub sized : Store → Bool
 sized m =

@@ -40,6 +40,10 @@ pub record Call : Type 0 where
   pub number : ℕ  -- the process's; of fork the parent's
   pub ask : Ask
 
+-- a call of process n
+abbrev pub call : ℕ → Ask → Call
+call n q = record { number = n; ask = q }
+
 -- all that a call gives back but frames, book and records: its answer, and its lent buffer afterwards
 pub record Reply : Type 0 where
   pub says : Answer

@@ -11,7 +11,7 @@ use Rattle.spec.specs.Tests.{_is_, within, _⇒_else_}
 use Rattle.spec.specs.Numbers.{setupOk, pageUp, pageBytes, zeroPage}
 use Rattle.spec.specs.Name.{elem, kstrcpy}
 use Rattle.spec.specs.Book.{valid, frameOf, free, alone, dataOnly, range, segment, zeroSegment, zeroProc, lives, used, stack, piecesOf, procAt}
-use Rattle.spec.specs.Frames.{Store, sized, memOf, pagesOf, place, share, release, frameBytes, pokes}
+use Rattle.spec.specs.Frames.{Store, store, sized, memOf, pagesOf, place, share, release, frameBytes, pokes}
 use Rattle.spec.specs.Sound.{soundBook}
 use Rattle.spec.specs.Elf.{segmentsOf}
 use Rattle.spec.specs.Exec.{imageSegments, imageBss, startPieces, fileByte, argsOf, strings, stringsAt, argvAt, pointers, copyArgv}
@@ -25,6 +25,10 @@ pub record State : Type 0 where
   pub setup : Setup
   pub store : Store
   pub procs : Procs
+
+-- the same, of a setup, lent frame bytes and book, and records
+abbrev pub stateOf : Setup → List ℕ → List ℕ → Procs → State
+stateOf setup frames book procs = record { setup = setup; store = store frames book; procs = procs }
 
 -- 2: the book is sound
 abbrev pub sound : State → Bool

@@ -110,6 +110,12 @@ pub enum Answer {
     Ended(u64),
 }
 
+// The records after a call, and its answer.
+pub struct Left {
+    pub procs: Procs,
+    pub answer: Answer,
+}
+
 // What a search for a frame comes to.
 pub enum Found {
     At(usize),

@@ -12,7 +12,7 @@ use Rattle.spec.specs.Book.{free, pageCount}
 use Rattle.spec.specs.Frames.{cellIn, memOf}
 use Rattle.spec.specs.Elf.{entry}
 use Rattle.spec.specs.Exec.{imageError, startPieces, argsOf, argsError, registers}
-use Rattle.spec.specs.Machine.{Ask, start, outcome, plainly, weighStart}
+use Rattle.spec.specs.Machine.{Ask, start, outcome, plainly, weighStart, call}
 use Rattle.spec.specs.World.{State, taken, leave, Does}
 use Rattle.spec.specs.declared.Setup.{Setup}
 use Rattle.spec.specs.declared.Answer.{Answer}
@@ -22,7 +22,7 @@ use Rattle.spec.proofs.Chain.{here, past, isnt-fails, isnt-holds-through}
 use Rattle.laws.proofs.Record.{Whole}
 use Rattle.laws.proofs.Facts.{dead-frame}
 use Rattle.history.proofs.OneState.{taken-is}
-use Rattle.front.specs.Numbers.{call, beginError}
+use Rattle.front.specs.Numbers.{beginError}
 use Rattle.front.proofs.First.{Passed}
 use Rattle.front.proofs.Living.{passed-sound}
 use Rattle.front.proofs.Answers.{answer-start, refused-first, goes-on}

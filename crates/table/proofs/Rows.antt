@@ -6,7 +6,7 @@ use mathlib.Core.Path.{_≡_, refl, sym, ap, ap₂, _∙_, subst}
 use mathlib.Core.Bool.{Bool, true, false, false≢true}
 use mathlib.Core.List.{List}
 use lib.Dec.{eqb, ltb}
-use lib.ListN.{length, getD, set, length-set}
+use lib.ListN.{getD}
 use borrow.Author.Tests.{eqb-true, eqb-false, eq-eqb, ne-eqb, ltb-true, ltb-false}
 use Rattle.spec.specs.Tests.{_is_, _isnt_}
 use Rattle.spec.specs.Book.{pageOf, ownerOf, permOf, valid, frameCount, mapping, holders, countBelow}
@@ -16,8 +16,8 @@ use Rattle.spec.proofs.Counts.{none-counted}
 use Rattle.spec.proofs.Words.{repack}
 use Rattle.plan.specs.Plan.{hits, rank, Plan}
 use Rattle.rows.specs.Rows.{Free, Only}
-use Rattle.table.specs.Table.{placeAt, Planned, Tabled, Framed, FramedAll, Entered, Passes}
-use Rattle.table.proofs.Pass.{planned-free, tabled-free, planned-more, tabled-more, planned-twice}
+use Rattle.table.specs.Table.{placeAt, bitOf, Planned, Noted, BitSet, Stored, Framed, FramedAll, Entered, Passes}
+use Rattle.table.proofs.Pass.{planned-free, noted-free, planned-more, noted-more, planned-twice}
 
 valid-test : (n : ℕ) → 1 ≤ n → n ≤ 16 → valid n ≡ true
 valid-test n l h = within-test 1 17 n l (omega arith)
@@ -57,9 +57,9 @@ abbrev used : List ℕ → ℕ → ℕ → Bool
 used book k j = mapping book k (j + 1) isnt 0
 
 -- the first i places of frame k are passed
-pub record Row (book tags bases table : List ℕ) (k i base seen : ℕ) : Type 0 where
+pub record Row (book tags bases : List ℕ) (first count : ℕ) (bits table : List ℕ) (k i base seen : ℕ) : Type 0 where
   pub planned : Planned book tags bases (16 * k + i)
-  pub tabled : Tabled book tags bases table (16 * k + i)
+  pub noted : Noted book tags bases first count bits table (16 * k + i)
   pub counted : seen ≡ countBelow (used book k) i
   pub words : (n : ℕ) → 1 ≤ n → n ≤ i → ¬ (mapping book k n ≡ 0) → mapping book k n ≡ base + 16 * n
   pub low : base % 4096 / 16 ≡ 0
@@ -67,13 +67,13 @@ pub record Row (book tags bases table : List ℕ) (k i base seen : ℕ) : Type 0
   pub some : (seen ≡ 0 → ⊥) → (m : ℕ) × (1 ≤ m) × (m ≤ i) × ¬ (mapping book k m ≡ 0)
   pub few : seen ≤ i
 
-module _ (book tags bases : List ℕ) (k : ℕ) where
-  pub row-start : (table : List ℕ) → Planned book tags bases (16 * k) → Tabled book tags bases table (16 * k) → Row book tags bases table k 0 0 0
-  row-start table p t =
+module _ (book tags bases : List ℕ) (first count : ℕ) (k : ℕ) where
+  pub row-start : (bits table : List ℕ) → Planned book tags bases (16 * k) → Noted book tags bases first count bits table (16 * k) → Row book tags bases first count bits table k 0 0 0
+  row-start bits table p t =
       let z : 16 * k ≡ 16 * k + 0 = omega arith in
       record {
         planned = rw z at p;
-        tabled = rw z at t;
+        noted = rw z at t;
         counted = refl;
         words = λ n a b. absurd (omega arith);
         low = refl;
@@ -89,7 +89,7 @@ module _ (book tags bases : List ℕ) (k : ℕ) where
       let z : n - 1 + 1 ≡ n = omega arith in
       split (eqb (mapping book k n) 0) (λ x. eqb-true _ _ x) (λ x. clash (used book k (n - 1)) (rw (z, x)) q)
 
-  module _ (plan : Plan tags bases) (table : List ℕ) (i base seen : ℕ) (hi : i < 16) (row : Row book tags bases table k i base seen) where
+  module _ (plan : Plan tags bases) (bits table : List ℕ) (i base seen : ℕ) (hi : i < 16) (row : Row book tags bases first count bits table k i base seen) where
     abbrev w : ℕ
     w = mapping book k (i + 1)
 
@@ -97,12 +97,12 @@ module _ (book tags bases : List ℕ) (k : ℕ) where
     next = omega arith
 
     -- an empty place
-    pub row-free : mapping book k (i + 1) ≡ 0 → Row book tags bases table k (i + 1) base seen
+    pub row-free : mapping book k (i + 1) ≡ 0 → Row book tags bases first count bits table k (i + 1) base seen
     row-free z =
         let e : placeAt book (16 * k + i) ≡ 0 = place-is book k i hi ∙ z in
         record {
           planned = rw next at (planned-free book tags bases plan (16 * k + i) e (row .planned));
-          tabled = rw next at (tabled-free book tags bases plan (16 * k + i) table e (row .tabled));
+          noted = rw next at (noted-free book tags bases plan (16 * k + i) first count bits table e (row .noted));
           counted = row .counted ∙ sym (rw (add-one i) (rw (eq-eqb (mapping book k (i + 1)) 0 z)));
           words = λ n a b nz. row .words n a (under n b nz) nz;
           low = row .low;
@@ -120,18 +120,20 @@ module _ (book tags bases : List ℕ) (k : ℕ) where
     -- a mapping that is entered
     pub row-more : ¬ (mapping book k (i + 1) ≡ 0) → ownerOf (mapping book k (i + 1)) ≡ i + 1
         → ((seen ≡ 0 → ⊥) → (mapping book k (i + 1) - 16 * (i + 1) ≡ base) × (base % 16 ≡ 3 → ⊥))
-        → (later : List ℕ) (r : ℕ) → r < 272 → Entered tags bases table later (mapping book k (i + 1)) k r → length table ≡ 16384
-        → Row book tags bases later k (i + 1) (mapping book k (i + 1) - 16 * (i + 1)) (seen + 1)
-    row-more nz own agree later r lr en long =
+        → (bits′ later : List ℕ) (r : Bool) → r ≡ true → Entered tags bases first count bits table bits′ later (mapping book k (i + 1)) k r
+        → Row book tags bases first count bits′ later k (i + 1) (mapping book k (i + 1) - 16 * (i + 1)) (seen + 1)
+    row-more nz own agree bits′ later r lr en =
         let y = en .yes lr in
         let e = place-is book k i hi in
         let div : (16 * k + i) / 16 + 1 ≡ k + 1 = omega arith in
-        let h : hits tags bases (placeAt book (16 * k + i)) r ≡ true = rw e (y .0) in
-        let z : getD table (rank tags bases (placeAt book (16 * k + i)) r) 0 ≡ 0 = rw e (y .1) in
-        let s : later ≡ set table (rank tags bases (placeAt book (16 * k + i)) r) ((16 * k + i) / 16 + 1) = rw (e, div) (y .2) in
+        let p = y .0 in
+        let h : hits tags bases (placeAt book (16 * k + i)) p ≡ true = rw e (y .2) in
+        let z : bitOf bits (rank tags bases (placeAt book (16 * k + i)) p) ≡ 0 = rw e (y .3) in
+        let s : BitSet bits bits′ (rank tags bases (placeAt book (16 * k + i)) p) = rw e (y .4) in
+        let d : Stored first count table later (rank tags bases (placeAt book (16 * k + i)) p) ((16 * k + i) / 16 + 1) = rw (e, div) (y .5) in
         record {
-          planned = rw next at (planned-more book tags bases plan (16 * k + i) table r lr h (row .tabled) z (row .planned));
-          tabled = rw next at (rw (← s) at (tabled-more book tags bases plan (16 * k + i) table r lr h (row .tabled) long));
+          planned = rw next at (planned-more book tags bases plan (16 * k + i) first count bits table p (y .1) h (row .noted) z (row .planned));
+          noted = rw next at (noted-more book tags bases plan (16 * k + i) first count bits table p (y .1) h (row .noted) bits′ later s d);
           counted = ap (λ (x : ℕ). x + 1) (row .counted) ∙ sym (rw (add-one i) (rw (ne-eqb (mapping book k (i + 1)) 0 nz)));
           words = words;
           low = omega (arith, own);
@@ -184,19 +186,19 @@ module _ (book tags bases : List ℕ) (k : ℕ) where
           let own = all k here .owner (i + 1) v nz in
           other ne .no-data (omega (arith, own))
 
-      pub not-entered : (later : List ℕ) (r : ℕ) → r ≡ 272 → Entered tags bases table later (mapping book k (i + 1)) k r → Planned book tags bases (16 * frameCount book) → ⊥
-      not-entered later r q en p =
+      pub not-entered : (bits′ later : List ℕ) (r : Bool) → r ≡ false → Entered tags bases first count bits table bits′ later (mapping book k (i + 1)) k r → Planned book tags bases (16 * frameCount book) → ⊥
+      not-entered bits′ later r q en p =
           let e = place-is book k i hi in
           let l : 16 * k + i < 16 * frameCount book = omega arith in
           let u : placeAt book (16 * k + i) ≡ 0 → ⊥ = λ z. nz (sym e ∙ z) in
           let f = p .fits (16 * k + i) l u in
-          split (eqb (getD table (rank tags bases (placeAt book (16 * k + i)) (f .0)) 0) 0)
-          (λ x. en .no q (f .0) (f .1) (subst (λ (y : ℕ). hits tags bases y (f .0) ≡ true) e (f .2)) (subst (λ (y : ℕ). getD table (rank tags bases y (f .0)) 0 ≡ 0) e (eqb-true _ _ x)))
-          (λ x. planned-twice book tags bases plan (16 * k + i) table (f .0) (f .1) (f .2) (row .tabled) l u (eqb-false _ _ x) p)
+          split (eqb (bitOf bits (rank tags bases (placeAt book (16 * k + i)) (f .0))) 0)
+          (λ x. en .no q (f .0) (f .1) (subst (λ (y : ℕ). hits tags bases y (f .0) ≡ true) e (f .2)) (subst (λ (y : ℕ). bitOf bits (rank tags bases y (f .0)) ≡ 0) e (eqb-true _ _ x)))
+          (λ x. planned-twice book tags bases plan (16 * k + i) first count bits table (f .0) (f .1) (f .2) (row .noted) l u (eqb-false _ _ x) p)
 
   -- ---- all sixteen
 
-  module _ (table : List ℕ) (base seen : ℕ) (row : Row book tags bases table k 16 base seen) where
+  module _ (bits table : List ℕ) (base seen : ℕ) (row : Row book tags bases first count bits table k 16 base seen) where
     pub row-end : seen ≡ holders book k → Framed book k
     row-end e = record {
       owner = λ n v nz. let x = row .words n (valid-low n v) (valid-high n v) nz in omega (arith, x, row .low, valid-high n v);
@@ -228,61 +230,61 @@ module _ (book tags bases : List ℕ) (k : ℕ) where
 pub word-is : (book : List ℕ) (k i : ℕ) → getD book (17 * k + i) 0 ≡ mapping book k (i + 1)
 word-is book k i = ap (λ (x : ℕ). getD book x 0) (omega arith)
 
-pub fails : (book tags bases later : List ℕ) (k : ℕ) → (Planned book tags bases (16 * frameCount book) → FramedAll book (frameCount book) → ⊥) → Passes book tags bases later k false
-fails book tags bases later k f = record { yes = λ e. absurd (false≢true e); no = λ e. f; long = λ e. absurd (false≢true e) }
+pub fails : (book tags bases : List ℕ) (first count : ℕ) (bits′ later : List ℕ) (k : ℕ) → (Planned book tags bases (16 * frameCount book) → FramedAll book (frameCount book) → ⊥) → Passes book tags bases first count bits′ later k false
+fails book tags bases first count bits′ later k f = record { yes = λ e. absurd (false≢true e); no = λ e. f }
 
-pub passes : (book tags bases later : List ℕ) (k : ℕ) → Planned book tags bases (16 * k + 16) → Tabled book tags bases later (16 * k + 16) → Framed book k → length later ≡ 16384 → Passes book tags bases later k true
-passes book tags bases later k p t f long = record { yes = λ e. (p, t, f); no = λ e. absurd (false≢true (sym e)); long = λ e. long }
+pub passes : (book tags bases : List ℕ) (first count : ℕ) (bits′ later : List ℕ) (k : ℕ) → Planned book tags bases (16 * k + 16) → Noted book tags bases first count bits′ later (16 * k + 16) → Framed book k → Passes book tags bases first count bits′ later k true
+passes book tags bases first count bits′ later k p t f = record { yes = λ e. (p, t, f); no = λ e. absurd (false≢true (sym e)) }
 
 -- all places are passed
-pub pass-whole : (book tags bases table : List ℕ) (k base seen : ℕ) → k < frameCount book → length table ≡ 16384 → Row book tags bases table k 16 base seen → Passes book tags bases table k (seen is holders book k)
-pass-whole book tags bases table k base seen here long row =
+pub pass-whole : (book tags bases : List ℕ) (first count : ℕ) (bits table : List ℕ) (k base seen : ℕ) → k < frameCount book → Row book tags bases first count bits table k 16 base seen → Passes book tags bases first count bits table k (seen is holders book k)
+pass-whole book tags bases first count bits table k base seen here row =
     split (eqb seen (holders book k))
-    (λ q. subst (Passes book tags bases table k) (sym q) (passes book tags bases table k (row .planned) (row .tabled) (row-end book tags bases k table base seen row (eqb-true _ _ q)) long))
-    (λ q. subst (Passes book tags bases table k) (sym q) (fails book tags bases table k (λ p all. not-count book tags bases k table base seen row (eqb-false _ _ q) here all)))
+    (λ q. subst (Passes book tags bases first count bits table k) (sym q) (passes book tags bases first count bits table k (row .planned) (row .noted) (row-end book tags bases first count k bits table base seen row (eqb-true _ _ q))))
+    (λ q. subst (Passes book tags bases first count bits table k) (sym q) (fails book tags bases first count bits table k (λ p all. not-count book tags bases first count k bits table base seen row (eqb-false _ _ q) here all)))
 
-module _ (book tags bases : List ℕ) (k : ℕ) (plan : Plan tags bases) (table : List ℕ) (i base seen : ℕ) (hi : i < 16) (row : Row book tags bases table k i base seen) (w : ℕ) (ew : w ≡ mapping book k (i + 1)) where
-  pub pass-free : w ≡ 0 → Row book tags bases table k (i + 1) base seen
-  pass-free z = row-free book tags bases k plan table i base seen hi row (sym ew ∙ z)
+module _ (book tags bases : List ℕ) (first count : ℕ) (k : ℕ) (plan : Plan tags bases) (bits table : List ℕ) (i base seen : ℕ) (hi : i < 16) (row : Row book tags bases first count bits table k i base seen) (w : ℕ) (ew : w ≡ mapping book k (i + 1)) where
+  pub pass-free : w ≡ 0 → Row book tags bases first count bits table k (i + 1) base seen
+  pass-free z = row-free book tags bases first count k plan bits table i base seen hi row (sym ew ∙ z)
 
   pub pass-more : (w ≡ 0 → ⊥) → ownerOf w ≡ i + 1 → ((seen ≡ 0 → ⊥) → (w - 16 * (i + 1) ≡ base) × (base % 16 ≡ 3 → ⊥))
-      → (later : List ℕ) (r : ℕ) → r < 272 → Entered tags bases table later w k r → length table ≡ 16384 → Row book tags bases later k (i + 1) (w - 16 * (i + 1)) (seen + 1)
-  pass-more nz own agree later r lr en long =
-      subst (λ (x : ℕ). Row book tags bases later k (i + 1) (x - 16 * (i + 1)) (seen + 1)) (sym ew)
-      (row-more book tags bases k plan table i base seen hi row (λ z. nz (ew ∙ z)) (ap ownerOf (sym ew) ∙ own) (λ ne. let a = agree ne in (ap (λ (x : ℕ). x - 16 * (i + 1)) (sym ew) ∙ a .0, a .1))
-      later r lr (subst (λ (x : ℕ). Entered tags bases table later x k r) ew en) long)
+      → (bits′ later : List ℕ) (r : Bool) → r ≡ true → Entered tags bases first count bits table bits′ later w k r → Row book tags bases first count bits′ later k (i + 1) (w - 16 * (i + 1)) (seen + 1)
+  pass-more nz own agree bits′ later r lr en =
+      subst (λ (x : ℕ). Row book tags bases first count bits′ later k (i + 1) (x - 16 * (i + 1)) (seen + 1)) (sym ew)
+      (row-more book tags bases first count k plan bits table i base seen hi row (λ z. nz (ew ∙ z)) (ap ownerOf (sym ew) ∙ own) (λ ne. let a = agree ne in (ap (λ (x : ℕ). x - 16 * (i + 1)) (sym ew) ∙ a .0, a .1))
+      bits′ later r lr (subst (λ (x : ℕ). Entered tags bases first count bits table bits′ later x k r) ew en))
 
-  module _ (here : k < frameCount book) (nz : w ≡ 0 → ⊥) (later : List ℕ) where
-    pub fail-owner : (ownerOf w ≡ i + 1 → ⊥) → Passes book tags bases later k false
-    fail-owner ne = fails book tags bases later k (λ p all. not-owner book tags bases k plan table i base seen hi row all here (λ z. nz (ew ∙ z)) (λ e. ne (ap ownerOf ew ∙ e)))
+  module _ (here : k < frameCount book) (nz : w ≡ 0 → ⊥) (bits′ later : List ℕ) where
+    pub fail-owner : (ownerOf w ≡ i + 1 → ⊥) → Passes book tags bases first count bits′ later k false
+    fail-owner ne = fails book tags bases first count bits′ later k (λ p all. not-owner book tags bases first count k plan bits table i base seen hi row all here (λ z. nz (ew ∙ z)) (λ e. ne (ap ownerOf ew ∙ e)))
 
-    pub fail-base : (seen ≡ 0 → ⊥) → (w - 16 * (i + 1) ≡ base → ⊥) → Passes book tags bases later k false
-    fail-base ne out = fails book tags bases later k (λ p all. not-base book tags bases k plan table i base seen hi row all here (λ z. nz (ew ∙ z)) ne (λ e. out (ap (λ (x : ℕ). x - 16 * (i + 1)) ew ∙ e)))
+    pub fail-base : (seen ≡ 0 → ⊥) → (w - 16 * (i + 1) ≡ base → ⊥) → Passes book tags bases first count bits′ later k false
+    fail-base ne out = fails book tags bases first count bits′ later k (λ p all. not-base book tags bases first count k plan bits table i base seen hi row all here (λ z. nz (ew ∙ z)) ne (λ e. out (ap (λ (x : ℕ). x - 16 * (i + 1)) ew ∙ e)))
 
-    pub fail-data : (seen ≡ 0 → ⊥) → (w - 16 * (i + 1)) % 16 ≡ 3 → Passes book tags bases later k false
-    fail-data ne z = fails book tags bases later k (λ p all. not-data book tags bases k plan table i base seen hi row all here (λ y. nz (ew ∙ y)) ne (ap (λ (x : ℕ). (x - 16 * (i + 1)) % 16) (sym ew) ∙ z))
+    pub fail-data : (seen ≡ 0 → ⊥) → (w - 16 * (i + 1)) % 16 ≡ 3 → Passes book tags bases first count bits′ later k false
+    fail-data ne z = fails book tags bases first count bits′ later k (λ p all. not-data book tags bases first count k plan bits table i base seen hi row all here (λ y. nz (ew ∙ y)) ne (ap (λ (x : ℕ). (x - 16 * (i + 1)) % 16) (sym ew) ∙ z))
 
-    pub fail-entered : (r : ℕ) → r ≡ 272 → Entered tags bases table later w k r → Passes book tags bases later k false
+    pub fail-entered : (r : Bool) → r ≡ false → Entered tags bases first count bits table bits′ later w k r → Passes book tags bases first count bits′ later k false
     fail-entered r q en =
-        fails book tags bases later k (λ p all. not-entered book tags bases k plan table i base seen hi row all here (λ z. nz (ew ∙ z)) later r q (subst (λ (x : ℕ). Entered tags bases table later x k r) ew en) p)
+        fails book tags bases first count bits′ later k (λ p all. not-entered book tags bases first count k plan bits table i base seen hi row all here (λ z. nz (ew ∙ z)) bits′ later r q (subst (λ (x : ℕ). Entered tags bases first count bits table bits′ later x k r) ew en) p)
 
 -- ---- a frame decided at once
 
 -- places that are 0, d of them
-rows-free : (book tags bases : List ℕ) (k : ℕ) → Plan tags bases → (table : List ℕ) (base seen d i : ℕ) → i + d ≤ 16 → ((j : ℕ) → i ≤ j → j < i + d → mapping book k (j + 1) ≡ 0)
-    → Row book tags bases table k i base seen → Row book tags bases table k (i + d) base seen
-rows-free book tags bases k plan table base seen zero i h z row = let e : i ≡ i + 0 = omega arith in rw e at row
-rows-free book tags bases k plan table base seen (suc d) i h z row =
+rows-free : (book tags bases : List ℕ) (first count : ℕ) (k : ℕ) → Plan tags bases → (bits table : List ℕ) (base seen d i : ℕ) → i + d ≤ 16 → ((j : ℕ) → i ≤ j → j < i + d → mapping book k (j + 1) ≡ 0)
+    → Row book tags bases first count bits table k i base seen → Row book tags bases first count bits table k (i + d) base seen
+rows-free book tags bases first count k plan bits table base seen zero i h z row = let e : i ≡ i + 0 = omega arith in rw e at row
+rows-free book tags bases first count k plan bits table base seen (suc d) i h z row =
     let e : i + 1 + d ≡ i + suc d = omega arith in
-    rw e at (rows-free book tags bases k plan table base seen d (i + 1) (omega arith) (λ j a b. z j (omega arith) (omega arith))
-    (row-free book tags bases k plan table i base seen (omega arith) row (z i (omega arith) (omega arith))))
+    rw e at (rows-free book tags bases first count k plan bits table base seen d (i + 1) (omega arith) (λ j a b. z j (omega arith) (omega arith))
+    (row-free book tags bases first count k plan bits table i base seen (omega arith) row (z i (omega arith) (omega arith))))
 
-module _ (book tags bases table : List ℕ) (k : ℕ) (plan : Plan tags bases) (p : Planned book tags bases (16 * k)) (t : Tabled book tags bases table (16 * k)) (long : length table ≡ 16384) where
+module _ (book tags bases : List ℕ) (first count : ℕ) (bits table : List ℕ) (k : ℕ) (plan : Plan tags bases) (p : Planned book tags bases (16 * k)) (t : Noted book tags bases first count bits table (16 * k)) where
   -- no holder, and no mapping
-  pub pass-none : Free book k → Passes book tags bases table k true
+  pub pass-none : Free book k → Passes book tags bases first count bits table k true
   pass-none f =
-      let row = rows-free book tags bases k plan table 0 0 16 0 (omega arith) (λ j a b. sym (word-is book k j) ∙ f .places j b) (row-start book tags bases k table p t) in
-      passes book tags bases table k (row .planned) (row .tabled) (row-end book tags bases k table 0 0 row (sym (f .count))) long
+      let row = rows-free book tags bases first count k plan bits table 0 0 16 0 (omega arith) (λ j a b. sym (word-is book k j) ∙ f .places j b) (row-start book tags bases first count k bits table p t) in
+      passes book tags bases first count bits table k (row .planned) (row .noted) (row-end book tags bases first count k bits table 0 0 row (sym (f .count)))
 
   -- one, in its owner's place
   module _ (w : ℕ) (o : Only book k w) (here : k < frameCount book) where
@@ -299,24 +301,23 @@ module _ (book tags bases table : List ℕ) (k : ℕ) (plan : Plan tags bases) (
     others : (j : ℕ) → j < 16 → (j ≡ o .place → ⊥) → mapping book k (j + 1) ≡ 0
     others j l ne = sym (word-is book k j) ∙ o .rest j l ne
 
-    before : Row book tags bases table k (o .place) 0 0
+    before : Row book tags bases first count bits table k (o .place) 0 0
     before =
         let z : 0 + o .place ≡ o .place = omega arith in
-        rw z at (rows-free book tags bases k plan table 0 0 (o .place) 0 (omega (arith, o .low)) (λ j a b. others j (omega (arith, o .low)) (λ e. omega arith)) (row-start book tags bases k table p t))
+        rw z at (rows-free book tags bases first count k plan bits table 0 0 (o .place) 0 (omega (arith, o .low)) (λ j a b. others j (omega (arith, o .low)) (λ e. omega arith)) (row-start book tags bases first count k bits table p t))
 
-    pub pass-one : (later : List ℕ) (r : ℕ) → Entered tags bases table later w k r → Passes book tags bases later k (r isnt 272)
-    pass-one later r en =
-        split (eqb r 272)
-        (λ q. subst (Passes book tags bases later k) (sym (rw q refl)) (refused (eqb-true r 272 q)))
-        (λ q. subst (Passes book tags bases later k) (sym (rw q refl)) (taken (eqb-false r 272 q)))
+    pub pass-one : (bits′ later : List ℕ) (r : Bool) → Entered tags bases first count bits table bits′ later w k r → Passes book tags bases first count bits′ later k r
+    pass-one bits′ later r en =
+        split r
+        (λ q. subst (Passes book tags bases first count bits′ later k) (sym q) (taken q))
+        (λ q. subst (Passes book tags bases first count bits′ later k) (sym q) (refused q))
       where
-        refused : r ≡ 272 → Passes book tags bases later k false
-        refused e = fails book tags bases later k (λ f all. not-entered book tags bases k plan table (o .place) 0 0 hi before all here (λ y. nz (ew ∙ y)) later r e (subst (λ (x : ℕ). Entered tags bases table later x k r) ew en) f)
+        refused : r ≡ false → Passes book tags bases first count bits′ later k false
+        refused e = fails book tags bases first count bits′ later k (λ f all. not-entered book tags bases first count k plan bits table (o .place) 0 0 hi before all here (λ y. nz (ew ∙ y)) bits′ later r e (subst (λ (x : ℕ). Entered tags bases first count bits table bits′ later x k r) ew en) f)
 
-        taken : (r ≡ 272 → ⊥) → Passes book tags bases later k true
-        taken ne =
-            let lr : r < 272 = omega (arith, en .within) in
-            let row = pass-more book tags bases k plan table (o .place) 0 0 hi before w ew nz (o .owner) (λ d. absurd (d refl)) later r lr en long in
+        taken : r ≡ true → Passes book tags bases first count bits′ later k true
+        taken lr =
+            let row = pass-more book tags bases first count k plan bits table (o .place) 0 0 hi before w ew nz (o .owner) (λ d. absurd (d refl)) bits′ later r lr en in
             let z : o .place + 1 + (15 - o .place) ≡ 16 = omega (arith, o .low) in
-            let all = rw z at (rows-free book tags bases k plan later (w - 16 * (o .place + 1)) 1 (15 - o .place) (o .place + 1) (omega (arith, o .low)) (λ j a b. others j (omega (arith, o .low)) (λ e. omega arith)) row) in
-            passes book tags bases later k (all .planned) (all .tabled) (row-end book tags bases k later _ 1 all (sym (o .count))) (ap length (en .yes lr .2) ∙ simp length-set long)
+            let all = rw z at (rows-free book tags bases first count k plan bits′ later (w - 16 * (o .place + 1)) 1 (15 - o .place) (o .place + 1) (omega (arith, o .low)) (λ j a b. others j (omega (arith, o .low)) (λ e. omega arith)) row) in
+            passes book tags bases first count bits′ later k (all .planned) (all .noted) (row-end book tags bases first count k bits′ later _ 1 all (sym (o .count)))

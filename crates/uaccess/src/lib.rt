@@ -9,10 +9,9 @@ ghost use Prim.Native.Nat.{_*_, _≤_};
 ghost use lib.ListN.{length};
 ghost use Rattle.spec.specs.Numbers.{SetupOk};
 ghost use Rattle.spec.specs.Book.{frameCount};
-ghost use Rattle.spec.specs.Frames.{memOf};
+ghost use Rattle.spec.specs.Frames.{memOf, store};
 ghost use Rattle.spec.specs.Access.{copyStr};
 ghost use Rattle.sound.specs.Table.{Ready};
-ghost use Rattle.book.specs.Lent.{store};
 ghost use Rattle.uaccess.specs.Strings.{copied};
 pub use copies::read_user;
 pub use copies::write_user;
@@ -34,12 +33,12 @@ pub fn try_copy_str_from_user(
     book: &[u64],
     tags: &[u64; 272],
     bases: &[u64; 273],
-    table: &[u16; 16384],
+    table: &[u16; 1024],
     number: u64,
     dst: &mut [u8],
     src: u64,
 ) -> Str
-    requires { ⌜ (length (now frames) ≡ 4096 * frameCount (now book)) × Ready (now book) (now tags) (now bases) (now table) × (1 ≤ number) × (number ≤ 16) ⌝ }
+    requires { ⌜ (length (now frames) ≡ 4096 * frameCount (now book)) × Ready (now book) number (now tags) (now bases) (now table) × (1 ≤ number) × (number ≤ 16) ⌝ }
     requires { ⌜ SetupOk setup ⌝ }
     ensures { λ r. ⌜ copied (r .whole) (r .size) (now (dst .exit)) ≡ copyStr setup (memOf (store (now (frames .entry)) (now (book .entry))) number) (now (dst .entry)) src ⌝ }
 {

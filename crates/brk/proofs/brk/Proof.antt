@@ -7,8 +7,8 @@ use denote.Ref.{now}
 use borrow.Author.Needs.{needs}
 use Rattle.spec.specs.Book.{free}
 use Rattle.spec.specs.Segment.{Break, ibrk}
-use Rattle.spec.specs.Machine.{break, outcomeOf, plainly, weighBreak}
-use Rattle.spec.specs.World.{State, taken, view, brk, leave, Does}
+use Rattle.spec.specs.Machine.{break, outcomeOf, plainly, weighBreak, call}
+use Rattle.spec.specs.World.{State, taken, view, brk, leave, Does, stateOf}
 use Rattle.spec.specs.declared.Proc.{Proc}
 use Rattle.spec.specs.declared.Answer.{Answer}
 use Rattle.spec.proofs.Setups.{setup-means}
@@ -16,7 +16,6 @@ use Rattle.laws.proofs.Record.{Whole}
 use Rattle.history.proofs.Accepted.{Moves, ibrk-moves}
 use Rattle.records.proofs.Whole.{whole-procs}
 use Rattle.segment.specs.Rule.{breakOf}
-use Rattle.front.specs.Numbers.{stateOf, call}
 use Rattle.front.proofs.First.{Passed, plain-none, sizes-words}
 use Rattle.front.proofs.Answers.{plain-refused, plain-goes}
 use Rattle.front.proofs.Living.{living-shape}

@@ -4,11 +4,10 @@ use native.Mathlib.Omega.{arith}
 use mathlib.Core.Path.{sym, ap, _∙_}
 use denote.Ref.{now}
 use borrow.Author.Needs.{needs}
-use Rattle.spec.specs.World.{setProc, brk}
+use Rattle.spec.specs.World.{setProc, brk, stateOf}
 use Rattle.spec.specs.declared.Proc.{Proc}
 use Rattle.spec.specs.declared.VirtRange.{VirtRange}
 use Rattle.spec.proofs.Bools.{within-means}
-use Rattle.front.specs.Numbers.{stateOf}
 use Rattle.front.proofs.States.{state-is}
 use Rattle.brk.proofs.move_break.Statement.{statement}
 use Rattle.brk.proofs.move_break.Tie as tie

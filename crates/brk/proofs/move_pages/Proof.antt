@@ -6,9 +6,8 @@ use borrow.Author.Needs.{needs}
 use mathlib.Core.List.{[], _∷_}
 use Rattle.spec.specs.Numbers.{zeroPage}
 use Rattle.spec.specs.Book.{segment}
-use Rattle.spec.specs.Frames.{Store, pagesOf, place}
+use Rattle.spec.specs.Frames.{Store, pagesOf, place, store}
 use Rattle.spec.specs.declared.VirtRange.{VirtRange}
-use Rattle.book.specs.Lent.{store}
 use Rattle.brk.proofs.Moved.{grows-free, shrinks-place}
 use Rattle.brk.proofs.move_pages.Statement.{statement}
 use Rattle.brk.proofs.move_pages.Tie as tie

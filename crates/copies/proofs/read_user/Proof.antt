@@ -7,10 +7,9 @@ use lib.ListN.{length}
 use denote.Ref.{now}
 use borrow.Rule.Slice.PartMut.{mid-len}
 use Rattle.spec.specs.Numbers.{maxTop}
-use Rattle.spec.specs.Frames.{Mem, memOf}
+use Rattle.spec.specs.Frames.{Mem, memOf, store}
 use Rattle.spec.specs.Access.{byteOf, bytesAt}
 use Rattle.laws.proofs.Contents.{length-bytes}
-use Rattle.book.specs.Lent.{store}
 use Rattle.ranges.proofs.Ranges.{range-cell}
 use Rattle.copies.proofs.Copies.{read-turn}
 use Rattle.copies.proofs.read_user.Statement.{statement}

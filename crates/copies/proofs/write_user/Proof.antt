@@ -8,8 +8,7 @@ use lib.Seq.{take-all}
 use denote.Ref.{now}
 use borrow.Rule.Slice.PartMut.{mid-len}
 use Rattle.spec.specs.Numbers.{maxTop}
-use Rattle.spec.specs.Frames.{memOf, pokes}
-use Rattle.book.specs.Lent.{store}
+use Rattle.spec.specs.Frames.{memOf, pokes, store}
 use Rattle.ranges.proofs.Ranges.{range-cell}
 use Rattle.copies.proofs.Copies.{write-turn}
 use Rattle.copies.proofs.write_user.Statement.{statement}

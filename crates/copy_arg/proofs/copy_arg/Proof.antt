@@ -1,19 +1,18 @@
 -- `copy_arg::copy_arg` meets its contract: the string is read behind the others, and is weighed before it gets its NUL.
 use Prim.Native.Nat.{ℕ, _+_, _≤_}
 use native.Mathlib.Omega.{arith}
-use mathlib.Core.Path.{_≡_, sym, _∙_}
+use mathlib.Core.Path.{_≡_, ap, _∙_}
 use mathlib.Core.List.{List}
 use denote.Ref.{now}
-use lib.ListN.{length}
+use lib.ListN.{length, replicate}
 use borrow.Author.Needs.{needs}
 use borrow.Author.Tests.{ltb-false}
 use Rattle.spec.specs.Tests.{_is_}
 use Rattle.spec.specs.Numbers.{argLimit}
-use Rattle.spec.specs.Frames.{Mem, memOf}
+use Rattle.spec.specs.Frames.{Mem, memOf, store}
 use Rattle.spec.specs.Access.{Str, copyStr}
 use Rattle.spec.specs.Exec.{argBuffer, stackSize}
 use Rattle.spec.proofs.Bools.{neither}
-use Rattle.book.specs.Lent.{store}
 use Rattle.args.proofs.Saturated.{saturated-fits}
 use Rattle.uaccess.specs.declared.Str.{Str as Held}
 use Rattle.copy_arg.specs.Strings.{Told}
@@ -41,6 +40,10 @@ module _ (c : tie.After-read-string) where
 
   told : Told (argLimit (start .args .setup)) string (start .args .used) (now (start .args .buf)) read after
   told = c .read-string .ensures
+
+  -- zeros over what it leaves
+  zeros : _≡_ {A = List ℕ} (replicate (length after) 0) (replicate (length (now (start .args .buf))) 0)
+  zeros = ap (λ (n : ℕ). replicate n 0) (c .read-string .kept .1 .1 .1 .1 .1 .1 .1 .1 .0)
 
   most : read .size ≤ argLimit (start .args .setup)
   most = omega (arith, told .size, string-most (start .args .setup) memory (start .args .s))
@@ -77,21 +80,32 @@ add-nargs c = search needs
 stack-size-requires : tie.Need-stack-size-requires
 stack-size-requires c κs = search needs
 
+zero-requires : tie.Need-zero-requires
+zero-requires c κs = search needs
+
 same-length : tie.Need-same-length
 same-length c = search needs
 
 returns : tie.Need-returns
 returns c =
-    let w = c .before .before in
-    added-bad (s w .args .setup) (string (d w)) (s w .args .used) (s w .args .count) (now (s w .args .buf)) (after (d w)) (read (d w)) (told (d w)) (c .if1 .taken)
+    let z = c .before .before in
+    let w = z .before .before .before .before in
+    added-bad (s w .args .setup) (string (d w)) (s w .args .used) (s w .args .count) (now (s w .args .buf)) (after (d w)) (read (d w)) (told (d w)) (z .before .before .if1 .taken)
+    _ (z .zero .ensures ∙ zeros (d w))
+
+zero-requires-2 : tie.Need-zero-requires-2
+zero-requires-2 c κs = search needs
 
 same-length-2 : tie.Need-same-length-2
 same-length-2 c = search needs
 
 returns-2 : tie.Need-returns-2
 returns-2 c =
-    let w = c .before .before .before in
-    added-over (s w .args .setup) (string (d w)) (s w .args .used) (s w .args .count) (now (s w .args .buf)) (after (d w)) (read (d w)) (told (d w)) (c .before .if1 .left) (rw (weighed w) at (c .if2 .taken))
+    let z = c .before .before in
+    let i = z .before .before in
+    let w = i .before .before .before in
+    added-over (s w .args .setup) (string (d w)) (s w .args .used) (s w .args .count) (now (s w .args .buf)) (after (d w)) (read (d w)) (told (d w)) (i .before .if1 .left) (rw (weighed w) at (i .if2 .taken))
+    _ (z .zero2 .ensures ∙ zeros (d w))
 
 add-end : tie.Need-add-end
 add-end c = let w = c .before .before .before in omega (arith, within c, s w .pre .1 .2)
@@ -118,8 +132,10 @@ copy-arg-spec =
     add-strings-2
     add-nargs
     stack-size-requires
+    zero-requires
     same-length
     returns
+    zero-requires-2
     same-length-2
     returns-2
     add-end

@@ -1,6 +1,6 @@
 -- `copy_arg::read_string` meets its contract: the definition's buffer is the room behind the bytes so far and, where that is full, as many
 -- bytes as those are.
-use mathlib.Core.Path.{_≡_, sym, _∙_}
+use mathlib.Core.Path.{_≡_, sym}
 use Prim.Native.Nat.{ℕ, _+_, _-_, _≤_, _<_}
 use native.Mathlib.Omega.{arith}
 use mathlib.Core.List.{List}
@@ -8,11 +8,10 @@ use denote.Ref.{now}
 use lib.ListN.{length, take}
 use lib.Seq.{length-take-le}
 use borrow.Author.Needs.{needs}
-use borrow.Rule.Slice.PartMut.{midOf, putMid, mid-len, same-len-mid}
+use borrow.Rule.Slice.PartMut.{midOf, putMid, same-len-mid}
 use Rattle.spec.specs.Numbers.{argLimit}
-use Rattle.spec.specs.Frames.{Mem, memOf}
+use Rattle.spec.specs.Frames.{Mem, memOf, store}
 use Rattle.spec.specs.Access.{copyStr}
-use Rattle.book.specs.Lent.{store}
 use Rattle.uaccess.specs.Strings.{copied}
 use Rattle.uaccess.specs.declared.Str.{Str}
 use Rattle.copy_arg.proofs.Buffered.{copied-most, told-short, told-low, told-full}

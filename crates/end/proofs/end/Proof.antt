@@ -4,7 +4,7 @@ use denote.Ref.{now}
 use borrow.Author.Needs.{needs}
 use Rattle.spec.specs.Machine.{end, plainly}
 use Rattle.spec.specs.declared.Answer.the-variants.{Done}
-use Rattle.front.specs.Numbers.{stateOf}
+use Rattle.spec.specs.World.{stateOf}
 use Rattle.front.proofs.First.{plain-none}
 use Rattle.front.proofs.Answers.{plain-refused, plain-goes}
 use Rattle.end.proofs.end.Statement.{statement}

@@ -10,7 +10,7 @@ use lib.ListN.{length}
 use borrow.Author.Needs.{needs}
 use borrow.Author.Tests.{lt-ltb, le-ltb}
 use Rattle.spec.specs.Book.{frameCount, countBelow, isFree, free, alone, pageCount}
-use Rattle.spec.specs.Frames.{Store, Mem, memOf}
+use Rattle.spec.specs.Frames.{Store, Mem, memOf, store}
 use Rattle.spec.specs.Sound.{Mappings}
 use Rattle.spec.specs.Exec.{startPieces}
 use Rattle.spec.specs.declared.Answer.the-variants.{Regs}
@@ -18,7 +18,6 @@ use Rattle.spec.proofs.Bools.{split}
 use Rattle.spec.proofs.Chain.{here, past}
 use Rattle.laws.proofs.Owned.{valid-means}
 use Rattle.laws.proofs.Release.{release-length, release-count, mappings-release, mem-release-own, free-release-own}
-use Rattle.book.specs.Lent.{store}
 use Rattle.exec.specs.declared.Plan.{Plan}
 use Rattle.exec.proofs.Planned.{plan-accepted}
 use Rattle.install.specs.Installing.{Installable, installed}

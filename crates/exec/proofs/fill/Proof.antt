@@ -12,8 +12,6 @@ use Rattle.spec.specs.Elf.{segmentsOf}
 use Rattle.spec.specs.Exec.{imageSegments, kept}
 use Rattle.spec.specs.declared.UserSegment.{UserSegment}
 use Rattle.spec.specs.declared.VirtRange.{VirtRange}
-use Rattle.elf.proofs.Image.{says-fields}
-use Rattle.elf.proofs.Ahead.{parsed-zero}
 use Rattle.recorded.specs.Pages.{recorded}
 use Rattle.recorded.specs.declared.Recorded.{Recorded}
 use Rattle.exec.proofs.Planned.{plan-many, plan-yes, bss-low, all-pages, first-ones, with-stack, same-plan}
@@ -25,7 +23,7 @@ low : (c : tie.Start) → c .args .bss .start ≤ 2 ^ 64 - 4096
 low c =
     let image = now (c .args .image) in
     let setup = c .args .setup in
-    omega (arith, c .pre .1 .1 .1, bss-low setup image (c .pre .1 .1 .1) (parsed-zero image (c .args .h) (c .pre .0)) (c .pre .1 .0), ap (λ (b : VirtRange). b .start) (c .pre .1 .1 .0))
+    omega (arith, c .pre .1 .1 .1, bss-low setup image (c .pre .1 .1 .1) (c .pre .0) (c .pre .1 .0), ap (λ (b : VirtRange). b .start) (c .pre .1 .1 .0))
 
 segments-requires : tie.Need-segments-requires
 segments-requires c κs = (c .before .pre .0, low (c .before))
@@ -45,29 +43,29 @@ returns c =
     let image = now (p .args .image) in
     let setup = p .args .setup in
     c .refused .ensures
-    ∙ plan-many setup image (parsed-zero image (p .args .h) (p .pre .0)) (p .pre .1 .0) (omega (arith, many (c .before .before .before), c .before .if1 .taken))
+    ∙ plan-many setup image (p .pre .0) (p .pre .1 .0) (omega (arith, many (c .before .before .before), c .before .if1 .taken))
 
 page-up-requires : tie.Need-page-up-requires
 page-up-requires c κs = omega (arith, low (c .before .before .before .before))
 
 returns-2 : tie.Need-returns-2
 returns-2 c =
-    let p = c .before .before .before .before .before .before .before .before in
+    let p = c .before .before .before .before .before .before .before .before .before in
     let image = now (p .args .image) in
     let setup = p .args .setup in
-    let s = c .before .before .before .before .before .before in
+    let s = c .before .before .before .before .before .before .before in
     let us = imageSegments image in
-    let few : length us ≤ 15 = omega (arith, many s, c .before .before .before .before .if1 .left) in
-    let first = c .before .before .page-count .ensures .0 ∙ ap (λ (r : Recorded). pageCount (take (r .count) (r .segments))) (whole s) ∙ ap pageCount (first-ones setup us few) in
-    let behind = c .before .pages .ensures .0 ∙ ap (λ (x : ℕ). (p .args .bss .end - x) / 4096) (c .before .before .before .page-up .ensures)
+    let few : length us ≤ 15 = omega (arith, many s, c .before .before .before .before .before .if1 .left) in
+    let first = c .before .before .before .page-count .ensures .0 ∙ ap (λ (r : Recorded). pageCount (take (r .count) (r .segments))) (whole s) ∙ ap pageCount (first-ones setup us few) in
+    let behind = c .before .before .pages .ensures .0 ∙ ap (λ (x : ℕ). (p .args .bss .end - x) / 4096) (c .before .before .before .before .page-up .ensures)
     ∙ ap (λ (b : VirtRange). (b .end - pageUp (b .start)) / 4096) (p .pre .1 .1 .0) in
     same-plan _ _ _ _ _ _ _ _ _ _
-    (says-fields image (p .args .h) (p .pre .0) .0)
-    (ap₂ (λ (r : Recorded) (g : UserSegment). set (r .segments) (r .count) g) (whole s) (c .stack .ensures) ∙ with-stack setup us few)
+    (c .entry-of .ensures)
+    (ap₂ (λ (r : Recorded) (g : UserSegment). set (r .segments) (r .count) g) (whole s) (c .before .stack .ensures) ∙ with-stack setup us few)
     (many s)
     (p .pre .1 .1 .0)
     (ap₂ (λ (a b : ℕ). a + b + setup .ustksize / 4096) first behind ∙ sym (all-pages setup image (p .pre .1 .1 .1)))
-    ∙ sym (plan-yes setup image (parsed-zero image (p .args .h) (p .pre .0)) (p .pre .1 .0) few)
+    ∙ sym (plan-yes setup image (p .pre .0) (p .pre .1 .0) few)
 
 pub fill-spec : {M : Type 1} → statement M
 fill-spec =
@@ -82,6 +80,7 @@ fill-spec =
     (λ c. search needs)
     (λ c. search needs)
     (λ c. search needs)
+    (λ c κs. search needs)
     (λ c. search needs)
     (λ c. search needs)
     returns-2)

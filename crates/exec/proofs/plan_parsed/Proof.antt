@@ -1,10 +1,9 @@
 -- `exec::plan_parsed` meets its contract: the layout is refused, or gives the image's bss.
 -- Assumes nothing.
-use mathlib.Core.Path.{_≡_, sym, _∙_}
+use mathlib.Core.Path.{sym, _∙_}
 use denote.Ref.{now}
 use borrow.Author.Needs.{needs}
 use Rattle.spec.specs.Elf.{segmentsOf}
-use Rattle.elf.proofs.Ahead.{parsed-zero}
 use Rattle.layout.proofs.Fitted.{layout-no, layout-yes}
 use Rattle.exec.proofs.Planned.{plan-layout}
 use Rattle.exec.proofs.plan_parsed.Statement.{statement}
@@ -22,7 +21,7 @@ returns c =
     let image = now (p .args .image) in
     let setup = p .args .setup in
     c .refused .ensures
-    ∙ plan-layout setup image (parsed-zero image (p .args .h) (p .pre .0)) (layout-no setup (segmentsOf image) (sym (c .before .before .before .layout .ensures) ∙ c .before .enum-told .given .1))
+    ∙ plan-layout setup image (p .pre .0) (layout-no setup (segmentsOf image) (sym (c .before .before .before .layout .ensures) ∙ c .before .enum-told .given .1))
 
 pub plan-parsed-spec : {M : Type 1} → statement M
 plan-parsed-spec =

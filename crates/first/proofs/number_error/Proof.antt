@@ -1,12 +1,11 @@
--- `number_error` meets its contract: its lists are as long as their types say, and the table is empty.
-use mathlib.Core.Path.{refl}
+-- `number_error` meets its contract: its lists are zeros.
 use borrow.Author.Needs.{needs}
-use Rattle.sound.proofs.Lookup.{blank-zeros}
+use Rattle.sound.proofs.Lookup.{made-zeros}
 use Rattle.first.proofs.number_error.Statement.{statement}
 use Rattle.first.proofs.number_error.Tie as tie
 
 number-ready-requires : tie.Need-number-ready-requires
-number-ready-requires c κs = (refl, refl, refl, blank-zeros 16384)
+number-ready-requires c κs = made-zeros
 
 returns : tie.Need-returns
 returns c = search needs

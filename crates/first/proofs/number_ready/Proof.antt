@@ -5,12 +5,12 @@ use mathlib.Core.Bool.{Bool, _&&_}
 use denote.Ref.{now}
 use borrow.Author.Needs.{needs}
 use borrow.Author.Tests.{not-false}
-use Rattle.spec.specs.Frames.{sized}
-use Rattle.spec.specs.World.{State}
+use Rattle.spec.specs.Frames.{sized, store}
+use Rattle.spec.specs.World.{State, stateOf}
 use Rattle.spec.proofs.Bools.{both}
-use Rattle.book.specs.Lent.{store}
-use Rattle.first.specs.Numbers.{stateOf, numberError}
+use Rattle.first.specs.Numbers.{numberError}
 use Rattle.first.proofs.First.{given, further, sound-given, sound-further, sizes-words}
+use Rattle.sound.proofs.Lookup.{left-zeros, left-filled, filled-of}
 use Rattle.first.proofs.number_ready.Statement.{statement}
 use Rattle.first.proofs.number_ready.Tie as tie
 
@@ -28,7 +28,7 @@ sizes-ok-requires c κs = search needs
 
 returns : tie.Need-returns
 unfolding numberError
-returns c = (given _ _ 1 _ (sizes-is (c .before)) (c .if1 .taken), λ z. absurd (omega arith))
+returns c = (given _ _ 1 _ (sizes-is (c .before)) (c .if1 .taken), left-zeros 1 refl (c .before .before .before .before .pre))
 
 prepare-requires : tie.Need-prepare-requires
 prepare-requires c κs =
@@ -36,13 +36,13 @@ prepare-requires c κs =
     let a = d .before .before .before .before in
     let s = sym (d .before .sizes-ok .ensures) ∙ both (d .before .sizes-ok .result) (a .args .fits) (not-false _ (d .if1 .left)) .0 in
     let z = sizes-words (now (a .args .frames)) (now (a .args .book)) s in
-    (omega (arith, z .2, z .3), a .pre .0, a .pre .1, a .pre .2, a .pre .3)
+    (omega (arith, z .2, z .3), a .pre)
 
 returns-2 : tie.Need-returns-2
 unfolding numberError
 returns-2 c =
     let d = c .before .before .before .before .before in
-    (further _ _ 1 _ _ (sizes-is (d .before)) (d .if1 .left) (sound-given (state (d .before .before .before .before)) _ _ (c .before .prepare .ensures .0) (c .if2 .taken)), λ z. absurd (c .if2 .taken z))
+    (further _ _ 1 _ _ (sizes-is (d .before)) (d .if1 .left) (sound-given (state (d .before .before .before .before)) _ _ (c .before .prepare .ensures .0) (c .if2 .taken)), c .before .prepare .ensures .1)
 
 is-number-requires : tie.Need-is-number-requires
 is-number-requires c κs = search needs
@@ -54,7 +54,7 @@ returns-3 c =
     let d = p .before .before .before .before .before in (
       further _ _ 1 _ 3 (sizes-is (d .before)) (d .if1 .left)
           (sound-further (state (d .before .before .before .before)) _ _ (p .before .prepare .ensures .0) 3 (p .if2 .left) (given _ _ 3 0 (c .before .is-number .ensures) (c .if3 .taken))),
-      λ z. absurd (omega arith),
+      left-filled 3 refl (filled-of (p .before .prepare .ensures .1) (p .if2 .left)),
     )
 
 returns-4 : tie.Need-returns-4
@@ -64,7 +64,7 @@ returns-4 c =
     let d = p .before .before .before .before .before in (
       further _ _ 1 _ 0 (sizes-is (d .before)) (d .if1 .left)
           (sound-further (state (d .before .before .before .before)) _ _ (p .before .prepare .ensures .0) 0 (p .if2 .left) (further _ _ 3 0 0 (c .before .is-number .ensures) (c .if3 .left) refl)),
-      λ z. p .before .prepare .ensures .1 (p .if2 .left),
+      left-filled 0 refl (filled-of (p .before .prepare .ensures .1) (p .if2 .left)),
     )
 
 pub number-ready-spec : {M : Type 1} → statement M

@@ -10,17 +10,15 @@ use lib.Seq.{take-all}
 use borrow.Author.Needs.{needs}
 use Rattle.spec.specs.Book.{frameCount, zeroSegment, bssSegment, procAt, frameOf, dataOnly}
 use Rattle.spec.specs.Sound.{Sound, Shape}
-use Rattle.spec.specs.Frames.{Store, pagesOf, place, frameBytes}
-use Rattle.spec.specs.World.{State}
+use Rattle.spec.specs.Frames.{Store, pagesOf, place, frameBytes, store}
+use Rattle.spec.specs.World.{State, stateOf}
 use Rattle.spec.specs.declared.UserSegment.{UserSegment}
 use Rattle.laws.proofs.Lists.{Each, each-at}
 use Rattle.laws.proofs.Held.{valid-low, valid-high}
 use Rattle.laws.proofs.Record.{Whole, typed-whole}
 use Rattle.laws.proofs.Share.{share-length}
-use Rattle.book.specs.Lent.{store}
 use Rattle.pagealloc.specs.Lent.{Passed, Mapped}
 use Rattle.records.proofs.Walk.{length-mapped}
-use Rattle.front.specs.Numbers.{stateOf}
 use Rattle.front.proofs.First.{Forks, fork-none, fork-other, sizes-words}
 use Rattle.front.proofs.Living.{passed-sound, living-shape}
 use Rattle.fork.specs.Lent.{Copyable, Tells, Kept}

@@ -7,15 +7,14 @@ use denote.Ref.{now}
 use borrow.Author.Needs.{needs}
 use Rattle.spec.specs.Book.{free, used, bssSegment, pageCount, procAt, piecesOf, dataOnly}
 use Rattle.spec.specs.Sound.{Shape}
-use Rattle.spec.specs.World.{State, view, setProc}
+use Rattle.spec.specs.World.{State, view, setProc, stateOf}
 use Rattle.spec.specs.declared.UserSegment.{UserSegment}
 use Rattle.spec.specs.declared.Proc.{Proc}
+use Rattle.spec.specs.Frames.{store}
 use Rattle.laws.proofs.Held.{valid-low, valid-high}
 use Rattle.laws.proofs.Record.{Whole, whole-typed}
 use Rattle.records.proofs.Whole.{whole-procs}
-use Rattle.sound.proofs.Lookup.{blank-zeros}
-use Rattle.book.specs.Lent.{store}
-use Rattle.front.specs.Numbers.{stateOf}
+use Rattle.sound.proofs.Lookup.{made-zeros, ready-of}
 use Rattle.front.proofs.First.{Forks, fork-none, fork-other}
 use Rattle.front.proofs.Answers.{fork-refused, fork-goes}
 use Rattle.front.proofs.Living.{living-shape}
@@ -55,7 +54,7 @@ counted c =
     ∙ ap pageCount (data-own (procAt (start f .args .procs) (start f .args .number)) (h .0) (h .1))
 
 fork-ready-requires : tie.Need-fork-ready-requires
-fork-ready-requires c κs = (refl, refl, refl, blank-zeros 16384)
+fork-ready-requires c κs = made-zeros
 
 same-length : tie.Need-same-length
 same-length c = search needs
@@ -94,7 +93,7 @@ share-pages-requires c κs =
     let f = c .before .before .before .before .before .before in
     let k = forks f in (
       (valid-low _ (k .passed .number), valid-high _ (k .passed .number), valid-low _ (k .second), valid-high _ (k .second)),
-      holders-most (now (start f .args .book)) (f .before .fork-ready .ensures .1 (f .if1 .left) .mappings),
+      holders-most (now (start f .args .book)) (ready-of (f .before .fork-ready .ensures .1) (f .if1 .left) .mappings),
     )
 
 copy-segments-requires : tie.Need-copy-segments-requires
@@ -107,7 +106,7 @@ copy-segments-requires c κs =
       types = whole-typed (state f) (whole f);
       record-is = c .before .before .before .before .before .before .before .before .before .before .before .before .before .proc-at .ensures;
       passed = sym (f .before .fork-ready .ensures .0) ∙ f .if1 .left;
-      ready = f .before .fork-ready .ensures .1 (f .if1 .left);
+      ready = ready-of (f .before .fork-ready .ensures .1) (f .if1 .left);
       shared = c .before .before .before .before .before .before .before .share-pages .ensures (now (start f .args .frames));
     }
 
@@ -132,7 +131,7 @@ returns-3 c =
     (fork-fits (view (state f) (a .number)) (free (now (a .book))) 0 (a .child) (used (procAt (a .procs) (a .number) .segments)) (omega (arith, counted (u .before), free-is (u .before .before))))
     (state-is _ _ _ _ _
     (fork-store (store (now (a .frames)) (now (a .book))) _ _ _ _ _ (a .number) (a .child) (dataOnly (piecesOf (procAt (a .procs) (a .number)))) (k .passed .number) (k .second) (fork-other (state f) (a .number) (a .child) k)
-    (e .ensures .1 (f .if1 .left)) (c .before .before .before .before .before .before .before .before .before .before .before .before .before .share-pages .ensures (now (a .frames))) (rw (← q) (c .before .before .before .before .before .copy-segments .ensures)))
+    (ready-of (e .ensures .1) (f .if1 .left)) (c .before .before .before .before .before .before .before .before .before .before .before .before .before .share-pages .ensures (now (a .frames))) (rw (← q) (c .before .before .before .before .before .copy-segments .ensures)))
     (c .with-proc .ensures ∙ ap (setProc (a .procs) (a .child)) q))
 
 pub fork-spec : {M : Type 1} → statement M

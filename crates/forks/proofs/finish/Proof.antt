@@ -4,15 +4,14 @@ use mathlib.Core.List.{[], _∷_}
 use denote.Ref.{now}
 use borrow.Author.Needs.{needs}
 use Rattle.spec.specs.Book.{bssSegment, frameOf, procAt}
-use Rattle.spec.specs.Frames.{pagesOf, place, frameBytes}
+use Rattle.spec.specs.Frames.{pagesOf, place, frameBytes, store}
 use Rattle.spec.specs.World.{setProc}
 use Rattle.spec.specs.declared.UserSegment.{UserSegment}
 use Rattle.spec.specs.declared.Proc.{Proc}
 use Rattle.spec.specs.declared.Procs.{Procs}
 use Rattle.spec.specs.declared.Answer.the-variants.{Done}
 use Rattle.laws.proofs.Held.{valid-low, valid-high}
-use Rattle.book.specs.Lent.{store}
-use Rattle.front.specs.declared.left.Left.{Left}
+use Rattle.spec.specs.declared.Left.{Left}
 use Rattle.forks.specs.Lent.{Bounded}
 use Rattle.forks.proofs.finish.Statement.{statement}
 use Rattle.forks.proofs.finish.Tie as tie

@@ -49,9 +49,9 @@ use Rattle.spec.proofs.Procs as Ps
 use Rattle.spec.proofs.Procs.Laws as Ps′
 use Rattle.spec.proofs.Setup as Se
 use Rattle.spec.proofs.Setup.Laws as Se′
-use Rattle.front.specs.declared.left.Left.{Left}
-use Rattle.front.proofs.left.Left as Lf
-use Rattle.front.proofs.left.Left.Laws as Lf′
+use Rattle.spec.specs.declared.Left.{Left}
+use Rattle.spec.proofs.Left as Lf
+use Rattle.spec.proofs.Left.Laws as Lf′
 use Rattle.forks.specs.Fork.{recordOf}
 use Rattle.forks.proofs.Rows.{Nums, R, Rec, Recs, Res, word, slice₀, slice₁, slice₂, seen₀, shared₀, ref₀, ref₁, lent₀, lent₁}
 use Rattle.forks.proofs.Loans.{sliceAt, lend-slice, slice-home, share-slice, slice-unshared}

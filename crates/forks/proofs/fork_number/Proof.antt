@@ -1,20 +1,18 @@
 -- `fork_number` meets its contract: the numbers that come first, the list's 2 among them, then the parent's pages are counted.
 use native.Mathlib.Omega.{arith}
-use mathlib.Core.Path.{_≡_, refl, sym, ap, _∙_}
+use mathlib.Core.Path.{_≡_, sym, ap, _∙_}
 use mathlib.Core.Bool.{true}
 use mathlib.Core.List.{List, [], _∷_, _++_}
 use denote.Ref.{now}
 use borrow.Author.Needs.{needs}
 use Rattle.spec.specs.Book.{free, bssSegment, pageCount, procAt, piecesOf, dataOnly}
 use Rattle.spec.specs.Sound.{Shape}
-use Rattle.spec.specs.World.{State}
+use Rattle.spec.specs.World.{State, stateOf}
 use Rattle.spec.specs.declared.UserSegment.{UserSegment}
 use Rattle.spec.specs.declared.Proc.{Proc}
 use Rattle.spec.proofs.Setups.{setup-means}
 use Rattle.laws.proofs.Record.{Whole}
 use Rattle.records.proofs.Whole.{whole-procs}
-use Rattle.sound.proofs.Lookup.{blank-zeros}
-use Rattle.front.specs.Numbers.{stateOf}
 use Rattle.front.proofs.First.{Forks, fork-none}
 use Rattle.front.proofs.Living.{living-shape}
 use Rattle.fork.proofs.Forked.{data-own}
@@ -25,13 +23,13 @@ use Rattle.forks.proofs.fork_number.Tie as tie
 -- where no number came first
 module _ (c : tie.Else2) where
   abbrev start : tie.Start
-  start = c .before .before .before .before .before .before .before .before .before
+  start = c .before .before .before .before .before .before
 
   abbrev state : State
   state = stateOf (start .args .setup) (now (start .args .frames)) (now (start .args .book)) (start .args .procs)
 
   forks : Forks state (start .args .number) (start .args .child)
-  forks = fork-none state (start .args .number) (start .args .child) (sym (c .before .before .before .fork-ready .ensures .0) ∙ c .if2 .left)
+  forks = fork-none state (start .args .number) (start .args .child) (sym (c .before .before .before .fork-error .ensures) ∙ c .if2 .left)
 
   whole : Whole (start .args .procs)
   whole = let g = start .good .1 .1 .1 .0 .1 .1 .0 in whole-procs (start .args .procs) (g .0) (g .1 .1) (g .1 .0 .1)
@@ -50,25 +48,25 @@ counted c =
     c .data-pages .ensures ∙ ap (λ (p : Proc). pageCount (dataOnly (p .segments ++ bssSegment (p .bss) ∷ []))) (c .before .before .proc-at .ensures)
     ∙ ap pageCount (data-own (procAt (start f .args .procs) (start f .args .number)) (h .0) (h .1))
 
-fork-ready-requires : tie.Need-fork-ready-requires
-fork-ready-requires c κs = (refl, refl, refl, blank-zeros 16384)
+fork-error-requires : tie.Need-fork-error-requires
+fork-error-requires c κs = search needs
 
 is-number-requires : tie.Need-is-number-requires
 is-number-requires c κs = search needs
 
 returns : tie.Need-returns
 returns c =
-    let a = c .before .before .before .before .before .before .before .before .args in
-    let e = c .before .before .fork-ready in
+    let a = c .before .before .before .before .before .args in
+    let e = c .before .before .fork-error in
     let v = c .before .is-number in
-    torn (stateOf (a .setup) (now (a .frames)) (now (a .book)) (a .procs)) (a .number) (a .child) (a .alike) (e .result) (v .result) (e .ensures .0) (v .ensures) (c .if1 .taken)
+    torn (stateOf (a .setup) (now (a .frames)) (now (a .book)) (a .procs)) (a .number) (a .child) (a .alike) (e .result) (v .result) (e .ensures) (v .ensures) (c .if1 .taken)
 
 returns-2 : tie.Need-returns-2
 returns-2 c =
-    let a = c .before .before .before .before .before .before .before .before .before .args in
-    let e = c .before .before .before .fork-ready in
+    let a = c .before .before .before .before .before .before .args in
+    let e = c .before .before .before .fork-error in
     let v = c .before .before .is-number in
-    first-number (stateOf (a .setup) (now (a .frames)) (now (a .book)) (a .procs)) (a .number) (a .child) (a .alike) (e .result) (v .result) (e .ensures .0) (v .ensures) (c .before .if1 .left) (c .if2 .taken)
+    first-number (stateOf (a .setup) (now (a .frames)) (now (a .book)) (a .procs)) (a .number) (a .child) (a .alike) (e .result) (v .result) (e .ensures) (v .ensures) (c .before .if1 .left) (c .if2 .taken)
 
 proc-at-requires : tie.Need-proc-at-requires
 proc-at-requires c κs = forks c .passed .number
@@ -83,23 +81,23 @@ returns-3 : tie.Need-returns-3
 returns-3 c =
     let f = c .before .before .before .before in
     let a = start f .args in
-    let e = f .before .before .before .fork-ready in
+    let e = f .before .before .before .fork-error in
     let v = f .before .before .is-number in
-    too-few (state f) (a .number) (a .child) (a .alike) (e .result) (v .result) (e .ensures .0) (v .ensures) (f .before .if1 .left) (f .if2 .left) (omega (arith, counted (c .before), free-is (c .before .before), c .if3 .taken))
+    too-few (state f) (a .number) (a .child) (a .alike) (e .result) (v .result) (e .ensures) (v .ensures) (f .before .if1 .left) (f .if2 .left) (omega (arith, counted (c .before), free-is (c .before .before), c .if3 .taken))
 
 returns-4 : tie.Need-returns-4
 returns-4 c =
     let f = c .before .before .before .before in
     let a = start f .args in
-    let e = f .before .before .before .fork-ready in
+    let e = f .before .before .before .fork-error in
     let v = f .before .before .is-number in
-    enough (state f) (a .number) (a .child) (a .alike) (e .result) (v .result) (e .ensures .0) (v .ensures) (f .before .if1 .left) (f .if2 .left) (omega (arith, counted (c .before), free-is (c .before .before), c .if3 .left))
+    enough (state f) (a .number) (a .child) (a .alike) (e .result) (v .result) (e .ensures) (v .ensures) (f .before .if1 .left) (f .if2 .left) (omega (arith, counted (c .before), free-is (c .before .before), c .if3 .left))
 
 pub fork-number-spec : {M : Type 1} → statement M
 fork-number-spec =
     tie.close
     (tie.spec
-    fork-ready-requires
+    fork-error-requires
     is-number-requires
     returns
     returns-2

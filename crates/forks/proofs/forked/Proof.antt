@@ -45,15 +45,15 @@ use Rattle.spec.specs.World.{setProc}
 use Rattle.spec.specs.declared.UserSegment.{UserSegment}
 use Rattle.spec.specs.declared.Procs.{Procs}
 use Rattle.spec.specs.declared.Answer.the-variants.{Done}
+use Rattle.spec.specs.Frames.{store as storeOf}
 use Rattle.spec.proofs.Procs as Ps
 use Rattle.spec.proofs.Procs.Laws as Ps′
 use Rattle.laws.proofs.Record.{Whole}
-use Rattle.book.specs.Lent.{store as storeOf}
 use Rattle.forks.specs.Lent.{Shared}
 use Rattle.records.proofs.Whole.{whole-procs}
-use Rattle.front.specs.declared.left.Left.{Left}
-use Rattle.front.proofs.left.Left as Lf
-use Rattle.front.proofs.left.Left.Laws as Lf′
+use Rattle.spec.specs.declared.Left.{Left}
+use Rattle.spec.proofs.Left as Lf
+use Rattle.spec.proofs.Left.Laws as Lf′
 use Rattle.forks.proofs.Rows.{R, Recs, Res, word, slice₀, slice₁, slice₂, ref₀, ref₁, lent₀, lent₁}
 use Rattle.forks.proofs.Loans.{sliceAt, Owns, OwnsShared, lend-slice, slice-home, says-all, facts-2}
 use Rattle.forks.proofs.Copies.{copiesOf, Stands}

@@ -3,11 +3,10 @@ use mathlib.Core.Path.{refl, sym, _∙_}
 use denote.Ref.{now}
 use borrow.Author.Needs.{needs}
 use borrow.Author.Tests.{eq-eqb, ne-eqb}
-use Rattle.spec.specs.World.{State}
+use Rattle.spec.specs.World.{State, stateOf}
 use Rattle.laws.proofs.Held.{valid-low, valid-high}
 use Rattle.laws.proofs.Record.{Whole}
 use Rattle.records.proofs.Whole.{whole-procs}
-use Rattle.front.specs.Numbers.{stateOf}
 use Rattle.front.proofs.First.{fork-none}
 use Rattle.front.proofs.Living.{passed-sound}
 use Rattle.fork.proofs.Told.{holders-most}

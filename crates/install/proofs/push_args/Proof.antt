@@ -8,9 +8,8 @@ use lib.ListN.{length, take, drop}
 use lib.Seq.{length-take-le}
 use borrow.Author.Needs.{needs}
 use borrow.Rule.Slice.PartMut.{mid-len}
-use Rattle.spec.specs.Frames.{pokes}
+use Rattle.spec.specs.Frames.{pokes, store}
 use Rattle.spec.specs.declared.UserRegs.{UserRegs}
-use Rattle.book.specs.Lent.{store}
 use Rattle.args.specs.Sizes.{argvBy}
 use Rattle.args.proofs.Places.{registers-at}
 use Rattle.args_into.proofs.Pushed.{behind, written}

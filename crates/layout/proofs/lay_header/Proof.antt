@@ -1,10 +1,11 @@
 -- `layout::lay_header` meets its contract: what is read at the header is laid.
 -- Assumes nothing.
-use mathlib.Core.Path.{_≡_, sym, ap, _∙_}
+use mathlib.Core.Path.{sym, ap, _∙_}
 use denote.Ref.{now}
 use lib.ListN.{length}
 use borrow.Author.Needs.{needs}
-use Rattle.elf.specs.Reader.{Checked, CheckedLoad, loadOf}
+use Rattle.elf.specs.Reader.{Checked}
+use Rattle.elf.proofs.HeaderAt.{checked-at}
 use Rattle.layout.specs.Fits.{fitOf}
 use Rattle.layout.proofs.lay_header.Statement.{statement}
 use Rattle.layout.proofs.lay_header.Tie as tie
@@ -13,8 +14,8 @@ use Rattle.layout.proofs.lay_header.Tie as tie
 lay-requires : tie.Need-lay-requires
 lay-requires c κs =
     let a = c .before .before .before .before .before .args in
-    let e = sym (c .before .before .before .segment-of .ensures) ∙ c .before .l .given .1 in
-    let g : Checked (length (now (a .image))) (c .before .l .given .0 .0) = rw (c .before .l .given .1) at (rw (sym (c .before .before .before .segment-of .ensures)) at (c .before .before .before .before .before .pre .1)) in
+    let p = c .before .before .before .before .before .pre in
+    let g : Checked (length (now (a .image))) (c .before .l .given .0 .0) = rw (c .before .l .given .1) at (rw (sym (c .before .before .before .segment-of .ensures)) at (checked-at (now (a .image)) (a .i) (p .0) (p .1))) in
     (g .end, g .file)
 
 returns : tie.Need-returns

@@ -1,60 +1,52 @@
 -- `load::load` meets its contract: segments, bss and stack are placed one after the other.
-use mathlib.Core.Path.{_≡_, refl, sym, ap, _∙_}
-use Prim.Native.Nat.{ℕ, _+_, _-_, _*_, _≤_, _<_}
+use mathlib.Core.Path.{ap, _∙_}
+use Prim.Native.Nat.{ℕ, _-_}
 use native.Mathlib.Omega.{arith}
 use denote.Ref.{now}
-use lib.ListN.{length}
 use borrow.Author.Needs.{needs}
 use Rattle.laws.proofs.Accepted.{accepted-means}
-use Rattle.spec.specs.Frames.{place, pagesOf}
+use Rattle.spec.specs.Frames.{place, pagesOf, store}
 use Rattle.spec.specs.Numbers.{zeroPage}
 use Rattle.spec.specs.Book.{segment}
 use mathlib.Core.List.{[], _∷_}
-use Rattle.elf.specs.Reader.{said}
-use Rattle.book.specs.Lent.{store}
-use Rattle.load.proofs.Whole.{not-refused, Fits, bss-fits, all-placed}
+use Rattle.load.proofs.Whole.{bss-fits, all-placed}
 use Rattle.load.proofs.load.Statement.{statement}
 use Rattle.load.proofs.load.Tie as tie
 
-returns : tie.Need-returns
-returns c =
-    let a = c .before .before .before .before .before .before .before .args in
-    let p = c .before .before .before .before .before .before .before .pre in
-    absurd (not-refused (a .setup) (now (a .image)) (c .enum-told .given .0 .0) (p .3) (ap said (sym (c .enum-told .given .1)) ∙ c .before .before .parse .ensures))
-
 load-segments-requires : tie.Need-load-segments-requires
 load-segments-requires c κs =
-    let a = c .before .before .before .before .before .before .before .before .before .before .args in
-    let p = c .before .before .before .before .before .before .before .before .before .before .pre in
+    let a = c .before .before .before .before .before .before .args in
+    let p = c .before .before .before .before .before .before .pre in
     let f = bss-fits (a .setup) (p .5) (now (a .image)) (a .bss) (p .3) (p .4) in
-    ((p .0, p .1, p .2, f .start), (ap said (sym (c .before .before .before .h .given .1)) ∙ c .before .before .before .before .before .parse .ensures, (a .setup, p .5, accepted-means (a .setup) (now (a .image)) (p .3) .layout)))
+    let y = accepted-means (a .setup) (now (a .image)) (p .3) in
+    ((p .0, p .1, p .2, f .start), (y .elf, (a .setup, p .5, y .layout)))
 
 page-up-requires : tie.Need-page-up-requires
 page-up-requires c κs =
-    let a = c .before .before .before .before .before .before .before .before .before .before .before .before .before .before .before .args in
-    let p = c .before .before .before .before .before .before .before .before .before .before .before .before .before .before .before .pre in
+    let a = c .before .before .before .before .before .before .before .before .before .before .before .args in
+    let p = c .before .before .before .before .before .before .before .before .before .before .before .pre in
     let f = bss-fits (a .setup) (p .5) (now (a .image)) (a .bss) (p .3) (p .4) in
     omega (arith, f .start)
 
 map-zeroed-requires : tie.Need-map-zeroed-requires
 map-zeroed-requires c κs =
-    let a = c .before .before .before .before .before .before .before .before .before .before .before .before .before .before .before .before .before .before .args in
-    let p = c .before .before .before .before .before .before .before .before .before .before .before .before .before .before .before .before .before .before .pre in
+    let a = c .before .before .before .before .before .before .before .before .before .before .before .before .before .before .args in
+    let p = c .before .before .before .before .before .before .before .before .before .before .before .before .before .before .pre in
     let f = bss-fits (a .setup) (p .5) (now (a .image)) (a .bss) (p .3) (p .4) in
     let s = c .before .before .before .before .before .before .before .load-segments in
     ((omega (arith, p .0, s .kept), p .1, p .2), ((omega (arith, c .before .before .page-up .ensures), f .aligned, omega (arith, f .end)), s .ensures .1))
 
 map-zeroed-requires-2 : tie.Need-map-zeroed-requires-2
 map-zeroed-requires-2 c κs =
-    let p = c .before .before .before .before .before .before .before .before .before .before .before .before .before .before .before .before .before .before .before .before .before .before .before .before .before .pre in
+    let p = c .before .before .before .before .before .before .before .before .before .before .before .before .before .before .before .before .before .before .before .before .before .pre in
     let s = c .before .before .before .before .before .before .before .before .before .before .before .before .before .before .load-segments in
     let z = c .before .before .before .before .before .before .map-zeroed in
     ((omega (arith, p .0, s .kept, z .kept), p .1, p .2), ((omega (arith, p .5), omega (arith, p .5), omega (arith, p .5)), z .ensures .1))
 
-returns-2 : tie.Need-returns-2
-returns-2 c =
-    let a = c .before .before .before .before .before .before .before .before .before .before .before .before .before .before .before .before .before .before .before .before .before .before .before .before .before .before .before .before .before .before .args in
-    let p = c .before .before .before .before .before .before .before .before .before .before .before .before .before .before .before .before .before .before .before .before .before .before .before .before .before .before .before .before .before .before .pre in
+returns : tie.Need-returns
+returns c =
+    let a = c .before .before .before .before .before .before .before .before .before .before .before .before .before .before .before .before .before .before .before .before .before .before .before .before .before .before .args in
+    let p = c .before .before .before .before .before .before .before .before .before .before .before .before .before .before .before .before .before .before .before .before .before .before .before .before .before .before .pre in
     all-placed (a .setup) (p .5) (store (now (a .frames)) (now (a .book))) _ _ _ (a .owner) (now (a .image)) (a .bss) (p .3) (p .4)
     (c .before .before .before .before .before .before .before .before .before .before .before .before .before .before .before .before .before .before .before .load-segments .ensures .0)
     (c .before .before .before .before .before .before .before .before .before .before .before .map-zeroed .ensures .0
@@ -66,14 +58,10 @@ load-spec =
     tie.close
     (tie.spec
     (λ c. search needs)
-    (λ c κs. search needs)
-    (λ c. search needs)
-    (λ c. search needs)
-    returns
     load-segments-requires
     page-up-requires
     map-zeroed-requires
     map-zeroed-requires-2
     (λ c. search needs)
     (λ c. search needs)
-    returns-2)
+    returns)

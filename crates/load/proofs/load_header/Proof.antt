@@ -7,9 +7,9 @@ use denote.Ref.{now}
 use lib.ListN.{length, drop, length-take}
 use borrow.Author.Needs.{needs}
 use Rattle.spec.specs.Numbers.{maxTop, pageBytes}
-use Rattle.spec.specs.Frames.{Store, pagesOf, place}
+use Rattle.spec.specs.Frames.{Store, pagesOf, place, store}
 use Rattle.elf.specs.Reader.{Checked}
-use Rattle.book.specs.Lent.{store}
+use Rattle.elf.proofs.HeaderAt.{checked-at}
 use Rattle.pagealloc.specs.Contents.{fileAt}
 use Rattle.load.proofs.Headers.{checked-of, laid-of, whole, place-skip, load-taken}
 use Rattle.load.proofs.load_header.Statement.{statement}
@@ -17,10 +17,10 @@ use Rattle.load.proofs.load_header.Tie as tie
 
 -- the segment that was read
 held : (c : tie.After-known-told) → Checked (length (now (c .before .before .before .before .before .before .before .args .image))) (c .before .l .given .0 .0)
-held c = checked-of _ _ _ (sym (c .before .before .before .segment-of .ensures) ∙ c .before .l .given .1) (c .before .before .before .before .before .before .before .pre .1 .0 .0)
+held c = checked-of _ _ _ (sym (c .before .before .before .segment-of .ensures) ∙ c .before .l .given .1) (checked-at _ _ (c .before .before .before .before .before .before .before .pre .0 .3) (c .before .before .before .before .before .before .before .pre .0 .4))
 
 laid : (c : tie.After-known-told) → c .before .l .given .0 .0 .vaddr + c .before .l .given .0 .0 .memsz ≤ maxTop
-laid c = laid-of _ _ (sym (c .before .before .before .segment-of .ensures) ∙ c .before .l .given .1) (c .before .before .before .before .before .before .before .pre .1 .0 .1)
+laid c = laid-of _ _ (sym (c .before .before .before .segment-of .ensures) ∙ c .before .l .given .1) (c .before .before .before .before .before .before .before .pre .1 .0)
 
 user-segment-requires : tie.Need-user-segment-requires
 user-segment-requires c κs = (held c .end, omega (arith, c .before .before .before .before .before .before .before .pre .0 .5))

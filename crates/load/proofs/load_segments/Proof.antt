@@ -7,18 +7,17 @@ use Prim.Native.Nat.{ℕ, _+_, _-_, _*_, _≤_, _<_}
 use native.Mathlib.Omega.{arith}
 use denote.Ref.{now}
 use lib.ListN.{length}
-use Rattle.spec.specs.Frames.{Store, place}
-use Rattle.spec.specs.Elf.{Segment, phdrAt, segmentsOf}
+use borrow.Author.Needs.{needs}
+use Rattle.spec.specs.Frames.{Store, place, store}
+use Rattle.spec.specs.Elf.{Segment, phoff, phnum, phdrAt, segmentsOf}
 use Rattle.spec.specs.Numbers.{SetupOk}
 use Rattle.spec.specs.declared.Setup.{Setup}
 use Rattle.spec.specs.Exec.{layoutOk}
 use Rattle.spec.specs.declared.VirtRange.{VirtRange}
 use Rattle.elf.specs.Reader.{loadOf}
-use Rattle.elf.proofs.Walk.{segs, segs-none, segs-some}
-use Rattle.elf.proofs.Ahead.{Ahead, ahead-all, ahead-here, ahead-next, all-segs}
-use Rattle.checked.proofs.Indexed.{at-first, at-next}
+use Rattle.elf.proofs.Walk.{segs, segs-none, segs-some, segs-all}
+use Rattle.elf.proofs.Indexed.{at-first, at-next}
 use Rattle.laws.proofs.Place.{place-append}
-use Rattle.book.specs.Lent.{store}
 use Rattle.pagealloc.specs.Lent.{Passed}
 use Rattle.load.specs.Pages.{segmentPages, loadPages}
 use Rattle.load.proofs.Headers.{front-pages, front-laid, place-done}
@@ -28,32 +27,30 @@ use Rattle.load.proofs.load_segments.Tie as tie
 -- with k headers left from a place on
 abbrev Left : Store → ℕ → List ℕ → VirtRange → Store → ℕ → ℕ → Type 0
 Left m₀ owner image bss m at k =
-    Ahead image at k
-    × ((setup : Setup) × SetupOk setup × (layoutOk setup (segs image at k) ≡ true))
+    ((setup : Setup) × SetupOk setup × (layoutOk setup (segs image at k) ≡ true))
     × (place m₀ owner (segmentPages bss (segmentsOf image)) ≡ place m owner (segmentPages bss (segs image at k)))
 
 abbrev Inv-loop : tie.InvT-loop
-Inv-loop frames₀ book₀ owner image h bss top₀ n i₀ frames book top i =
-    (n ≡ h .phnum)
-    × (i ≤ h .phnum)
-    × Left (store frames₀ book₀) owner image bss (store frames book) (h .phoff + 56 * i) (h .phnum - i)
+Inv-loop frames₀ book₀ owner image bss top₀ n i₀ frames book top i =
+    (n ≡ phnum image)
+    × (i ≤ phnum image)
+    × Left (store frames₀ book₀) owner image bss (store frames book) (phoff image + 56 * i) (phnum image - i)
     × Passed top book
     × (length frames ≡ length frames₀)
     × (length book ≡ length book₀)
 
 abbrev μ-loop : tie.MeasureT-loop
-μ-loop frames₀ book₀ owner image h bss top₀ n i₀ frames book top i = h .phnum - i
+μ-loop frames₀ book₀ owner image bss top₀ n i₀ frames book top i = phnum image - i
 
 loop-holds : tie.Need-loop-holds Inv-loop μ-loop
 loop-holds c =
-    let a = c .before .before .before .args in
-    let p = c .before .before .before .pre in
-    let whole = all-segs (now (a .image)) (a .h) (p .1 .0) in
+    let a = c .before .before .before .before .args in
+    let p = c .before .before .before .before .pre in
+    let whole = segs-all (now (a .image)) in
     let m : Store = store (now (a .frames)) (now (a .book)) in (
-      refl,
+      c .count-of .ensures,
       omega arith,
-      at-first (Left m (a .owner) (now (a .image)) (a .bss) m) (a .h .phoff) (a .h .phnum) (
-        ahead-all (now (a .image)) (a .h) (p .1 .0),
+      at-first (Left m (a .owner) (now (a .image)) (a .bss) m) (phoff (now (a .image))) (phnum (now (a .image))) (
         (p .1 .1 .0, p .1 .1 .1, ap (layoutOk (p .1 .1 .0)) whole ∙ p .1 .1 .2),
         ap (λ (gs : List Segment). place m (a .owner) (segmentPages (a .bss) gs)) (sym whole),
       ),
@@ -63,47 +60,46 @@ loop-holds c =
     )
 
 -- a header is left in a turn
-one-left : (c : tie.In-loop Inv-loop μ-loop) → 0 < c .before .before .before .before .before .args .h .phnum - c .before .loop .i
+one-left : (c : tie.In-loop Inv-loop μ-loop) → 0 < phnum (now (c .before .before .before .before .before .before .args .image)) - c .before .loop .i
 one-left c = omega (arith, c .loop-test .taken, c .before .loop .inv .0)
 
 load-header-requires : tie.Need-load-header-requires Inv-loop μ-loop
 load-header-requires c κs =
-    let a = c .before .before .before .before .before .before .before .args in
-    let p = c .before .before .before .before .before .before .before .pre in
+    let a = c .before .before .before .before .before .before .before .before .args in
+    let p = c .before .before .before .before .before .before .before .before .pre in
     let l = c .before .before .before .loop in
     let image = now (a .image) in
-    let at = a .h .phoff + 56 * l .i in
+    let at = phoff (now (a .image)) + 56 * l .i in
     let k = one-left (c .before .before) in
     let v = l .inv .2 in
-    let q = front-laid (v .1 .0) (v .1 .1) image (loadOf (phdrAt image at)) _ (ap (layoutOk (v .1 .0)) (sym (segs-some image at (a .h .phnum - l .i) _ k refl)) ∙ v .1 .2) in
-    ((omega (arith, p .0 .0, l .inv .4, l .inv .5), p .0 .1, p .0 .2, omega (arith, l .inv .1, v .0 .room), omega (arith, k), p .0 .3), ((ahead-here image at (a .h .phnum - l .i) k (v .0), q .0), l .inv .3))
+    let q = front-laid (v .0 .0) (v .0 .1) image (loadOf (phdrAt image at)) _ (ap (layoutOk (v .0 .0)) (sym (segs-some image at (phnum (now (a .image)) - l .i) _ k refl)) ∙ v .0 .2) in
+    ((omega (arith, p .0 .0, l .inv .4, l .inv .5), p .0 .1, p .0 .2, p .1 .0, omega (arith, k), p .0 .3), (q .0, l .inv .3))
 
 add-i : tie.Need-add-i Inv-loop μ-loop
-add-i c = omega (arith, c .before .before .before .before .before .before .before .loop-test .taken, c .before .before .before .before .before .before .before .before .before .before .before .before .good)
+add-i c = omega (arith, c .before .before .before .before .before .before .before .loop-test .taken, c .before .before .before .before .before .before .before .before .before .before .before .before .before .good)
 
 loop-less : tie.Need-loop-less Inv-loop μ-loop
 loop-less c = let k = one-left (c .before .before .before .before .before .before .before) in omega (arith, k)
 
 loop-again : tie.Need-loop-again Inv-loop μ-loop
 loop-again c =
-    let a = c .before .before .before .before .before .before .before .before .before .before .before .before .args in
+    let a = c .before .before .before .before .before .before .before .before .before .before .before .before .before .args in
     let l = c .before .before .before .before .before .before .before .before .loop in
     let image = now (a .image) in
-    let at = a .h .phoff + 56 * l .i in
+    let at = phoff (now (a .image)) + 56 * l .i in
     let k = one-left (c .before .before .before .before .before .before .before) in
     let here = loadOf (phdrAt image at) in
-    let rest = segs image (at + 56) (a .h .phnum - l .i - 1) in
-    let s = segs-some image at (a .h .phnum - l .i) here k refl in
+    let rest = segs image (at + 56) (phnum (now (a .image)) - l .i - 1) in
+    let s = segs-some image at (phnum (now (a .image)) - l .i) here k refl in
     let v = l .inv .2 in
-    let q = front-laid (v .1 .0) (v .1 .1) image here rest (ap (layoutOk (v .1 .0)) (sym s) ∙ v .1 .2) in
+    let q = front-laid (v .0 .0) (v .0 .1) image here rest (ap (layoutOk (v .0 .0)) (sym s) ∙ v .0 .2) in
     let m : Store = store (l .frames) (l .book) in
     let r = c .before .before .before .before .load-header in (
       l .inv .0,
       omega (arith, k),
-      at-next (Left (store (now (a .frames)) (now (a .book))) (a .owner) image (a .bss) _) (a .h .phoff) (a .h .phnum) (l .i) (
-        ahead-next image at (a .h .phnum - l .i) k (v .0),
-        (v .1 .0, v .1 .1, q .1),
-        v .2
+      at-next (Left (store (now (a .frames)) (now (a .book))) (a .owner) image (a .bss) _) (phoff (now (a .image))) (phnum (now (a .image))) (l .i) (
+        (v .0 .0, v .0 .1, q .1),
+        v .1
             ∙ ap (λ (gs : List Segment). place m (a .owner) (segmentPages (a .bss) gs)) s
             ∙ ap (place m (a .owner)) (front-pages image (a .bss) here rest)
             ∙ place-append m (a .owner) (loadPages image (a .bss) here) (segmentPages (a .bss) rest)
@@ -122,9 +118,9 @@ same-length-2 c = omega (arith, c .before .loop .inv .5)
 
 returns : tie.Need-returns Inv-loop μ-loop
 returns c =
-    let a = c .before .before .before .before .before .args in
+    let a = c .before .before .before .before .before .before .args in
     let l = c .before .loop in
-    (sym (l .inv .2 .2 ∙ place-done _ (a .owner) (a .bss) _ (segs-none (now (a .image)) (a .h .phoff + 56 * l .i) (a .h .phnum - l .i) (omega (arith, c .loop-test .left, l .inv .0)))), l .inv .3)
+    (sym (l .inv .2 .1 ∙ place-done _ (a .owner) (a .bss) _ (segs-none (now (a .image)) (phoff (now (a .image)) + 56 * l .i) (phnum (now (a .image)) - l .i) (omega (arith, c .loop-test .left, l .inv .0)))), l .inv .3)
 
 pub load-segments-spec : {M : Type 1} → statement M
-load-segments-spec = tie.close (tie.spec Inv-loop μ-loop loop-holds load-header-requires add-i loop-less loop-again same-length same-length-2 returns)
+load-segments-spec = tie.close (tie.spec Inv-loop μ-loop (λ c κs. search needs) loop-holds load-header-requires add-i loop-less loop-again same-length same-length-2 returns)

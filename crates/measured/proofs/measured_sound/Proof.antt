@@ -12,6 +12,7 @@ use Rattle.spec.specs.Sound.{soundBook}
 use Rattle.spec.specs.declared.Setup.{Setup}
 use Rattle.spec.proofs.Bools.{clash}
 use Rattle.sound.specs.Numbers.{soundError}
+use Rattle.sound.proofs.Lookup.{made-zeros}
 use Rattle.measured.proofs.measured_sound.Statement.{statement}
 use Rattle.measured.proofs.measured_sound.Tie as tie
 
@@ -27,16 +28,16 @@ returns c = (λ h. absurd (omega (arith, h, c .if1 .taken)), λ h. refl)
 deposit-requires : tie.Need-deposit-requires
 deposit-requires c κs = search needs
 
-sound-error-requires : tie.Need-sound-error-requires
-sound-error-requires c κs = omega (arith, c .before .if1 .left)
+prepare-requires : tie.Need-prepare-requires
+prepare-requires c κs = (omega (arith, c .before .before .before .before .if1 .left), made-zeros)
 
 returns-2 : tie.Need-returns-2
 unfolding setupOk
 returns-2 c =
-    let b = now (c .before .before .before .before .args .book) in
-    let p = c .before .before .before .before .args .procs in
-    (λ h. none (setupOk deposit) (soundBook deposit b p) _ refl (c .sound-error .ensures ∙ ap (λ (u : Setup). soundError u b p) (c .before .deposit .ensures)), λ h. absurd (omega (arith, h, c .before .before .if1 .left)))
+    let b = now (c .before .before .before .before .before .before .before .args .book) in
+    let p = c .before .before .before .before .before .before .before .args .procs in
+    (λ h. none (setupOk deposit) (soundBook deposit b p) _ refl (c .prepare .ensures .0 ∙ ap (λ (u : Setup). soundError u b p) (c .before .before .before .before .deposit .ensures)), λ h. absurd (omega (arith, h, c .before .before .before .before .before .if1 .left)))
 
 pub measured-sound-spec : {M : Type 1} → statement M
 measured-sound-spec =
-    tie.close (tie.spec returns deposit-requires sound-error-requires returns-2)
+    tie.close (tie.spec returns deposit-requires prepare-requires returns-2)

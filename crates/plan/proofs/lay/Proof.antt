@@ -17,9 +17,6 @@ abbrev μ-loop : tie.MeasureT-loop
 add-owner : tie.Need-add-owner Inv-loop μ-loop
 add-owner c = omega arith
 
-mul-owner : tie.Need-mul-owner Inv-loop μ-loop
-mul-owner c = omega arith
-
 mul-first : tie.Need-mul-first Inv-loop μ-loop
 mul-first c = omega arith
 
@@ -42,11 +39,8 @@ add-k c = omega arith
 small : (c : tie.After-seat Inv-loop μ-loop) → Small (c .seat .result)
 small c = rw (c .seat .ensures) (c .before .before .before .before .before .pre .1 .segments (c .before .before .before .loop .j) (omega arith))
 
-add-tags : tie.Need-add-tags Inv-loop μ-loop
-add-tags c = let x = small c in omega arith
-
-add-tags-2 : tie.Need-add-tags-2 Inv-loop μ-loop
-add-tags-2 c = let x = small c in omega arith
+pack-requires : tie.Need-pack-requires Inv-loop μ-loop
+pack-requires c κs = let x = small c in omega arith
 
 mul-tags : tie.Need-mul-tags Inv-loop μ-loop
 mul-tags c = omega arith
@@ -61,10 +55,10 @@ element-write-bases : tie.Need-element-write-bases Inv-loop μ-loop
 element-write-bases c = omega arith
 
 sub-t : tie.Need-sub-t Inv-loop μ-loop
-sub-t c = let x = small c in omega arith
+sub-t c = let x = small (c .before) in omega arith
 
 add-t : tie.Need-add-t Inv-loop μ-loop
-add-t c = let x = small c in omega arith
+add-t c = let x = small (c .before) in omega arith
 
 add-j : tie.Need-add-j Inv-loop μ-loop
 add-j c = omega arith
@@ -74,24 +68,19 @@ loop-less c = omega arith
 
 loop-again : tie.Need-loop-again Inv-loop μ-loop
 loop-again c =
-    let l = c .before .before .before .loop in
-    let x = small c in
-    (omega arith, omega arith, laid-more _ _ _ _ _ _ _ _ (l .j) (c .seat .result) (omega arith) (omega arith) (c .seat .ensures ∙ part-segment _ (l .j) (omega arith)) x (l .inv .2))
+    let s = c .before in
+    let l = s .before .before .before .loop in
+    let x = small s in
+    (omega arith, omega arith, rw (c .pack .ensures) (laid-more _ _ _ _ _ _ _ _ (l .j) (s .seat .result) (omega arith) (omega arith) (s .seat .ensures ∙ part-segment _ (l .j) (omega arith)) x (l .inv .2)))
 
-add-from : tie.Need-add-from Inv-loop μ-loop
-add-from c = omega arith
-
-mul-from : tie.Need-mul-from Inv-loop μ-loop
-mul-from c = omega arith
+page-up-requires : tie.Need-page-up-requires Inv-loop μ-loop
+page-up-requires c κs = omega arith
 
 add-k-2 : tie.Need-add-k-2 Inv-loop μ-loop
 add-k-2 c = omega arith
 
-add-tags-3 : tie.Need-add-tags-3 Inv-loop μ-loop
-add-tags-3 c = omega arith
-
-add-tags-4 : tie.Need-add-tags-4 Inv-loop μ-loop
-add-tags-4 c = omega arith
+pack-requires-2 : tie.Need-pack-requires-2 Inv-loop μ-loop
+pack-requires-2 c κs = omega arith
 
 mul-tags-2 : tie.Need-mul-tags-2 Inv-loop μ-loop
 mul-tags-2 c = omega arith
@@ -113,8 +102,8 @@ add-result c = omega arith
 
 returns : tie.Need-returns Inv-loop μ-loop
 returns c =
-    let a = c .before .before in
-    laid-bss _ _ _ _ _ _ _ _ (a .loop .j) (omega arith) (omega arith) (a .before .before .pre .1 .bss) (a .loop .inv .2)
+    let a = c .before .before .before in
+    rw (c .pack2 .ensures, c .before .page-up .ensures) (laid-bss _ _ _ _ _ _ _ _ (a .loop .j) (omega arith) (omega arith) (a .before .before .pre .1 .bss) (a .loop .inv .2))
 
 pub lay-spec : {M : Type 1} → statement M
 lay-spec =
@@ -123,15 +112,13 @@ lay-spec =
     Inv-loop
     μ-loop
     add-owner
-    mul-owner
     mul-first
     loop-holds
     mul-place
     array-copy-out-place
     seat-requires
     add-k
-    add-tags
-    add-tags-2
+    pack-requires
     mul-tags
     element-write-tags
     mul-bases
@@ -141,11 +128,9 @@ lay-spec =
     add-j
     loop-less
     loop-again
-    add-from
-    mul-from
+    page-up-requires
     add-k-2
-    add-tags-3
-    add-tags-4
+    pack-requires-2
     mul-tags-2
     element-write-tags-2
     mul-bases-2

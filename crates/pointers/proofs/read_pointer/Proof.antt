@@ -7,10 +7,9 @@ use denote.Ref.{now}
 use borrow.Author.Needs.{needs}
 use borrow.Author.Tests.{not-true, not-false}
 use Rattle.spec.specs.Numbers.{le}
-use Rattle.spec.specs.Frames.{Mem, memOf}
+use Rattle.spec.specs.Frames.{Mem, memOf, store}
 use Rattle.spec.specs.Access.{userRangeOk, bytesAt}
 use Rattle.spec.proofs.Chain.{is-through, isnt-through}
-use Rattle.book.specs.Lent.{store}
 use Rattle.pointers.specs.declared.Pointer.the-variants.{At}
 use Rattle.pointers.proofs.Pointing.{pointer-bad, pointer-null, pointer-string}
 use Rattle.pointers.proofs.read_pointer.Statement.{statement}

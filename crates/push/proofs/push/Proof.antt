@@ -10,19 +10,18 @@ use borrow.Author.Tests.{eqb-true, not-true, not-false}
 use Rattle.spec.specs.Tests.{sum}
 use Rattle.spec.specs.Numbers.{SetupOk}
 use Rattle.spec.specs.Book.{frameCount}
-use Rattle.spec.specs.Frames.{memOf}
+use Rattle.spec.specs.Frames.{memOf, store}
 use Rattle.spec.proofs.Setups.{setup-means}
 use Rattle.spec.specs.Exec.{argsOf, pushOk}
-use Rattle.spec.specs.Machine.{Ask, push, Call, outcomeOf, plainly, Machine, lengthsFit, weighPush}
-use Rattle.spec.specs.World.{State, view, withStore, leave, Does}
+use Rattle.spec.specs.Machine.{Ask, push, Call, outcomeOf, plainly, Machine, lengthsFit, weighPush, call}
+use Rattle.spec.specs.World.{State, view, withStore, leave, Does, stateOf}
 use Rattle.spec.specs.declared.Answer.{Answer}
-use Rattle.sound.proofs.Lookup.{blank-zeros}
-use Rattle.book.specs.Lent.{store}
+use Rattle.sound.proofs.Lookup.{made-zeros, ready-of}
 use Rattle.args.specs.declared.ArgsSize.{ArgsSize}
 use Rattle.args.proofs.Cut.{cut-count}
 use Rattle.args.proofs.Size.{Passed as Argued, size-number, size-passed}
 use Rattle.laws.proofs.Owned.{valid-means}
-use Rattle.front.specs.Numbers.{stateOf, call, plainError}
+use Rattle.front.specs.Numbers.{plainError}
 use Rattle.front.proofs.First.{Passed, plain-none, sizes-words}
 use Rattle.front.proofs.Answers.{plain-refused, plain-goes}
 use Rattle.push.proofs.Answered.{push-unaligned, push-refused, push-ends, push-goes}
@@ -50,7 +49,7 @@ lengths-fit-requires : tie.Need-lengths-fit-requires
 lengths-fit-requires c κs = search needs
 
 plain-ready-requires : tie.Need-plain-ready-requires
-plain-ready-requires c κs = (refl, refl, refl, blank-zeros 16384)
+plain-ready-requires c κs = made-zeros
 
 -- ---- the number that came first
 
@@ -134,7 +133,7 @@ module _ (c : tie.Else3) where
 -- ---- 35
 
 push-ok-requires : tie.Need-push-ok-requires
-push-ok-requires c κs = let i = c .before .before .before .before .before .before .before in ((i .before .plain-ready .ensures .1 (i .if1 .left), valid-means (start₁ i .args .number) (passed i .number) .0, valid-means (start₁ i .args .number) (passed i .number) .1), accepted i)
+push-ok-requires c κs = let i = c .before .before .before .before .before .before .before in ((ready-of (i .before .plain-ready .ensures .1) (i .if1 .left), valid-means (start₁ i .args .number) (passed i .number) .0, valid-means (start₁ i .args .number) (passed i .number) .1), accepted i)
 
 -- the check of the ranges, over any frame bytes
 module _ (c : tie.After-push-ok) where
@@ -181,7 +180,7 @@ push-args-requires c κs =
     let u = c .before .before .before .before .before in
     let o = i u .before .before .before in
     let v = valid-means (start₁ o .args .number) (passed o .number) in
-    ((sizes o, o .before .plain-ready .ensures .1 (o .if1 .left), v .0, v .1), (start₃ (i u) .args .setup, accepted o, argued (i u) .sums, argued (i u) .passed, ok u))
+    ((sizes o, ready-of (o .before .plain-ready .ensures .1) (o .if1 .left), v .0, v .1), (start₃ (i u) .args .setup, accepted o, argued (i u) .sums, argued (i u) .passed, ok u))
 
 same-length-9 : tie.Need-same-length-9
 same-length-9 c = search needs

@@ -5,10 +5,9 @@ use mathlib.Core.Path.{_≡_, sym, ap, _∙_}
 use mathlib.Core.Bool.{true, false}
 use denote.Ref.{now}
 use borrow.Author.Needs.{needs}
-use Rattle.spec.specs.Frames.{Mem, memOf}
+use Rattle.spec.specs.Frames.{Mem, memOf, store}
 use Rattle.spec.specs.Access.{userRangeOk}
 use Rattle.spec.specs.declared.UserRegs.{UserRegs}
-use Rattle.book.specs.Lent.{store}
 use Rattle.args.specs.Sizes.{belowZeroBy}
 use Rattle.args.proofs.Places.{low-room}
 use Rattle.push_args.proofs.Ranges.{ok-low, ok-ranges}

@@ -10,10 +10,9 @@ use lib.Seq.{length-take-le}
 use denote.Ref.{now}
 use borrow.Author.Needs.{needs}
 use borrow.Rule.Slice.PartMut.{mid-len}
-use Rattle.spec.specs.Frames.{memOf, pokes}
+use Rattle.spec.specs.Frames.{memOf, pokes, store}
 use Rattle.spec.specs.Access.{userRangeOk}
 use Rattle.spec.specs.declared.UserRegs.{UserRegs}
-use Rattle.book.specs.Lent.{store}
 use Rattle.args.specs.Sizes.{argvBy}
 use Rattle.args.proofs.Places.{low-room, registers-at}
 use Rattle.args_into.specs.Laid.{Laid}

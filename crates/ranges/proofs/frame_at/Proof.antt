@@ -4,7 +4,7 @@ use mathlib.Core.Path.{ap, _∙_}
 use denote.Ref.{now}
 use borrow.Author.Needs.{needs}
 use Rattle.spec.specs.Book.{frameOf}
-use Rattle.book.specs.Lent.{foundOf}
+use Rattle.book.specs.Answers.{foundOf}
 use Rattle.ranges.proofs.frame_at.Statement.{statement}
 use Rattle.ranges.proofs.frame_at.Tie as tie
 
@@ -12,7 +12,7 @@ page-down-requires : tie.Need-page-down-requires
 page-down-requires c κs = search needs
 
 frame-at-requires : tie.Need-frame-at-requires
-frame-at-requires c κs = let p = c .before .before .pre in (p .1, p .2, p .0 .plan)
+frame-at-requires c κs = let p = c .before .before .pre in (p .1, p .2, p .0 .plan, p .0 .few)
 
 returns : tie.Need-returns
 returns c =

@@ -6,9 +6,8 @@ use mathlib.Core.List.{List}
 use denote.Ref.{now}
 use borrow.Author.Needs.{needs}
 use Rattle.spec.specs.Numbers.{pageDown}
-use Rattle.spec.specs.Frames.{Mem, memOf}
+use Rattle.spec.specs.Frames.{Mem, memOf, store}
 use Rattle.spec.proofs.Bools.{not-true, un-not}
-use Rattle.book.specs.Lent.{store}
 use Rattle.ranges.proofs.Ranges.{pagesTo, range-bad, range-good, range-done, range-past, range-empty, range-pages}
 use Rattle.ranges.proofs.user_range_ok.Statement.{statement}
 use Rattle.ranges.proofs.user_range_ok.Tie as tie

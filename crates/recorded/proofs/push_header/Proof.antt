@@ -1,10 +1,11 @@
 -- `recorded::push_header` meets its contract: what is read at the header is recorded.
 -- Assumes nothing.
-use mathlib.Core.Path.{_≡_, sym, ap, _∙_}
+use mathlib.Core.Path.{sym, ap, _∙_}
 use denote.Ref.{now}
 use lib.ListN.{length}
 use borrow.Author.Needs.{needs}
-use Rattle.elf.specs.Reader.{Checked, CheckedLoad, loadOf}
+use Rattle.elf.specs.Reader.{Checked}
+use Rattle.elf.proofs.HeaderAt.{checked-at}
 use Rattle.recorded.specs.Pages.{pushed, recordedWith}
 use Rattle.recorded.proofs.push_header.Statement.{statement}
 use Rattle.recorded.proofs.push_header.Tie as tie
@@ -13,8 +14,8 @@ user-segment-requires : tie.Need-user-segment-requires
 user-segment-requires c κs =
     let a = c .before .before .before .before .before .args in
     let p = c .before .before .before .before .before .pre in
-    let g : Checked (length (now (a .image))) (c .before .l .given .0 .0) = rw (c .before .l .given .1) at (rw (sym (c .before .before .before .segment-of .ensures)) at (p .1 .0)) in
-    (g .end, p .1 .1 .0)
+    let g : Checked (length (now (a .image))) (c .before .l .given .0 .0) = rw (c .before .l .given .1) at (rw (sym (c .before .before .before .segment-of .ensures)) at (checked-at (now (a .image)) (a .i) (p .0 .0) (p .0 .1))) in
+    (g .end, p .1 .0)
 
 returns : tie.Need-returns
 returns c = let a = c .before .before .before .before .args in sym (ap (recordedWith (a .bss) (a .before)) (sym (c .before .before .segment-of .ensures) ∙ c .enum-told .given .1))

@@ -7,13 +7,13 @@ use native.Mathlib.Omega.{arith}
 use denote.Ref.{now}
 use lib.ListN.{length, length-append}
 use borrow.Author.Needs.{needs}
-use Rattle.spec.specs.Elf.{segmentsOf, phdrAt}
+use Rattle.spec.specs.Elf.{phoff, phnum, phdrAt, segmentsOf}
 use Rattle.spec.specs.declared.UserSegment.{UserSegment}
 use Rattle.spec.specs.declared.VirtRange.{VirtRange}
 use Rattle.elf.specs.Reader.{loadOf}
-use Rattle.elf.proofs.Walk.{segs, segs-none, segs-some}
-use Rattle.elf.proofs.Ahead.{Ahead, ahead-all, ahead-here, ahead-next, all-segs}
-use Rattle.checked.proofs.Indexed.{at-first, at-next}
+use Rattle.elf.proofs.Walk.{segs, segs-none, segs-some, segs-all}
+use Rattle.elf.proofs.Image.{accepted}
+use Rattle.elf.proofs.Indexed.{at-first, at-next}
 use Rattle.recorded.specs.Pages.{recorded, recordedWith}
 use Rattle.recorded.specs.declared.Recorded.{Recorded}
 use Rattle.recorded.proofs.Kept.{added, added-one, kept-front, record-front}
@@ -24,63 +24,60 @@ use Rattle.spec.specs.Exec.{kept}
 -- with k headers left from a place on
 abbrev Left : List ℕ → VirtRange → Recorded → ℕ → ℕ → Type 0
 Left image bss seen at k =
-    Ahead image at k
-    × ((done : List UserSegment) × ((kept bss (segmentsOf image) ≡ done ++ kept bss (segs image at k)) × ((seen ≡ recorded done) × (56 * (length done + k) ≤ length image))))
+    ((done : List UserSegment) × ((kept bss (segmentsOf image) ≡ done ++ kept bss (segs image at k)) × ((seen ≡ recorded done) × (56 * (length done + k) ≤ length image))))
 
 abbrev Inv-loop : tie.InvT-loop
-Inv-loop image h bss seen₀ n k₀ seen k = (n ≡ h .phnum) × (k ≤ h .phnum) × Left image bss seen (h .phoff + 56 * k) (h .phnum - k)
+Inv-loop image bss seen₀ n k₀ seen k = (n ≡ phnum image) × (k ≤ phnum image) × Left image bss seen (phoff image + 56 * k) (phnum image - k)
 
 abbrev μ-loop : tie.MeasureT-loop
-μ-loop image h bss seen₀ n k₀ seen k = h .phnum - k
+μ-loop image bss seen₀ n k₀ seen k = phnum image - k
 
 loop-holds : tie.Need-loop-holds Inv-loop μ-loop
 loop-holds c =
-    let a = c .before .args in
-    let h = ahead-all (now (a .image)) (a .h) (c .before .pre .0) in
-    (refl, omega arith, at-first (Left (now (a .image)) (a .bss) (recorded [])) (a .h .phoff) (a .h .phnum) (h, ([], (ap (kept (a .bss)) (sym (all-segs (now (a .image)) (a .h) (c .before .pre .0))), (refl, omega (arith, h .room))))))
+    let a = c .before .before .args in
+    let image = now (a .image) in
+    let room = accepted image (c .before .before .pre .0) .table in
+    (c .count-of .ensures, omega arith, at-first (Left image (a .bss) (recorded [])) (phoff image) (phnum image) ([], (ap (kept (a .bss)) (sym (segs-all image)), (refl, omega (arith, room)))))
 
 -- a header is left in a turn
-one-left : (c : tie.In-loop Inv-loop μ-loop) → 0 < c .before .before .before .args .h .phnum - c .before .loop .k
+one-left : (c : tie.In-loop Inv-loop μ-loop) → 0 < phnum (now (c .before .before .before .before .args .image)) - c .before .loop .k
 one-left c = omega (arith, c .loop-test .taken, c .before .loop .inv .0)
 
 push-header-requires : tie.Need-push-header-requires Inv-loop μ-loop
 push-header-requires c κs =
-    let a = c .before .before .before .args in
+    let a = c .before .before .before .before .args in
     let l = c .before .loop in
     let more = one-left c in
-    let w = l .inv .2 .1 .1 in
-    ((omega (arith, l .inv .1, l .inv .2 .0 .room), omega (arith, more)), (ahead-here _ (a .h .phoff + 56 * l .k) (a .h .phnum - l .k) more (l .inv .2 .0), (search needs, omega (arith, ap (λ (r : Recorded). r .count) (w .1 .0), w .1 .1))))
+    let w = l .inv .2 .1 in
+    ((c .before .before .before .before .pre .0, omega (arith, more)), (search needs, omega (arith, ap (λ (r : Recorded). r .count) (w .1 .0), w .1 .1)))
 
 add-k : tie.Need-add-k Inv-loop μ-loop
-add-k c = omega (arith, c .before .before .loop .inv .2 .0 .room)
+add-k c = omega (arith, c .before .loop-test .taken)
 
 loop-less : tie.Need-loop-less Inv-loop μ-loop
 loop-less c = let more = one-left (c .before) in omega (arith, more)
 
 loop-again : tie.Need-loop-again Inv-loop μ-loop
 loop-again c =
-    let a = c .before .before .before .before .args in
+    let a = c .before .before .before .before .before .args in
     let l = c .before .before .loop in
-    let at = a .h .phoff + 56 * l .k in
+    let at = phoff (now (a .image)) + 56 * l .k in
     let more = one-left (c .before) in
     let here = loadOf (phdrAt (now (a .image)) at) in
     let new = added (now (a .image)) (a .bss) here in
-    let done = l .inv .2 .1 .0 in
-    let whole = l .inv .2 .1 .1 in (
+    let done = l .inv .2 .0 in
+    let whole = l .inv .2 .1 in (
       l .inv .0,
       omega (arith, more),
-      at-next (Left (now (a .image)) (a .bss) (c .push-header .result)) (a .h .phoff) (a .h .phnum) (l .k) (
-        ahead-next _ at (a .h .phnum - l .k) more (l .inv .2 .0),
+      at-next (Left (now (a .image)) (a .bss) (c .push-header .result)) (phoff (now (a .image))) (phnum (now (a .image))) (l .k) (
+        done ++ new,
         (
-          done ++ new,
+          whole .0
+              ∙ ap (λ (us : List UserSegment). done ++ us) (ap (kept (a .bss)) (segs-some (now (a .image)) at (phnum (now (a .image)) - l .k) here more refl) ∙ kept-front (now (a .image)) (a .bss) here _)
+              ∙ sym (append-assoc done new _),
           (
-            whole .0
-                ∙ ap (λ (us : List UserSegment). done ++ us) (ap (kept (a .bss)) (segs-some (now (a .image)) at (a .h .phnum - l .k) here more refl) ∙ kept-front (now (a .image)) (a .bss) here _)
-                ∙ sym (append-assoc done new _),
-            (
-              c .push-header .ensures ∙ ap (λ (r : Recorded). recordedWith (a .bss) r here) (whole .1 .0) ∙ record-front (now (a .image)) (a .bss) done here,
-              omega (arith, length-append done new, added-one (now (a .image)) (a .bss) here, whole .1 .1, more),
-            ),
+            c .push-header .ensures ∙ ap (λ (r : Recorded). recordedWith (a .bss) r here) (whole .1 .0) ∙ record-front (now (a .image)) (a .bss) done here,
+            omega (arith, length-append done new, added-one (now (a .image)) (a .bss) here, whole .1 .1, more),
           ),
         ),
       ),
@@ -88,11 +85,11 @@ loop-again c =
 
 returns : tie.Need-returns Inv-loop μ-loop
 returns c =
-    let a = c .before .before .before .args in
+    let a = c .before .before .before .before .args in
     let l = c .before .loop in
-    let whole = l .inv .2 .1 .1 in
+    let whole = l .inv .2 .1 in
     whole .1 .0
-    ∙ ap recorded (sym (whole .0 ∙ ap (λ (us : List UserSegment). l .inv .2 .1 .0 ++ us) (ap (kept (a .bss)) (segs-none (now (a .image)) (a .h .phoff + 56 * l .k) (a .h .phnum - l .k) (omega (arith, c .loop-test .left, l .inv .0)))) ∙ append-nil (l .inv .2 .1 .0)))
+    ∙ ap recorded (sym (whole .0 ∙ ap (λ (us : List UserSegment). l .inv .2 .0 ++ us) (ap (kept (a .bss)) (segs-none (now (a .image)) (phoff (now (a .image)) + 56 * l .k) (phnum (now (a .image)) - l .k) (omega (arith, c .loop-test .left, l .inv .0)))) ∙ append-nil (l .inv .2 .0)))
 
 pub segments-spec : {M : Type 1} → statement M
-segments-spec = tie.close (tie.spec Inv-loop μ-loop loop-holds push-header-requires add-k loop-less loop-again returns)
+segments-spec = tie.close (tie.spec Inv-loop μ-loop (λ c κs. search needs) loop-holds push-header-requires add-k loop-less loop-again returns)

@@ -21,18 +21,15 @@ returns c =
 returns-2 : tie.Need-returns-2
 returns-2 c = simp (lt-ltb _ _ (c .if2 .taken), and-false)
 
-add-first : tie.Need-add-first
-add-first c = search needs
-
-mul-first : tie.Need-mul-first
-mul-first c = search needs
+page-up-requires : tie.Need-page-up-requires
+page-up-requires c κs = omega arith
 
 returns-3 : tie.Need-returns-3
 returns-3 c =
-    let b = c .before .before .before .args in
-    let low : b .bss .end ≤ limit (b .setup) = omega (arith, c .before .before .limit .ensures) in
-    rw (at-most (b .setup .utzero) (b .bss .start), at-most (b .low) (pageUp (b .bss .start)))
-    (simp (le-ltb _ _ low, le-ltb _ _ (c .if2 .left), and-true))
+    let b = c .before .before .before .before .args in
+    let low : b .bss .end ≤ limit (b .setup) = omega (arith, c .before .before .before .limit .ensures) in
+    rw (c .page-up .ensures, at-most (b .setup .utzero) (b .bss .start), at-most (b .low) (pageUp (b .bss .start)))
+    (simp (le-ltb _ _ low, le-ltb _ _ (c .before .if2 .left), and-true))
 
 pub bss-ok-spec : {M : Type 1} → statement M
-bss-ok-spec = tie.close (tie.spec limit-requires returns returns-2 add-first mul-first returns-3)
+bss-ok-spec = tie.close (tie.spec limit-requires returns returns-2 page-up-requires returns-3)

@@ -4,16 +4,16 @@ use native.Mathlib.Omega.{arith}
 use mathlib.Core.Path.{_≡_, refl, sym, _∙_}
 use mathlib.Core.List.{List}
 use denote.Ref.{now}
-use lib.ListN.{take}
+use lib.ListN.{take, replicate}
 use borrow.Author.Needs.{needs}
-use Rattle.spec.specs.Frames.{memOf}
+use Rattle.spec.specs.Frames.{memOf, store}
 use Rattle.spec.specs.Exec.{Argv, copyArgv, argsError}
 use Rattle.spec.proofs.Args.{args-means}
 use Rattle.laws.proofs.Argv.{argv-fits}
 use Rattle.laws.proofs.Owned.{valid-means}
-use Rattle.book.specs.Lent.{store}
 use Rattle.args_into.specs.Laid.{Standing}
 use Rattle.argv.specs.Reading.{Read}
+use Rattle.argv.proofs.SoFar.{read-strings}
 use Rattle.install.specs.Installing.{Fitting}
 use Rattle.replace.specs.Becoming.{bad, over, fine}
 use Rattle.replace.proofs.enter_argv.Statement.{statement}
@@ -27,10 +27,13 @@ module _ (c : tie.After-copy-argv) where
   abbrev argv : Argv
   argv = copyArgv (s .args .setup) (memOf (store (now (s .args .frames)) (now (s .args .book))) (s .args .number)) (s .args .argv)
 
+  abbrev before : List ℕ
+  before = replicate 16384 0
+
   abbrev buf : List ℕ
   buf = c .copy-argv .last .1 .1 .1 .1 .1 .1 .1 .1 .0
 
-  read : Read argv (c .copy-argv .result) buf
+  read : Read argv before (c .copy-argv .result) buf
   read = c .copy-argv .ensures
 
 -- and are neither bad nor over the limit
@@ -47,7 +50,7 @@ module _ (c : tie.Else2) where
   none = read k .error ∙ fits .0
 
   standing : Standing (argv k .args) (take (k .copy-argv .result .used) (buf k)) (k .copy-argv .result .count)
-  standing = record { bytes-are = read k .bytes none; counted = sym (read k .count none); no-nul = args-means (s k .args .setup) (argv k .args) (fits .1) .0 }
+  standing = record { bytes-are = read-strings (argv k) (before k) (k .copy-argv .result) (buf k) (read k) none; counted = sym (read k .count); no-nul = args-means (s k .args .setup) (argv k .args) (fits .1) .0 }
 
 slice-aggregate-copy-argv : tie.Need-slice-aggregate-copy-argv
 slice-aggregate-copy-argv c = search needs
@@ -93,7 +96,7 @@ pointers-behind-requires c κs =
     let r = k e in
     let m = args-means (s r .args .setup) (argv r .args) (fits e .1) .1 in
     let o = s r .pre .1 .setup-ok in
-    ((argv r .args, standing e), (omega (arith, m, o, read r .used (none e), read r .count (none e)), omega (arith, m, o, read r .used (none e))))
+    ((argv r .args, standing e), (omega (arith, m, o, read r .used, read r .count), omega (arith, m, o, read r .used)))
 
 slice-aggregate-enter : tie.Need-slice-aggregate-enter
 slice-aggregate-enter c = search needs

@@ -6,13 +6,13 @@ use borrow.Author.Needs.{needs}
 use Rattle.spec.specs.Numbers.{SetupOk}
 use Rattle.spec.specs.Book.{free, alone}
 use Rattle.spec.specs.Exec.{imageError}
-use Rattle.spec.specs.Machine.{Ask, replace, Reply, outcome, weigh}
-use Rattle.spec.specs.World.{State, view, leave, Does}
+use Rattle.spec.specs.Machine.{Ask, replace, Reply, outcome, weigh, call}
+use Rattle.spec.specs.World.{State, view, leave, Does, stateOf}
 use Rattle.spec.proofs.Setups.{setup-means}
-use Rattle.sound.proofs.Lookup.{blank-zeros}
+use Rattle.sound.proofs.Lookup.{made-zeros, ready-of}
 use Rattle.exec.specs.declared.Plan.{Plan}
 use Rattle.exec.proofs.Planned.{plan-number}
-use Rattle.front.specs.Numbers.{stateOf, call, plainError}
+use Rattle.front.specs.Numbers.{plainError}
 use Rattle.front.proofs.States.{state-is}
 use Rattle.front.proofs.First.{Passed, plain-none}
 use Rattle.front.proofs.Answers.{plain-refused, plain-goes}
@@ -55,7 +55,7 @@ accepted : (c : tie.Else2) → imageError (start (c .before .before .before) .ar
 accepted c = sym (number (c .before .before)) ∙ c .if2 .left
 
 plain-ready-requires : tie.Need-plain-ready-requires
-plain-ready-requires c κs = (refl, refl, refl, blank-zeros 16384)
+plain-ready-requires c κs = made-zeros
 
 same-length : tie.Need-same-length
 same-length c = search needs
@@ -99,7 +99,7 @@ enter-argv-requires : tie.Need-enter-argv-requires
 enter-argv-requires c κs =
     let o = c .before .before .before .before .before in
     let a = start (i o) .args in (
-      i o .before .plain-ready .ensures .1 (i o .if1 .left),
+      ready-of (i o .before .plain-ready .ensures .1) (i o .if1 .left),
       enterable (a .setup) (now (a .frames)) (now (a .book)) (a .procs) (a .number) (whole o) (first (i o)) (now (a .image)) _ (o .before .before .before .plan-of .ensures) (accepted (o .before)),
     )
 

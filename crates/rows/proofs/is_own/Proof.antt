@@ -1,4 +1,5 @@
 -- `is_own` meets its contract.
+use mathlib.Core.Path.{sym, _∙_}
 use borrow.Author.Needs.{needs}
 use borrow.Author.Tests.{eqb-true}
 use Rattle.spec.proofs.Bools.{both}
@@ -29,11 +30,14 @@ mul-count-2 c = search needs
 shared-slice-read-count : tie.Need-shared-slice-read-count
 shared-slice-read-count c = search needs
 
+owner-of-requires : tie.Need-owner-of-requires
+owner-of-requires c κs = search needs
+
 add-result : tie.Need-add-result
 add-result c = search needs
 
 returns : tie.Need-returns
-returns c = λ e. let h = both _ _ e in (eqb-true _ _ (h .0), eqb-true _ _ (h .1))
+returns c = λ e. let h = both _ _ e in (sym (c .owner-of .ensures) ∙ eqb-true _ _ (h .0), eqb-true _ _ (h .1))
 
 pub is-own-spec : {M : Type 1} → statement M
 is-own-spec =
@@ -47,5 +51,6 @@ is-own-spec =
     add-count
     mul-count-2
     shared-slice-read-count
+    owner-of-requires
     add-result
     returns)

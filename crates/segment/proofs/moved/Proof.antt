@@ -1,12 +1,9 @@
 -- `segment::moved` meets its contract: each `return` is the case of `ibrk` that the tests before it lead to.
-use mathlib.Core.Path.{_≡_, sym, ap, _∙_}
-use Prim.Native.Nat.{ℕ, _+_, _-_, _/_, _^_, _≤_, _<_}
+use mathlib.Core.Path.{sym, ap, _∙_}
+use Prim.Native.Nat.{ℕ}
 use native.Mathlib.Omega.{arith}
 use mathlib.Core.Option.{some}
 use borrow.Author.Needs.{needs}
-use Rattle.spec.specs.Numbers.{pageUp}
-use Rattle.mem.specs.Rounding.{roundedUp}
-use Rattle.mem.specs.declared.Rounded.the-variants.{To, Past}
 use Rattle.mem.proofs.Laws.{rounded-to, rounded-past}
 use Rattle.segment.specs.Rule.{breakOf}
 use Rattle.segment.proofs.Cases.{zero-start, below-start, past-64, above-limit, shrinks, short, grows}
@@ -71,33 +68,33 @@ returns-5 c =
     ∙ ap (λ (x : ℕ). record { error = 0; value = 0; bss = some (record { start = a .range .start; end = x }) }) to
     ∙ sym (shrinks (a .setup) (a .range) (a .addr) (a .free) (c .before .before .before .before .before .before .before .before .if1 .left) (c .before .before .before .before .before .before .before .if2 .left) (r .1) (omega arith) (omega arith))
 
-add-if5 : tie.Need-add-if5
-add-if5 c = search needs
+page-up-requires : tie.Need-page-up-requires
+page-up-requires c κs = omega arith
 
 refused-requires-4 : tie.Need-refused-requires-4
 refused-requires-4 c κs = search needs
 
 returns-6 : tie.Need-returns-6
 returns-6 c =
-    let a = c .before .before .before .before .before .before .before .before .before .before .before .args in
-    let top = c .before .before .before .before .before .newtop .given in
-    let r = rounded-to (a .addr) (top .0 .0) (sym (top .1) ∙ c .before .before .before .before .before .before .before .checked-page-up .ensures) in
+    let a = c .before .before .before .before .before .before .before .before .before .before .before .before .args in
+    let top = c .before .before .before .before .before .before .newtop .given in
+    let r = rounded-to (a .addr) (top .0 .0) (sym (top .1) ∙ c .before .before .before .before .before .before .before .before .checked-page-up .ensures) in
     let to = r .0 in
     ap breakOf (c .refused4 .ensures)
-    ∙ sym (short (a .setup) (a .range) (a .addr) (a .free) (c .before .before .before .before .before .before .before .before .before .if1 .left) (c .before .before .before .before .before .before .before .before .if2 .left) (r .1) (omega arith) (omega arith) (omega arith))
+    ∙ sym (short (a .setup) (a .range) (a .addr) (a .free) (c .before .before .before .before .before .before .before .before .before .before .if1 .left) (c .before .before .before .before .before .before .before .before .before .if2 .left) (r .1) (omega arith) (omega arith) (omega (arith, c .before .before .page-up .ensures)))
 
 accepted-requires-2 : tie.Need-accepted-requires-2
 accepted-requires-2 c κs = search needs
 
 returns-7 : tie.Need-returns-7
 returns-7 c =
-    let a = c .before .before .before .before .before .before .before .before .before .before .before .args in
-    let top = c .before .before .before .before .before .newtop .given in
-    let r = rounded-to (a .addr) (top .0 .0) (sym (top .1) ∙ c .before .before .before .before .before .before .before .checked-page-up .ensures) in
+    let a = c .before .before .before .before .before .before .before .before .before .before .before .before .args in
+    let top = c .before .before .before .before .before .before .newtop .given in
+    let r = rounded-to (a .addr) (top .0 .0) (sym (top .1) ∙ c .before .before .before .before .before .before .before .before .checked-page-up .ensures) in
     let to = r .0 in
     ap breakOf (c .accepted2 .ensures)
     ∙ ap (λ (x : ℕ). record { error = 0; value = 0; bss = some (record { start = a .range .start; end = x }) }) to
-    ∙ sym (grows (a .setup) (a .range) (a .addr) (a .free) (c .before .before .before .before .before .before .before .before .before .if1 .left) (c .before .before .before .before .before .before .before .before .if2 .left) (r .1) (omega arith) (omega arith) (omega arith))
+    ∙ sym (grows (a .setup) (a .range) (a .addr) (a .free) (c .before .before .before .before .before .before .before .before .before .before .if1 .left) (c .before .before .before .before .before .before .before .before .before .if2 .left) (r .1) (omega arith) (omega arith) (omega (arith, c .before .before .page-up .ensures)))
 
 pub moved-spec : {M : Type 1} → statement M
 moved-spec =
@@ -116,7 +113,7 @@ moved-spec =
     returns-4
     accepted-requires
     returns-5
-    add-if5
+    page-up-requires
     refused-requires-4
     returns-6
     accepted-requires-2

@@ -13,8 +13,8 @@ use Rattle.records.specs.Records.{passes}
 use Rattle.records.proofs.Whole.{whole-procs}
 use Rattle.plan.proofs.Passing.{small-parts}
 use Rattle.sound.proofs.Planning.{plan}
-use Rattle.sound.proofs.Decides.{records-of, made, planned-of, framed-of, total-of, decided, sound-exact}
-use Rattle.sound.proofs.Lookup.{ready}
+use Rattle.sound.proofs.Decides.{records-of, made, total-of, decided, sound-exact}
+use Rattle.sound.proofs.Lookup.{tags-long, bases-long, table-long, table-blank, filled}
 use Rattle.sound.proofs.is_sound.Statement.{statement}
 use Rattle.sound.proofs.is_sound.Tie as tie
 
@@ -40,7 +40,7 @@ lay-all-requires c κs =
     let a = c .before .before .before .before .before in
     let ps = a .args .procs in
     let w = whole a in
-    (λ i h. small-parts (a .args .setup) (a .pre .1) (procAt ps (i + 1)) (w .each (i + 1 - 1)) (all-at (passes (a .args .setup)) zeroProc (ps .all) (pass (c .before .before)) (i + 1 - 1) (omega (arith, w .records))), a .pre .0 .1, a .pre .0 .2)
+    (λ i h. small-parts (a .args .setup) (a .pre .1) (procAt ps (i + 1)) (w .each (i + 1 - 1)) (all-at (passes (a .args .setup)) zeroProc (ps .all) (pass (c .before .before)) (i + 1 - 1) (omega (arith, w .records))), tags-long (a .pre .0 .1), bases-long (a .pre .0 .1))
 
 mul-places : tie.Need-mul-places
 mul-places c = search needs
@@ -56,40 +56,22 @@ returns-2 c =
 
 mark-requires : tie.Need-mark-requires
 mark-requires c κs =
-    let d = c .before .before .before .before .before .before .before in
+    let l = c .before .before .before .before in
+    let d = l .before .before .before in
     let a = d .before .before .before in
     let ps = a .args .procs in
-    (omega arith, plan (made (a .args .setup) (a .pre .1) ps (whole a) (pass d) _ _ _ (c .before .before .before .before .lay-all .ensures)) (omega arith), a .pre .0 .4, a .pre .0 .3)
+    (omega arith, plan (made (a .args .setup) (a .pre .1) ps (whole a) (pass d) _ _ _ (l .lay-all .ensures)) (omega arith), table-blank (a .pre .0 .1), table-long (a .pre .0 .1), l .lay-all .ensures .bases-long)
 
 returns-3 : tie.Need-returns-3
 returns-3 c =
-    let l = c .before .before .before .before .before .before in
-    let d = l .before .before .before in
-    let a = d .before .before .before in
-    let ps = a .args .procs in (
-      sound-exact (a .args .setup) (a .pre .1) _ _ (whole a) _ (
-        λ e. absurd (false≢true e),
-        λ s. absurd (c .before .mark .ensures .no (not-true _ (c .if3 .taken)) (planned-of (made (a .args .setup) (a .pre .1) ps (whole a) (pass d) _ _ _ (l .lay-all .ensures)) _ s) (framed-of (made (a .args .setup) (a .pre .1) ps (whole a) (pass d) _ _ _ (l .lay-all .ensures)) _ s)),
-      ),
-      λ e. absurd (false≢true e),
-    )
-
-all-marked-requires : tie.Need-all-marked-requires
-all-marked-requires c κs = search needs
-
-returns-4 : tie.Need-returns-4
-returns-4 c =
-    let m = c .before .before .before in
-    let l = m .before .before .before .before .before in
+    let l = c .before .before .before .before .before in
     let d = l .before .before .before in
     let a = d .before .before .before in
     let ps = a .args .procs in
-    let table = m .mark .last .1 .1 .1 .0 in
-    let y = m .mark .ensures .yes (not-false _ (c .before .before .if3 .left)) in
     let most : l .lay-all .result ≤ 16384 = omega arith in
     let x = made (a .args .setup) (a .pre .1) ps (whole a) (pass d) _ _ _ (l .lay-all .ensures) in
-    let r = decided ps _ _ _ x most _ table (y .0) (y .1) (y .2) (c .all-marked .result) (c .all-marked .ensures) in
-    (sound-exact (a .args .setup) (a .pre .1) _ _ (whole a) _ r, λ q. ready ps _ _ _ x most _ table (y .0) (y .1) (r .0 q))
+    let r = decided ps _ _ _ x most _ _ _ _ (c .mark .ensures) in
+    (sound-exact (a .args .setup) (a .pre .1) _ _ (whole a) _ r, λ q. filled ps _ _ _ x most _ _ _ _ (c .mark .ensures) q (r .0 q))
 
 pub is-sound-spec : {M : Type 1} → statement M
 is-sound-spec =
@@ -101,6 +83,4 @@ is-sound-spec =
     mul-places
     returns-2
     mark-requires
-    returns-3
-    all-marked-requires
-    returns-4)
+    returns-3)

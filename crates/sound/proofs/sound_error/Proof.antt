@@ -1,13 +1,12 @@
--- `sound_error` meets its contract: its lists are as long as their types say, and the table is empty.
+-- `sound_error` meets its contract: its lists are zeros.
 use native.Mathlib.Omega.{arith}
-use mathlib.Core.Path.{refl}
 use borrow.Author.Needs.{needs}
-use Rattle.sound.proofs.Lookup.{blank-zeros}
+use Rattle.sound.proofs.Lookup.{made-zeros}
 use Rattle.sound.proofs.sound_error.Statement.{statement}
 use Rattle.sound.proofs.sound_error.Tie as tie
 
 prepare-requires : tie.Need-prepare-requires
-prepare-requires c κs = (omega arith, refl, refl, refl, blank-zeros 16384)
+prepare-requires c κs = (omega arith, made-zeros)
 
 returns : tie.Need-returns
 returns c = search needs

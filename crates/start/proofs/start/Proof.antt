@@ -11,8 +11,8 @@ use borrow.Author.Tests.{eqb-true}
 use Rattle.spec.specs.Tests.{_is_, sum}
 use Rattle.spec.specs.Book.{free, pageCount}
 use Rattle.spec.specs.Exec.{imageError, startPieces, argsOf, argsError}
-use Rattle.spec.specs.Machine.{start, Call, outcome, plainly, weighStart}
-use Rattle.spec.specs.World.{State, taken, setProc, leave, Does}
+use Rattle.spec.specs.Machine.{start, Call, outcome, plainly, weighStart, call}
+use Rattle.spec.specs.World.{State, taken, setProc, leave, Does, stateOf}
 use Rattle.spec.specs.declared.Setup.{Setup}
 use Rattle.spec.specs.declared.Answer.{Answer}
 use Rattle.spec.specs.declared.Answer.the-variants.{Regs}
@@ -23,7 +23,7 @@ use Rattle.args.specs.declared.ArgsSize.{ArgsSize}
 use Rattle.args.proofs.Size.{size-number}
 use Rattle.exec.specs.declared.Plan.{Plan}
 use Rattle.exec.proofs.Planned.{plan-number, plan-accepted}
-use Rattle.front.specs.Numbers.{stateOf, call, beginError}
+use Rattle.front.specs.Numbers.{beginError}
 use Rattle.front.proofs.States.{state-is}
 use Rattle.front.proofs.First.{Passed, begin-none, sizes-words}
 use Rattle.front.proofs.Living.{passed-sound}

@@ -1,42 +1,70 @@
--- `all_marked` meets its contract: `ok` is the test of the ranks below t.
-use Prim.Native.Nat.{_-_, _≤_}
+-- `all_marked` meets its contract: `ok` is the test of the ranks of the words below j.
+use Prim.Native.Nat.{ℕ, _+_, _-_, _*_, _/_, _%_, _≤_}
 use native.Mathlib.Omega.{arith}
-use native.Mathlib.Numerals.{add-one}
-use mathlib.Core.Path.{_≡_, refl, ap, _∙_}
+use mathlib.Core.Path.{_≡_, refl, ap, ap₂, _∙_}
+use mathlib.Core.Bool.{_&&_}
+use denote.Ref.{now}
 use Rattle.spec.specs.Tests.{allBelow}
 use Rattle.table.specs.Table.{marked}
+use Rattle.table.proofs.Bits.{word-more}
 use Rattle.table.proofs.all_marked.Statement.{statement}
 use Rattle.table.proofs.all_marked.Tie as tie
 
 abbrev Inv-loop : tie.InvT-loop
-Inv-loop table total ok₀ t₀ ok t = (t ≤ total) × (ok ≡ allBelow t (marked table))
+Inv-loop bits total words ok₀ j₀ ok j = (j ≤ words) × (words ≡ total / 64) × (ok ≡ allBelow (64 * j) (marked bits))
 
 abbrev μ-loop : tie.MeasureT-loop
-μ-loop table total ok₀ t₀ ok t = total - t
+μ-loop bits total words ok₀ j₀ ok j = words - j
 
 loop-holds : tie.Need-loop-holds Inv-loop μ-loop
-loop-holds c = (omega arith, refl)
+loop-holds c = (omega arith, refl, refl)
 
-mul-ok : tie.Need-mul-ok Inv-loop μ-loop
-mul-ok c = omega arith
+mul-ones : tie.Need-mul-ones Inv-loop μ-loop
+mul-ones c = omega arith
 
-element-copy-out-ok : tie.Need-element-copy-out-ok Inv-loop μ-loop
-element-copy-out-ok c = omega arith
+element-copy-out-ones : tie.Need-element-copy-out-ones Inv-loop μ-loop
+element-copy-out-ones c = omega arith
 
-add-t : tie.Need-add-t Inv-loop μ-loop
-add-t c = omega arith
+ones-requires : tie.Need-ones-requires Inv-loop μ-loop
+ones-requires c κs = omega arith
+
+add-j : tie.Need-add-j Inv-loop μ-loop
+add-j c = omega arith
 
 loop-less : tie.Need-loop-less Inv-loop μ-loop
 loop-less c = omega arith
 
 loop-again : tie.Need-loop-again Inv-loop μ-loop
-loop-again c = (omega arith, rw (c .before .before .loop .inv .1, add-one (c .before .before .loop .t)) refl)
+loop-again c =
+    let l = c .before .before .before .loop in
+    let bits = now (c .before .before .before .before .args .bits) in
+    let e : 64 * l .j + 64 ≡ 64 * (l .j + 1) = omega arith in
+    (omega arith, refl, ap₂ _&&_ (c .ones .ensures) (l .inv .2) ∙ word-more bits (l .j) 64 (omega arith) ∙ ap (λ (n : ℕ). allBelow n (marked bits)) e)
 
 returns : tie.Need-returns Inv-loop μ-loop
 returns c =
-    let a = c .before .before .args in
-    let e : c .before .loop .t ≡ a .total = omega arith in
-    c .before .loop .inv .1 ∙ ap (λ n. allBelow n (marked (a .table .now))) e
+    let l = c .before .before .loop in
+    let a = c .before .before .before .args in
+    let e : 64 * l .j ≡ a .total = omega arith in
+    l .inv .2 ∙ ap (λ (n : ℕ). allBelow n (marked (now (a .bits)))) e
+
+mul-ones-2 : tie.Need-mul-ones-2 Inv-loop μ-loop
+mul-ones-2 c = omega arith
+
+element-copy-out-ones-2 : tie.Need-element-copy-out-ones-2 Inv-loop μ-loop
+element-copy-out-ones-2 c = omega arith
+
+ones-requires-2 : tie.Need-ones-requires-2 Inv-loop μ-loop
+ones-requires-2 c κs = omega arith
+
+returns-2 : tie.Need-returns-2 Inv-loop μ-loop
+returns-2 c =
+    let l = c .before .before .before .before .loop in
+    let a = c .before .before .before .before .before .args in
+    let bits = now (a .bits) in
+    let j : l .j ≡ a .total / 64 = omega arith in
+    let e : 64 * (a .total / 64) + a .total % 64 ≡ a .total = omega arith in
+    ap₂ _&&_ (c .ones2 .ensures) (l .inv .2 ∙ ap (λ (i : ℕ). allBelow (64 * i) (marked bits)) j) ∙ word-more bits (a .total / 64) (a .total % 64) (omega arith) ∙ ap (λ (n : ℕ). allBelow n (marked bits)) e
 
 pub all-marked-spec : {M : Type 1} → statement M
 all-marked-spec =
@@ -45,9 +73,14 @@ all-marked-spec =
     Inv-loop
     μ-loop
     loop-holds
-    mul-ok
-    element-copy-out-ok
-    add-t
+    mul-ones
+    element-copy-out-ones
+    ones-requires
+    add-j
     loop-less
     loop-again
-    returns)
+    returns
+    mul-ones-2
+    element-copy-out-ones-2
+    ones-requires-2
+    returns-2)

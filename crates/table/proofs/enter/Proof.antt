@@ -2,6 +2,7 @@
 use native.Mathlib.Omega.{arith}
 use denote.Ref.{now}
 use borrow.Author.Needs.{needs}
+use borrow.Author.Tests.{not-true, not-false}
 use Rattle.plan.proofs.Within.{found-part}
 use Rattle.table.proofs.Words.{entered-taken, entered-new}
 use Rattle.table.proofs.enter.Statement.{statement}
@@ -20,38 +21,28 @@ element-copy-out-rank-2 : tie.Need-element-copy-out-rank-2
 element-copy-out-rank-2 c = search needs
 
 sub-rank : tie.Need-sub-rank
-sub-rank c = let a = c .before .before in let x = found-part _ _ (a .pre .2) (a .args .w) (a .args .p) (a .pre .0) (a .pre .4) in omega arith
+sub-rank c = let a = c .before .before in let x = found-part _ _ (a .pre .0 .2) (a .args .w) (a .args .p) (a .pre .0 .0) (a .pre .0 .3) in omega arith
 
 add-rank : tie.Need-add-rank
-add-rank c = let a = c .before .before in let x = found-part _ _ (a .pre .2) (a .args .w) (a .args .p) (a .pre .0) (a .pre .4) in omega arith
+add-rank c = let a = c .before .before in let x = found-part _ _ (a .pre .0 .2) (a .args .w) (a .args .p) (a .pre .0 .0) (a .pre .0 .3) in omega arith
 
-mul-if1 : tie.Need-mul-if1
-mul-if1 c = let a = c .before .before in let x = found-part _ _ (a .pre .2) (a .args .w) (a .args .p) (a .pre .0) (a .pre .4) in omega arith
-
-element-copy-out-if1 : tie.Need-element-copy-out-if1
-element-copy-out-if1 c = let a = c .before .before in let x = found-part _ _ (a .pre .2) (a .args .w) (a .args .p) (a .pre .0) (a .pre .4) in omega arith
+take-requires : tie.Need-take-requires
+take-requires c κs = let a = c .before .before .before in let x = found-part _ _ (a .pre .0 .2) (a .args .w) (a .args .p) (a .pre .0 .0) (a .pre .0 .3) in (omega arith, a .pre .1 .0)
 
 returns : tie.Need-returns
 returns c =
-    let a = c .before .before .before .before in
-    entered-taken _ _ (now (a .args .table)) (a .pre .2) (a .args .w) (a .args .k) (a .args .p) (found-part _ _ (a .pre .2) (a .args .w) (a .args .p) (a .pre .0) (a .pre .4)) (c .if1 .taken)
+    let a = c .before .before .before .before .before in
+    let n = c .before .take .ensures .no (not-true _ (c .if1 .taken)) in
+    entered-taken _ _ (a .pre .0 .2) (a .args .own) (a .args .pages) (now (a .args .bits)) (now (a .args .table)) (a .args .w) (a .args .k) (a .args .p) (found-part _ _ (a .pre .0 .2) (a .args .w) (a .args .p) (a .pre .0 .0) (a .pre .0 .3)) (n .0) _ _
 
-add-table : tie.Need-add-table
-add-table c = search needs
-
-cast-table : tie.Need-cast-table
-cast-table c = search needs
-
-mul-table : tie.Need-mul-table
-mul-table c = let a = c .before .before .before .before in let x = found-part _ _ (a .pre .2) (a .args .w) (a .args .p) (a .pre .0) (a .pre .4) in omega arith
-
-element-write-table : tie.Need-element-write-table
-element-write-table c = let a = c .before .before .before .before in let x = found-part _ _ (a .pre .2) (a .args .w) (a .args .p) (a .pre .0) (a .pre .4) in omega arith
+store-requires : tie.Need-store-requires
+store-requires c κs = let a = c .before .before .before .before .before .before in (a .pre .1 .2, a .pre .0 .1, a .pre .1 .1)
 
 returns-2 : tie.Need-returns-2
 returns-2 c =
-    let a = c .before .before .before .before in
-    entered-new _ _ (now (a .args .table)) (a .pre .2) (a .args .w) (a .args .k) (a .args .p) (found-part _ _ (a .pre .2) (a .args .w) (a .args .p) (a .pre .0) (a .pre .4)) (c .if1 .left)
+    let a = c .before .before .before .before .before .before .before in
+    let y = c .before .before .before .take .ensures .yes (not-false _ (c .before .before .if1 .left)) in
+    entered-new _ _ (a .pre .0 .2) (a .args .own) (a .args .pages) (now (a .args .bits)) (now (a .args .table)) (a .args .w) (a .args .k) (a .args .p) (found-part _ _ (a .pre .0 .2) (a .args .w) (a .args .p) (a .pre .0 .0) (a .pre .0 .3)) (y .0) _ _ (y .1) (c .store .ensures)
 
 pub enter-spec : {M : Type 1} → statement M
 enter-spec =
@@ -63,11 +54,7 @@ enter-spec =
     element-copy-out-rank-2
     sub-rank
     add-rank
-    mul-if1
-    element-copy-out-if1
+    take-requires
     returns
-    add-table
-    cast-table
-    mul-table
-    element-write-table
+    store-requires
     returns-2)

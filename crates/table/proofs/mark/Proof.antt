@@ -1,103 +1,62 @@
 -- `mark` meets its contract.
-use Prim.Native.Nat.{ℕ, _+_, _*_, _-_, _/_, _≤_, _<_}
+use Prim.Native.Nat.{ℕ, _+_, _≤_}
 use native.Mathlib.Omega.{arith}
-use mathlib.Core.Path.{_≡_, refl, sym}
+use mathlib.Core.Path.{sym, ap₂, subst}
 use denote.Ref.{now}
-use lib.ListN.{length, length-replicate}
+use lib.ListN.{getD, length-replicate}
 use borrow.Author.Needs.{needs}
-use mathlib.Core.Bool.{false≢true}
-use Rattle.spec.specs.Book.{frameCount}
-use Rattle.spec.proofs.Bools.{not-true, un-not}
-use Rattle.table.specs.Table.{Planned, Tabled, FramedAll, Hints}
-use Rattle.table.proofs.Pass.{planned-none, tabled-none}
-use Rattle.table.proofs.Words.{hints-none}
+use borrow.Author.Tests.{not-true, not-false}
+use Rattle.table.proofs.Bits.{bits-none}
+use Rattle.table.proofs.Pass.{noted-none}
+use Rattle.table.proofs.Counting.{inside, few-all}
+use Rattle.table.proofs.Marks.{marked-no, marked-all, noted-of}
 use Rattle.table.proofs.mark.Statement.{statement}
 use Rattle.table.proofs.mark.Tie as tie
 
-abbrev Inv-loop : tie.InvT-loop
-Inv-loop book tags bases table₀ words₀ hints₀ frames last₀ k₀ table words hints last k =
-    (k ≤ frames) × (frames ≡ frameCount book) × (length table ≡ 16384) × Planned book tags bases (16 * k) × Tabled book tags bases table (16 * k) × FramedAll book k × Hints hints × (length words ≡ 128) × (last < 16)
+count-of-requires : tie.Need-count-of-requires
+count-of-requires c κs = let a = c .before in (a .pre .4, a .pre .1 .rising)
 
-abbrev μ-loop : tie.MeasureT-loop
-μ-loop book tags bases table₀ words₀ hints₀ frames last₀ k₀ table words hints last k = frames - k
+returns : tie.Need-returns
+returns c =
+    let a = c .before .before .before in
+    marked-no _ _ _ _ _ (λ p all full. omega (arith, few-all (now (a .args .tags)) (now (a .args .bases)) (a .pre .1) (a .pre .4) (now (a .args .book)) all full (a .args .number), c .before .count-of .ensures, c .if1 .taken))
 
-loop-holds : tie.Need-loop-holds Inv-loop μ-loop
-loop-holds c =
-    let a = c .before in
-    let b = now (a .args .book) in
-    (omega arith, refl, a .pre .3, planned-none b (now (a .args .tags)) (now (a .args .bases)), tabled-none b (now (a .args .tags)) (now (a .args .bases)) (now (a .args .table)) (a .pre .2), λ k l. absurd (omega arith), hints-none, length-replicate {A = ℕ} 128 0, omega arith)
+first-of-requires : tie.Need-first-of-requires
+first-of-requires c κs = c .before .before .before .pre .4
 
-sub-block : tie.Need-sub-block Inv-loop μ-loop
-sub-block c = omega arith
+mark-all-requires : tie.Need-mark-all-requires
+mark-all-requires c κs =
+    let a = c .before .before .before .before .before .before in
+    let own = c .before .before .first-of in
+    let pages = c .before .before .before .before .count-of in
+    let in-plan : own .result + pages .result ≤ getD (now (a .args .bases)) 272 0 = subst (λ (x : ℕ). x ≤ getD (now (a .args .bases)) 272 0) (sym (ap₂ _+_ (own .ensures) (pages .ensures))) (inside _ _ (a .pre .1) (a .pre .4) (a .args .number)) in
+    (a .pre .0, a .pre .1, noted-none _ _ _ _ _ _ _ bits-none (a .pre .2) in-plan (omega arith) (length-replicate {A = ℕ} 256 0) (a .pre .3))
 
-block-requires : tie.Need-block-requires Inv-loop μ-loop
-block-requires c κs = search needs
+returns-2 : tie.Need-returns-2
+returns-2 c = marked-no _ _ _ _ _ (λ p all full. c .before .mark-all .ensures .no (not-true _ (c .if2 .taken)) p all)
 
-within : (k r n : ℕ) → k ≤ n → r ≤ n - k → k + r ≤ n
-within k r n h l = omega arith
+element-copy-out-all-marked : tie.Need-element-copy-out-all-marked
+element-copy-out-all-marked c = search needs
 
-singles-requires : tie.Need-singles-requires Inv-loop μ-loop
-singles-requires c κs =
-    let l = c .before .before .before .loop in
-    let b = c .before .block in
-    (b .ensures .0, within _ _ _ (l .inv .0) (b .ensures .1), l .inv .8, l .inv .7)
+all-marked-requires : tie.Need-all-marked-requires
+all-marked-requires c κs = c .before .before .before .before .before .before .before .before .before .before .pre .1 .most
 
-few : (k r n m : ℕ) → k ≤ n → r ≤ n - k → n ≤ m → k + r ≤ m
-few k r n m h l s = omega arith
-
-frames-few : (n : ℕ) → n ≤ 17408 → n / 17 ≤ 1024
-frames-few n h = omega arith
-
-mark-block-requires : tie.Need-mark-block-requires Inv-loop μ-loop
-mark-block-requires c κs =
-    let l = c .before .before .before .before .before .before .before .loop in
-    let a = c .before .before .before .before .before .before .before .before .before in
-    let b = c .before .before .before .before .before .block in
-    ((b .ensures .0, few _ _ _ _ (l .inv .0) (b .ensures .1) (frames-few _ (a .pre .0)), within _ _ _ (l .inv .0) (b .ensures .1), a .pre .1, l .inv .2, l .inv .6, c .before .before .before .singles .ensures .2), (l .inv .3, l .inv .4, l .inv .5))
-
-returns : tie.Need-returns Inv-loop μ-loop
-returns c = record { yes = λ e. absurd (false≢true e); no = λ e p all. c .before .mark-block .ensures .0 .no (not-true _ (c .if1 .taken)) p all }
-
-add-k : tie.Need-add-k Inv-loop μ-loop
-add-k c = omega arith
-
-less : (k r n : ℕ) → k < n → (0 < n - k → 0 < r) → n - (k + r) < n - k
-less k r n h some = let s = some (omega arith) in omega arith
-
-loop-less : tie.Need-loop-less Inv-loop μ-loop
-loop-less c =
-    let b = c .before .before .before .before .before .before .before .block in
-    less _ _ _ (c .before .before .before .before .before .before .before .before .loop-test .taken) (b .ensures .2)
-
-loop-again : tie.Need-loop-again Inv-loop μ-loop
-loop-again c =
-    let m = c .before .mark-block in
-    let s = c .before .before .before .before .before .singles in
-    let b = c .before .before .before .before .before .before .before .block in
-    let l = c .before .before .before .before .before .before .before .before .before .loop in
-    let r = un-not _ (c .if1 .left) in
-    let y = m .ensures .0 .yes r in
-    (within _ _ _ (l .inv .0) (b .ensures .1), refl, m .ensures .0 .long r, y .0, y .1, y .2, m .ensures .1, s .ensures .1, s .ensures .0)
-
-returns-2 : tie.Need-returns-2 Inv-loop μ-loop
-returns-2 c =
-    let l = c .before .loop in
-    let e : l .k ≡ frameCount (now (c .before .before .before .args .book)) = omega arith in
-    record { yes = λ u. (rw e at (l .inv .3), rw e at (l .inv .4), rw e at (l .inv .5)); no = λ u. absurd (false≢true (sym u)) }
+returns-3 : tie.Need-returns-3
+returns-3 c =
+    let y = c .before .before .before .before .mark-all .ensures .yes (not-false _ (c .before .before .before .if2 .left)) in
+    let own = c .before .before .before .before .before .before .before .first-of in
+    let pages = c .before .before .before .before .before .before .before .before .before .count-of in
+    marked-all _ _ _ _ _ _ (y .0) (noted-of _ _ _ _ _ _ _ _ _ (own .ensures) (pages .ensures) (y .1)) (y .2) _ (c .all-marked .ensures)
 
 pub mark-spec : {M : Type 1} → statement M
 mark-spec =
     tie.close
     (tie.spec
-    Inv-loop
-    μ-loop
-    loop-holds
-    sub-block
-    block-requires
-    singles-requires
-    mark-block-requires
+    count-of-requires
     returns
-    add-k
-    loop-less
-    loop-again
-    returns-2)
+    first-of-requires
+    mark-all-requires
+    returns-2
+    element-copy-out-all-marked
+    all-marked-requires
+    returns-3)

@@ -8,11 +8,10 @@ use lib.ListN.{length}
 use denote.Ref.{now}
 use borrow.Rule.Slice.PartMut.{putMid, mid-len}
 use Rattle.spec.specs.Numbers.{maxTop}
-use Rattle.spec.specs.Frames.{Mem, memOf}
+use Rattle.spec.specs.Frames.{Mem, memOf, store}
 use Rattle.spec.specs.Access.{userRangeOk, byteOf, bytesAt, copyStr}
 use Rattle.spec.proofs.Bools.{not-true, un-not}
 use Rattle.laws.proofs.Contents.{length-bytes}
-use Rattle.book.specs.Lent.{store}
 use Rattle.strings.specs.Nul.{toNul}
 use Rattle.strings.proofs.Nul.{nul-most}
 use Rattle.uaccess.specs.Strings.{copied}

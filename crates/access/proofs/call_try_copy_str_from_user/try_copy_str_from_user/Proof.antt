@@ -8,11 +8,10 @@ use borrow.Author.Needs.{needs}
 use Rattle.spec.specs.Numbers.{SetupOk}
 use Rattle.spec.proofs.Setups.{setup-means}
 use Rattle.spec.specs.Book.{frameCount, free}
-use Rattle.spec.specs.Machine.{Ask, try-copy-str-from-user, Reply, outcome, weigh}
-use Rattle.spec.specs.World.{State, view, leave, Does}
+use Rattle.spec.specs.Machine.{Ask, try-copy-str-from-user, Reply, outcome, weigh, call}
+use Rattle.spec.specs.World.{State, view, leave, Does, stateOf}
 use Rattle.laws.proofs.Owned.{valid-means}
-use Rattle.sound.proofs.Lookup.{blank-zeros}
-use Rattle.front.specs.Numbers.{stateOf, call}
+use Rattle.sound.proofs.Lookup.{made-zeros, ready-of}
 use Rattle.front.proofs.First.{Passed, plain-none, sizes-words}
 use Rattle.front.proofs.Answers.{plain-refused, plain-goes}
 use Rattle.access.proofs.Access.{string-whole, string-bad}
@@ -20,7 +19,7 @@ use Rattle.access.proofs.call_try_copy_str_from_user.try_copy_str_from_
 use Rattle.access.proofs.call_try_copy_str_from_user.try_copy_str_from_user.Tie as tie
 
 plain-ready-requires : tie.Need-plain-ready-requires
-plain-ready-requires c κs = (refl, refl, refl, blank-zeros 16384)
+plain-ready-requires c κs = made-zeros
 
 returns : tie.Need-returns
 returns c =
@@ -53,7 +52,7 @@ module _ (c : tie.Else1) where
   answers = plain-goes state (start .args .number) asked (c .before .plain-ready .result) refl (c .before .plain-ready .ensures .0) (c .if1 .left)
 
 try-copy-str-from-user-requires : tie.Need-try-copy-str-from-user-requires
-try-copy-str-from-user-requires c κs = let i = c .before .before .before .before in ((sizes i, i .before .plain-ready .ensures .1 (i .if1 .left), valid-means (start i .args .number) (passed i .number) .0, valid-means (start i .args .number) (passed i .number) .1), accepted i)
+try-copy-str-from-user-requires c κs = let i = c .before .before .before .before in ((sizes i, ready-of (i .before .plain-ready .ensures .1) (i .if1 .left), valid-means (start i .args .number) (passed i .number) .0, valid-means (start i .args .number) (passed i .number) .1), accepted i)
 
 same-length : tie.Need-same-length
 same-length c = search needs

@@ -5,11 +5,10 @@ use denote.Ref.{now}
 use Rattle.spec.specs.Numbers.{SetupOk}
 use Rattle.spec.proofs.Setups.{setup-means}
 use Rattle.spec.specs.Book.{free}
-use Rattle.spec.specs.Machine.{Ask, user-range-ok, Reply, outcome, weigh}
-use Rattle.spec.specs.World.{State, view, leave, Does}
+use Rattle.spec.specs.Machine.{Ask, user-range-ok, Reply, outcome, weigh, call}
+use Rattle.spec.specs.World.{State, view, leave, Does, stateOf}
 use Rattle.laws.proofs.Owned.{valid-means}
-use Rattle.sound.proofs.Lookup.{blank-zeros}
-use Rattle.front.specs.Numbers.{stateOf, call}
+use Rattle.sound.proofs.Lookup.{made-zeros, ready-of}
 use Rattle.front.proofs.First.{Passed, plain-none}
 use Rattle.front.proofs.Answers.{plain-refused, plain-goes}
 use Rattle.access.proofs.Access.{range-yes, range-no}
@@ -17,7 +16,7 @@ use Rattle.access.proofs.call_user_range_ok.user_range_ok.Statement.{st
 use Rattle.access.proofs.call_user_range_ok.user_range_ok.Tie as tie
 
 plain-ready-requires : tie.Need-plain-ready-requires
-plain-ready-requires c κs = (refl, refl, refl, blank-zeros 16384)
+plain-ready-requires c κs = made-zeros
 
 returns : tie.Need-returns
 returns c =
@@ -47,7 +46,7 @@ module _ (c : tie.Else1) where
   answers = plain-goes state (start .args .number) asked (c .before .plain-ready .result) refl (c .before .plain-ready .ensures .0) (c .if1 .left)
 
 user-range-ok-requires : tie.Need-user-range-ok-requires
-user-range-ok-requires c κs = let i = c .before .before .before in ((i .before .plain-ready .ensures .1 (i .if1 .left), valid-means (start i .args .number) (passed i .number) .0, valid-means (start i .args .number) (passed i .number) .1), accepted i)
+user-range-ok-requires c κs = let i = c .before .before .before in ((ready-of (i .before .plain-ready .ensures .1) (i .if1 .left), valid-means (start i .args .number) (passed i .number) .0, valid-means (start i .args .number) (passed i .number) .1), accepted i)
 
 returns-2 : tie.Need-returns-2
 returns-2 c =

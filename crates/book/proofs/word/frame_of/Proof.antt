@@ -5,7 +5,7 @@ use mathlib.Core.Path.{_≡_, refl, sym, ap, _∙_}
 use mathlib.Core.Bool.{Bool}
 use denote.Ref.{now}
 use Rattle.spec.specs.Book.{frameCount, mapping, highest, owns, frameOf}
-use Rattle.book.specs.Lent.{foundOf}
+use Rattle.book.specs.Answers.{foundOf}
 use Rattle.book.proofs.Searches.{highest-here, highest-less, highest-end, key-owns, key-not}
 use Rattle.book.proofs.word.frame_of.Statement.{statement}
 use Rattle.book.proofs.word.frame_of.Tie as tie

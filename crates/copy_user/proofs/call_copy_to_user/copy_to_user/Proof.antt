@@ -9,11 +9,10 @@ use borrow.Author.Tests.{not-true, not-false}
 use Rattle.spec.specs.Numbers.{SetupOk}
 use Rattle.spec.proofs.Setups.{setup-means}
 use Rattle.spec.specs.Book.{frameCount, free}
-use Rattle.spec.specs.Machine.{Ask, copy-to-user, Reply, outcome, weigh}
-use Rattle.spec.specs.World.{State, view, withStore, leave, Does}
+use Rattle.spec.specs.Machine.{Ask, copy-to-user, Reply, outcome, weigh, call}
+use Rattle.spec.specs.World.{State, view, withStore, leave, Does, stateOf}
 use Rattle.laws.proofs.Owned.{valid-means}
-use Rattle.sound.proofs.Lookup.{blank-zeros}
-use Rattle.front.specs.Numbers.{stateOf, call}
+use Rattle.sound.proofs.Lookup.{made-zeros, ready-of}
 use Rattle.front.proofs.First.{Passed, plain-none, sizes-words}
 use Rattle.front.proofs.Answers.{plain-refused, plain-goes}
 use Rattle.copy_user.proofs.Copied.{writes, writes-bad}
@@ -21,7 +20,7 @@ use Rattle.copy_user.proofs.call_copy_to_user.copy_to_user.Statement.{s
 use Rattle.copy_user.proofs.call_copy_to_user.copy_to_user.Tie as tie
 
 plain-ready-requires : tie.Need-plain-ready-requires
-plain-ready-requires c κs = (refl, refl, refl, blank-zeros 16384)
+plain-ready-requires c κs = made-zeros
 
 same-length : tie.Need-same-length
 same-length c = search needs
@@ -60,7 +59,7 @@ module _ (c : tie.Else1) where
   answers = plain-goes state (start .args .number) asked (c .before .plain-ready .result) refl (c .before .plain-ready .ensures .0) (c .if1 .left)
 
 user-range-ok-requires : tie.Need-user-range-ok-requires
-user-range-ok-requires c κs = let i = c .before .before .before .before in ((i .before .plain-ready .ensures .1 (i .if1 .left), valid-means (start i .args .number) (passed i .number) .0, valid-means (start i .args .number) (passed i .number) .1), accepted i)
+user-range-ok-requires c κs = let i = c .before .before .before .before in ((ready-of (i .before .plain-ready .ensures .1) (i .if1 .left), valid-means (start i .args .number) (passed i .number) .0, valid-means (start i .args .number) (passed i .number) .1), accepted i)
 
 forget-requires : tie.Need-forget-requires
 forget-requires c κs = passed (c .before .before .before .before .before .before .before) .number
@@ -83,7 +82,7 @@ write-user-requires : tie.Need-write-user-requires
 write-user-requires c κs =
     let u = c .before .before .before .before .before in
     let i = u .before .before .before .before .before .before in
-    ((sizes i, i .before .plain-ready .ensures .1 (i .if1 .left), valid-means (start i .args .number) (passed i .number) .0, valid-means (start i .args .number) (passed i .number) .1), (start i .args .setup, accepted i, sym (u .before .user-range-ok .ensures (now (start i .args .frames))) ∙ not-false _ (u .if2 .left)))
+    ((sizes i, ready-of (i .before .plain-ready .ensures .1) (i .if1 .left), valid-means (start i .args .number) (passed i .number) .0, valid-means (start i .args .number) (passed i .number) .1), (start i .args .setup, accepted i, sym (u .before .user-range-ok .ensures (now (start i .args .frames))) ∙ not-false _ (u .if2 .left)))
 
 same-length-5 : tie.Need-same-length-5
 same-length-5 c = search needs

@@ -3,13 +3,12 @@
 use mathlib.Core.Path.{_≡_, refl, sym, ap, _∙_}
 use mathlib.Core.Option.{some}
 use mathlib.Core.List.{List}
-use Prim.Native.Nat.{ℕ, _-_, _*_}
+use Prim.Native.Nat.{ℕ, _-_, _*_, _<_}
 use lib.ListN.{length}
 use native.Mathlib.Omega.{arith}
 use denote.Ref.{now}
 use Rattle.spec.specs.Book.{frameCount, frameOf}
-use Rattle.spec.specs.Frames.{Store, hold, frameBytes}
-use Rattle.book.specs.Lent.{store}
+use Rattle.spec.specs.Frames.{Store, hold, frameBytes, store}
 use Rattle.book.proofs.Searches.{Framed, page-found}
 use Rattle.pagealloc.proofs.Placing.{Ran, ran-start, ran-turn, ran-full, ran-end, free-found, free-word}
 use Rattle.pagealloc.proofs.Copying.{not-missing}
@@ -56,7 +55,7 @@ from-is c =
     page-found (l .book) (c .before .before .before .before .before .before .before .before .args .parent) (l .page) (c .from .given .0 .0) (f .result) (told-is (l .book) _ _ _ (c .before .before .before .before .before .before .before .before .args .parent) (l .page) (f .result) (l .inv .2) (f .ensures)) (c .from .given .1)
 
 frame-at-requires : tie.Need-frame-at-requires Inv-loop μ-loop
-frame-at-requires c κs = (omega arith, omega arith, c .before .loop .inv .2 .ready .plan)
+frame-at-requires c κs = (omega arith, omega arith, c .before .loop .inv .2 .ready .plan, c .before .loop .inv .2 .ready .few)
 
 enum-known-from : tie.Need-enum-known-from Inv-loop μ-loop
 enum-known-from c = search needs
@@ -116,7 +115,11 @@ hold-copied-requires c κs =
     ((omega (arith, start .pre .0 .0, l .inv .0 .frames, l .inv .0 .book), found .0, word), (from .there, l .inv .2 .held _ (from .there) (from .used), start .pre .0 .3, start .pre .0 .4, start .pre .1 .0 .3, omega (arith, start .pre .1 .0 .2)))
 
 add-page : tie.Need-add-page Inv-loop μ-loop
-add-page c = omega arith
+add-page c =
+    let start = c .before .before .before .before .before .before .before .before .before .before .before .before .before .before .before .before .before .before .before .before .before in
+    let l = c .before .before .before .before .before .before .before .before .before .before .before .before .before .before .before .before .before .loop in
+    let high : l .page < start .args .recorded .range .end = c .before .before .before .before .before .before .before .before .before .before .before .before .before .before .before .before .loop-test .taken in
+    omega (arith, high, start .pre .1 .0 .2)
 
 loop-less : tie.Need-loop-less Inv-loop μ-loop
 loop-less c = omega arith

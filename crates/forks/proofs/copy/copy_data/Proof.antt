@@ -9,8 +9,7 @@ use denote.Ref.{now}
 use lib.ListN.{length, getD}
 use borrow.Author.Needs.{needs}
 use Rattle.spec.specs.Book.{frameCount, frameOf}
-use Rattle.spec.specs.Frames.{Store, hold, frameBytes}
-use Rattle.book.specs.Lent.{store}
+use Rattle.spec.specs.Frames.{Store, hold, frameBytes, store}
 use Rattle.book.proofs.Searches.{Framed}
 use Rattle.pagealloc.proofs.Placing.{Ran, ran-start, ran-turn, ran-full, ran-end, free-found, free-word}
 use Rattle.fork.specs.Lent.{Held, Kept}
@@ -24,31 +23,37 @@ abbrev pages : Store → ℕ → ℕ → List ℕ
 pages m number a = frameBytes (m .frames) (frameOf (m .book) number a)
 
 abbrev Inv-loop : tie.InvT-loop
-Inv-loop frames₀ book₀ top number child perm end page₀ own i₀ c₀ frames book page i c =
+Inv-loop frames₀ book₀ top number child perm end page₀ count own i₀ c₀ frames book page i c =
     Ran (pages (store frames₀ book₀) number) perm child end page₀ (store frames₀ book₀) (store frames book) page c
     × Kept (store frames₀ book₀) (store frames book) number × Held book number × (page ≡ page₀ + 4096 * i)
 
 abbrev μ-loop : tie.MeasureT-loop
-μ-loop frames₀ book₀ top number child perm end page₀ own i₀ c₀ frames book page i c = end - page
+μ-loop frames₀ book₀ top number child perm end page₀ count own i₀ c₀ frames book page i c = end - page
+
+pages-requires : tie.Need-pages-requires Inv-loop μ-loop
+pages-requires c κs = tt
 
 frames-from-requires : tie.Need-frames-from-requires Inv-loop μ-loop
-frames-from-requires c κs = let s = c .before .before .before .before in (s .pre .0 .1, s .pre .0 .2, s .pre .1 .0 .copyable .start, s .pre .0 .6)
+frames-from-requires c κs = let s = c .before .before .before .before .before in (s .pre .0 .1, s .pre .0 .2, s .pre .1 .0 .copyable .start, s .pre .0 .6, omega (arith, c .before .pages .ensures .0, s .pre .1 .0 .few (s .pre .1 .1)))
 
 loop-holds : tie.Need-loop-holds Inv-loop μ-loop
 loop-holds c =
-    let s = c .before .before .before .before .before in
+    let s = c .before .before .before .before .before .before in
     let a = s .args in
     let g = a .recorded in
     let m : Store = store (now (a .frames)) (now (a .book)) in
     (ran-start (pages m (a .number)) (g .perm) (a .child) (g .range .end) (g .range .start) m (a .top) (s .pre .1 .0 .copyable .start) (s .pre .1 .3), kept-self _ _, s .pre .1 .2, omega arith)
 
--- in a turn: the segment has at most 1,024 pages, and the page's frame was noted
+-- in a turn: the segment has at most 1,024 pages, the page is one of those counted, and its frame was noted
 module _ (c : tie.In-loop Inv-loop μ-loop) where
   abbrev start : tie.Start Inv-loop μ-loop
-  start = c .before .before .before .before .before .before .before
+  start = c .before .before .before .before .before .before .before .before
 
   at-most : c .before .loop .i < 1024
   at-most = omega (arith, c .before .loop .inv .3, start .pre .1 .0 .few (start .pre .1 .1), c .loop-test .taken)
+
+  counted : c .before .loop .i < c .before .before .before .before .pages .result
+  counted = omega (arith, c .before .loop .inv .3, c .before .before .before .before .pages .ensures .0, start .pre .1 .0 .copyable .start, start .pre .1 .0 .copyable .end, c .loop-test .taken)
 
   from-is : Framed (c .before .loop .book) (start .args .number) (c .before .loop .page) (getD (c .before .before .frames-from .result) (c .before .loop .i) 0)
   from-is =
@@ -56,7 +61,7 @@ module _ (c : tie.In-loop Inv-loop μ-loop) where
       let a = start .args in
       let p = start .pre .1 .0 .copyable .mapped (l .page) (l .inv .0 .aligned) (l .inv .0 .onward) (c .loop-test .taken) in
       framed-at (l .book) (a .number) (l .page) (p .0) _ (l .inv .1 .same (l .page) ∙ p .1)
-      (c .before .before .frames-from .ensures .1 (l .i) (p .0) at-most (ap (frameOf (now (a .book)) (a .number)) (sym (l .inv .3)) ∙ p .1))
+      (c .before .before .frames-from .ensures .1 (l .i) (p .0) counted (ap (frameOf (now (a .book)) (a .number)) (sym (l .inv .3)) ∙ p .1))
 
 mul-from : tie.Need-mul-from Inv-loop μ-loop
 mul-from c = omega (arith, at-most c)
@@ -147,7 +152,7 @@ same-length-4 c = omega arith
 returns-2 : tie.Need-returns-2 Inv-loop μ-loop
 returns-2 c =
     let l = c .before .loop in
-    let s = c .before .before .before .before .before .before .before in
+    let s = c .before .before .before .before .before .before .before .before in
     let a = s .args in
     let g = a .recorded in
     let m : Store = store (now (a .frames)) (now (a .book)) in
@@ -161,6 +166,7 @@ copy-data-spec =
     (tie.spec
     Inv-loop
     μ-loop
+    pages-requires
     frames-from-requires
     loop-holds
     mul-from

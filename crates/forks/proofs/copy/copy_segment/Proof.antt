@@ -1,7 +1,7 @@
 -- `copy::copy_segment` meets its contract: a segment that isn't data has nothing to copy.
 use denote.Ref.{now}
 use borrow.Author.Needs.{needs}
-use Rattle.book.specs.Lent.{store}
+use Rattle.spec.specs.Frames.{store}
 use Rattle.fork.proofs.Told.{kept-self}
 use Rattle.forks.proofs.Copies.{copies-none, copies-one}
 use Rattle.forks.proofs.copy.copy_segment.Statement.{statement}

@@ -47,9 +47,9 @@ use denote.Exit.{yes}
 use denote.Triple.Clauses.{ensured, lasts}
 use Rattle.spec.specs.Book.{frameCount, zeroSegment}
 use Rattle.spec.specs.declared.UserSegment.{UserSegment}
+use Rattle.spec.specs.Frames.{store as storeOf}
 use Rattle.spec.proofs.UserSegment as S
 use Rattle.spec.proofs.UserSegment.Laws as S′
-use Rattle.book.specs.Lent.{store as storeOf}
 use Rattle.forks.specs.Lent.{Bounded}
 use Rattle.forks.proofs.copy.copy_segment as one
 use Rattle.forks.proofs.copy.copy_segment.Symbol as one-def

@@ -1,12 +1,11 @@
--- `plain_error` meets its contract: its lists are as long as their types say, and the table is empty.
-use mathlib.Core.Path.{refl}
+-- `plain_error` meets its contract: its lists are zeros.
 use borrow.Author.Needs.{needs}
-use Rattle.sound.proofs.Lookup.{blank-zeros}
+use Rattle.sound.proofs.Lookup.{made-zeros}
 use Rattle.front.proofs.numbers.plain_error.Statement.{statement}
 use Rattle.front.proofs.numbers.plain_error.Tie as tie
 
 plain-ready-requires : tie.Need-plain-ready-requires
-plain-ready-requires c κs = (refl, refl, refl, blank-zeros 16384)
+plain-ready-requires c κs = made-zeros
 
 returns : tie.Need-returns
 returns c = search needs

@@ -1,9 +1,9 @@
 -- `plain_ready` meets its contract: 1 to 3 come first.
-use native.Mathlib.Omega.{arith}
 use mathlib.Core.Path.{refl}
 use borrow.Author.Needs.{needs}
 use Rattle.front.specs.Numbers.{plainError}
 use Rattle.spec.proofs.Chain.{number-first, number-next}
+use Rattle.sound.proofs.Lookup.{left-filled, filled-of}
 use Rattle.front.proofs.First.{given, further}
 use Rattle.front.proofs.numbers.plain_ready.Statement.{statement}
 use Rattle.front.proofs.numbers.plain_ready.Tie as tie
@@ -13,7 +13,7 @@ number-ready-requires c κs = search needs
 
 returns : tie.Need-returns
 unfolding plainError
-returns c = (number-first _ _ _ (c .before .number-ready .ensures .0) (c .if1 .taken), λ z. absurd (c .if1 .taken z))
+returns c = (number-first _ _ _ (c .before .number-ready .ensures .0) (c .if1 .taken), c .before .number-ready .ensures .1)
 
 lives-requires : tie.Need-lives-requires
 lives-requires c κs = search needs
@@ -22,14 +22,14 @@ returns-2 : tie.Need-returns-2
 unfolding plainError
 returns-2 c =
     let d = c .before .before in
-    (number-next _ _ _ 4 (d .before .number-ready .ensures .0) (d .if1 .left) (given _ _ 4 0 (c .before .lives .ensures) (c .if2 .taken)), λ z. absurd (omega arith))
+    (number-next _ _ _ 4 (d .before .number-ready .ensures .0) (d .if1 .left) (given _ _ 4 0 (c .before .lives .ensures) (c .if2 .taken)), left-filled 4 refl (filled-of (d .before .number-ready .ensures .1) (d .if1 .left)))
 
 returns-3 : tie.Need-returns-3
 unfolding plainError
 returns-3 c =
     let d = c .before .before in (
       number-next _ _ _ 0 (d .before .number-ready .ensures .0) (d .if1 .left) (further _ _ 4 0 0 (c .before .lives .ensures) (c .if2 .left) refl),
-      λ z. d .before .number-ready .ensures .1 (d .if1 .left),
+      left-filled 0 refl (filled-of (d .before .number-ready .ensures .1) (d .if1 .left)),
     )
 
 pub plain-ready-spec : {M : Type 1} → statement M

@@ -10,8 +10,7 @@ use denote.Triple.Statement.{Contract, Triple}
 use denote.Triple.Entry.{onEntry}
 use denote.Triple.Spec.{Meets, tripleOf}
 use denote.Triple.Table.{entered, cited}
-use Rattle.spec.specs.Machine.{user-range-ok}
-use Rattle.front.specs.Numbers.{call}
+use Rattle.spec.specs.Machine.{user-range-ok, call}
 use Rattle.access.proofs.user_range_ok as work
 use Rattle.access.proofs.user_range_ok.Symbol as work-def
 use Rattle.access.proofs.user_range_ok.Met as work-thm

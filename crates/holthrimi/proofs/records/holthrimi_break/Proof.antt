@@ -10,8 +10,7 @@ use denote.Triple.Statement.{Contract, Triple}
 use denote.Triple.Entry.{onEntry}
 use denote.Triple.Spec.{Meets, tripleOf}
 use denote.Triple.Table.{entered, cited}
-use Rattle.spec.specs.Machine.{break}
-use Rattle.front.specs.Numbers.{call}
+use Rattle.spec.specs.Machine.{break, call}
 use Rattle.brk.proofs.brk as work
 use Rattle.brk.proofs.brk.Symbol as work-def
 use Rattle.brk.proofs.brk.Met as work-thm

@@ -10,8 +10,7 @@ use denote.Triple.Statement.{Contract, Triple}
 use denote.Triple.Entry.{onEntry}
 use denote.Triple.Spec.{Meets, tripleOf}
 use denote.Triple.Table.{entered, cited}
-use Rattle.spec.specs.Machine.{copy-from-user}
-use Rattle.front.specs.Numbers.{call}
+use Rattle.spec.specs.Machine.{copy-from-user, call}
 use Rattle.copy_user.proofs.copy_from_user as work
 use Rattle.copy_user.proofs.copy_from_user.Symbol as work-def
 use Rattle.copy_user.proofs.copy_from_user.Met as work-thm

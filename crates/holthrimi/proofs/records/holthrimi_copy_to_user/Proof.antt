@@ -10,8 +10,7 @@ use denote.Triple.Statement.{Contract, Triple}
 use denote.Triple.Entry.{onEntry}
 use denote.Triple.Spec.{Meets, tripleOf}
 use denote.Triple.Table.{entered, cited}
-use Rattle.spec.specs.Machine.{copy-to-user}
-use Rattle.front.specs.Numbers.{call}
+use Rattle.spec.specs.Machine.{copy-to-user, call}
 use Rattle.copy_user.proofs.copy_to_user as work
 use Rattle.copy_user.proofs.copy_to_user.Symbol as work-def
 use Rattle.copy_user.proofs.copy_to_user.Met as work-thm

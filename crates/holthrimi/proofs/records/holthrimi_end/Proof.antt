@@ -10,8 +10,7 @@ use denote.Triple.Statement.{Contract, Triple}
 use denote.Triple.Entry.{onEntry}
 use denote.Triple.Spec.{Meets, tripleOf}
 use denote.Triple.Table.{entered, cited}
-use Rattle.spec.specs.Machine.{end}
-use Rattle.front.specs.Numbers.{call}
+use Rattle.spec.specs.Machine.{end, call}
 use Rattle.end.proofs.end as work
 use Rattle.end.proofs.end.Symbol as work-def
 use Rattle.end.proofs.end.Met as work-thm

@@ -11,8 +11,7 @@ use denote.Triple.Entry.{onEntry}
 use denote.Triple.Spec.{Meets, tripleOf}
 use denote.Triple.Table.{entered, cited}
 use Rattle.spec.specs.Book.{used, procAt}
-use Rattle.spec.specs.Machine.{fork}
-use Rattle.front.specs.Numbers.{call}
+use Rattle.spec.specs.Machine.{fork, call}
 use Rattle.fork.proofs.fork as work
 use Rattle.fork.proofs.fork.Symbol as work-def
 use Rattle.fork.proofs.fork.Met as work-thm

@@ -10,8 +10,7 @@ use denote.Triple.Statement.{Contract, Triple}
 use denote.Triple.Entry.{onEntry}
 use denote.Triple.Spec.{Meets, tripleOf}
 use denote.Triple.Table.{entered, cited}
-use Rattle.spec.specs.Machine.{push}
-use Rattle.front.specs.Numbers.{call}
+use Rattle.spec.specs.Machine.{push, call}
 use Rattle.push.proofs.push as work
 use Rattle.push.proofs.push.Symbol as work-def
 use Rattle.push.proofs.push.Met as work-thm

@@ -10,8 +10,7 @@ use denote.Triple.Statement.{Contract, Triple}
 use denote.Triple.Entry.{onEntry}
 use denote.Triple.Spec.{Meets, tripleOf}
 use denote.Triple.Table.{entered, cited}
-use Rattle.spec.specs.Machine.{replace}
-use Rattle.front.specs.Numbers.{call}
+use Rattle.spec.specs.Machine.{replace, call}
 use Rattle.replace.proofs.replace as work
 use Rattle.replace.proofs.replace.Symbol as work-def
 use Rattle.replace.proofs.replace.Met as work-thm

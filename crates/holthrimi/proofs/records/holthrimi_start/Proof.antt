@@ -10,8 +10,7 @@ use denote.Triple.Statement.{Contract, Triple}
 use denote.Triple.Entry.{onEntry}
 use denote.Triple.Spec.{Meets, tripleOf}
 use denote.Triple.Table.{entered, cited}
-use Rattle.spec.specs.Machine.{start}
-use Rattle.front.specs.Numbers.{call}
+use Rattle.spec.specs.Machine.{start, call}
 use Rattle.start.proofs.start as work
 use Rattle.start.proofs.start.Symbol as work-def
 use Rattle.start.proofs.start.Met as work-thm

@@ -33,8 +33,7 @@ use Rattle.spec.specs.declared.Procs.{Procs}
 use Rattle.spec.proofs.Procs as P
 use Rattle.spec.proofs.Setup as S
 use Rattle.spec.proofs.Procs.Laws as P′
-use Rattle.spec.specs.World.{State}
-use Rattle.front.specs.Numbers.{stateOf}
+use Rattle.spec.specs.World.{State, stateOf}
 use Rattle.holthrimi.specs.Rules.{bookError}
 use Rattle.holthrimi.proofs.Locals.{ok, enters, peek, fill, leaves}
 use Rattle.holthrimi.proofs.Params.{Par, bytes, words, records, setup, spells, all-tell, all-fit}

@@ -5,7 +5,7 @@ use native.Mathlib.Omega.{arith}
 use denote.Ref.{now}
 use borrow.Author.Tests.{eq-eqb, ne-eqb}
 use Rattle.spec.specs.Book.{isFree, highest}
-use Rattle.book.specs.Lent.{foundOf}
+use Rattle.book.specs.Answers.{foundOf}
 use Rattle.book.proofs.Searches.{highest-here, highest-less, highest-end}
 use Rattle.pagealloc.proofs.place.free_below.Statement.{statement}
 use Rattle.pagealloc.proofs.place.free_below.Tie as tie

@@ -5,7 +5,7 @@ use Prim.Native.Nat.{_-_}
 use native.Mathlib.Omega.{arith}
 use denote.Ref.{now}
 use Rattle.spec.specs.Numbers.{pageBytes}
-use Rattle.book.specs.Lent.{store}
+use Rattle.spec.specs.Frames.{store}
 use Rattle.pagealloc.specs.Contents.{fileAt}
 use Rattle.pagealloc.proofs.Placing.{Ran, ran-start, ran-turn, ran-full, ran-end, free-found}
 use borrow.Author.Needs.{needs}

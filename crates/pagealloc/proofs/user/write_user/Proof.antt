@@ -5,8 +5,7 @@ use native.Mathlib.Omega.{arith}
 use denote.Ref.{now}
 use lib.ListN.{length, take, length-take, length-drop}
 use Rattle.spec.specs.Numbers.{pageDown}
-use Rattle.spec.specs.Frames.{pokes}
-use Rattle.book.specs.Lent.{store}
+use Rattle.spec.specs.Frames.{pokes, store}
 use Rattle.book.proofs.Searches.{Framed}
 use Rattle.pagealloc.proofs.Chunks.{frame-at, not-missed, write-none, write-turn, write-all}
 use borrow.Author.Needs.{needs}

@@ -10,13 +10,12 @@ use lib.ListN.{take, drop}
 use lib.Seq.{length-take-le}
 use borrow.Author.Needs.{needs}
 use borrow.Author.Tests.{ltb-true, ltb-false}
-use Rattle.spec.specs.Machine.{fork, plainly}
-use Rattle.spec.specs.World.{State, Does}
+use Rattle.spec.specs.Machine.{fork, plainly, call}
+use Rattle.spec.specs.World.{State, Does, stateOf}
 use Rattle.spec.specs.declared.UserSegment.{UserSegment}
 use Rattle.spec.proofs.Bools.{split}
 use Rattle.laws.proofs.Record.{Whole}
 use Rattle.records.proofs.Whole.{whole-procs}
-use Rattle.front.specs.Numbers.{stateOf, call}
 use Rattle.session.specs.Triples.{listOf}
 use Rattle.session.proofs.Filled.{whole}
 use Rattle.session.proofs.Longer.{longer}

@@ -42,8 +42,8 @@ use denote.Triple.Table.{entered, cited}
 use denote.Triple.Walked.{says, needs, Stays, stay-none, goes-none, gave-slice, goes-gave-slice, walkOf, Walks, ends-at, walked, walk-meets}
 use denote.Exit.{yes}
 use denote.Triple.Clauses.{ensured, lasts}
-use Rattle.spec.specs.Machine.{fork, plainly}
-use Rattle.spec.specs.World.{Does}
+use Rattle.spec.specs.Machine.{fork, plainly, call}
+use Rattle.spec.specs.World.{Does, stateOf}
 use Rattle.spec.specs.declared.UserSegment.{UserSegment}
 use Rattle.spec.specs.declared.Procs.{Procs}
 use Rattle.spec.specs.declared.Setup.{Setup}
@@ -53,10 +53,9 @@ use Rattle.spec.proofs.Procs as Ps
 use Rattle.spec.proofs.Procs.Laws as Ps′
 use Rattle.spec.proofs.Setup as Se
 use Rattle.spec.proofs.Setup.Laws as Se′
-use Rattle.front.specs.Numbers.{stateOf, call}
-use Rattle.front.specs.declared.left.Left.{Left}
-use Rattle.front.proofs.left.Left as Lf
-use Rattle.front.proofs.left.Left.Laws as Lf′
+use Rattle.spec.specs.declared.Left.{Left}
+use Rattle.spec.proofs.Left as Lf
+use Rattle.spec.proofs.Left.Laws as Lf′
 use Rattle.forks.proofs.Rows.{Nums, R, Recs, Res, word, slice₀, slice₁, ref₀, ref₁, lent₀, lent₁}
 use Rattle.forks.proofs.Loans.{sliceAt, Owns, OwnsShared}
 use Rattle.forks.proofs.fork_list as inner
