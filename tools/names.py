@@ -42,7 +42,7 @@ def crates():
     return {f.crate for f in files()}
 
 
-RUST = re.compile(r'^( *)(pub )?(extern "C" )?(fn|const|struct|enum|mod) (\w+)(.*)')
+RUST = re.compile(r'^( *)(pub )?(?:pub\(crate\) )?(extern "C" )?(fn|const|struct|enum|mod) (\w+)(.*)')
 
 
 def rust(file):

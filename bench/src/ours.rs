@@ -1,4 +1,4 @@
-//! Our side: frames, book and records lent to the proved library's calls (the crate holthrimi), and the loops of libmeasured.a.
+//! Our side: frames, book and records lent to the proved library's calls (the crate holthrimi), and the loops of libbench_loops.a.
 use crate::region::Region;
 use holthrimi::{Lent, PAGE, Procs, Setup, book_words};
 

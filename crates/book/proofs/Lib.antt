@@ -1,3 +1,4 @@
 -- Loops over the book.
+pub mod Shared
 pub mod Searches
 pub mod Released

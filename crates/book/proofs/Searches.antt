@@ -12,7 +12,7 @@ use Rattle.spec.specs.declared.Found.{Found}
 use Rattle.spec.specs.declared.Found.the-variants.{At, Nothing}
 use Rattle.book.specs.Answers.{foundOf}
 use Rattle.spec.proofs.Bools.{split}
-use Rattle.laws.proofs.Frame.{owns-means, owns-test, frame-found}
+use Rattle.spec_laws.proofs.Frame.{owns-means, owns-test, frame-found}
 
 -- ---- free frames
 

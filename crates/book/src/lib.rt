@@ -4,6 +4,15 @@
 // Book words, and searches of the book.
 mod word;
 
+// Pages released: their mappings become 0, and their frames lose a holder.
+mod release;
+
+// Text and rodata shared by a fork.
+mod share;
+
+pub use release::release_owner;
+pub use release::unmap_and_free;
+pub use share::share_pages;
 pub use word::alone_count;
 pub use word::frame_of;
 pub use word::free_count;
@@ -11,9 +20,3 @@ pub use word::owner_of;
 pub use word::pack;
 pub use word::page_of;
 pub use word::perm_of;
-
-// Pages released: book words that become 0.
-mod release;
-
-pub use release::release_owner;
-pub use release::unmap_and_free;

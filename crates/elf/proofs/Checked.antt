@@ -13,7 +13,7 @@ use Rattle.spec.specs.Tests.{_is_, _isnt_, _below_, _above_, _⇒_else_}
 use Rattle.spec.specs.Numbers.{pageUp, pageDown}
 use Rattle.spec.specs.Elf.{Phdr, flagPerm, phdrError, segmentOf}
 use Rattle.elf.specs.Reader.{segmentFrom, Checked}
-use Rattle.laws.proofs.Headers.{Header, header-means}
+use Rattle.spec_laws.proofs.Headers.{Header, header-means}
 
 -- its segment
 pub checked : (image : List ℕ) (end : ℕ) (p : Phdr) → Header image end p → Checked (length image) (segmentFrom p)

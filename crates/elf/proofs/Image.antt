@@ -9,10 +9,10 @@ use lib.ListN.{length, take}
 use borrow.Author.Tests.{lt-ltb, le-ltb, ltb-false}
 use Rattle.spec.specs.Tests.{_is_, _isnt_, _below_, _above_, _⇒_else_, _orElse_, same}
 use Rattle.spec.specs.Elf.{magic, phoff, phnum, ehdrError, phdrs, phdrError, segmentsOf, entryInText, elfError}
-use Rattle.header.specs.Header.{ehdrOf, fieldsError}
+use Rattle.elf_header.specs.Header.{ehdrOf, fieldsError}
 use Rattle.elf.specs.Reader.{scanError, imageError}
-use Rattle.header.specs.declared.Ehdr.{Ehdr}
-use Rattle.laws.proofs.Checks.{passes, failed, or-else}
+use Rattle.elf_header.specs.declared.header.Ehdr.{Ehdr}
+use Rattle.spec_laws.proofs.Checks.{passes, failed, or-else}
 
 -- ---- the ELF header
 

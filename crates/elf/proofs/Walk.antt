@@ -19,8 +19,8 @@ use Rattle.elf.specs.declared.Load.{Load}
 use Rattle.elf.specs.declared.Load.the-variants.{Skip, Segment as Taken}
 use Rattle.elf.specs.declared.Seen.{Seen}
 use Rattle.elf.specs.declared.Step.{Step}
-use Rattle.laws.proofs.Checks.{checks, passed, passes, through, stops}
-use Rattle.laws.proofs.Headers.{tests, one-header, header-means, file-length}
+use Rattle.spec_laws.proofs.Checks.{checks, passed, passes, through, stops}
+use Rattle.spec_laws.proofs.Headers.{tests, one-header, header-means, file-length}
 use Rattle.elf.proofs.Checked.{AllChecked}
 
 -- of the headers that are left a walk takes the first, or skips it, and goes on 56 bytes further

@@ -8,8 +8,8 @@ use mathlib.Core.List.{List, [], _∷_, map}
 use lib.ListN.{length, take, drop}
 use Rattle.spec.specs.Tests.{_is_, _above_, _⇒_else_, _orElse_, any, filter}
 use Rattle.spec.specs.Elf.{Phdr, Segment as Loadable, phdrsFrom, loads, flagPerm, phdrAt, phdrError, segmentOf, inFile, errorNumber, entry, phoff, phnum, elfError}
-use Rattle.header.specs.declared.Ehdr.{Ehdr}
-use Rattle.header.specs.Header.{fieldsError}
+use Rattle.elf_header.specs.declared.header.Ehdr.{Ehdr}
+use Rattle.elf_header.specs.Header.{fieldsError}
 use Rattle.elf.specs.declared.Seen.{Seen}
 use Rattle.elf.specs.declared.Step.{Step}
 use Rattle.elf.specs.declared.Step.the-variants.{Stop, Next}

@@ -1,6 +1,6 @@
 // ELF-64 executables, as r9's elf.rs: an image is checked as a static aarch64 executable, and its loadable segments are read through
 // its reader, `Elf`, which `parse` alone makes. Where segments may go in memory is the loader's business. Fields and headers are read
-// by the crates field, header and phdr.
+// by the crate elf_header.
 //
 // The borrow checker covers no function over a struct that holds a slice, so that the few here are thin, each is proved by hand, and
 // functions on plain slices and numbers do the work. Callers use those at the end of this file, which take an image: `number_of`
@@ -11,13 +11,13 @@ ghost use mathlib.Core.Bool.{false};
 ghost use Prim.Native.Nat.{_+_, _*_, _≤_, _<_};
 ghost use lib.ListN.{length, take, drop};
 ghost use Rattle.spec.specs.Elf.{phoff, phnum, entry, phdrAt, elfError};
-ghost use Rattle.header.specs.Header.{verdictNumber};
-ghost use Rattle.phdr.specs.Phdr.{phdrOf};
+ghost use Rattle.elf_header.specs.Header.{verdictNumber};
+ghost use Rattle.elf_header.specs.Phdr.{phdrOf};
 ghost use Rattle.elf.specs.Reader.{left, scanError, imageError, Steps, tableOf, entryOf, partOf, loadOf, loadIn};
-use header::Ehdr;
-use header::PHDR_SIZE;
-use header::Verdict;
-use phdr::Phdr;
+use elf_header::Ehdr;
+use elf_header::PHDR_SIZE;
+use elf_header::Phdr;
+use elf_header::Verdict;
 use spec::ElfError;
 
 // A checked image: the image, its program headers, where it is entered, and the number that it is refused with, or 0. A refused one has
@@ -60,15 +60,15 @@ pub enum Step {
 fn advance(image: &[u8], entry: u64, seen: Seen, p: Phdr) -> Step
     ensures { λ r. ⌜ Steps (now (image .entry)) entry seen (phdrOf p) r ⌝ }
 {
-    if !phdr::is_load(p) {
+    if !elf_header::is_load(p) {
         return Step::Next(seen);
     }
-    let v = phdr::judge_phdr(image, seen.end, p);
+    let v = elf_header::judge_phdr(image, seen.end, p);
     match v {
         Verdict::Refused(e) => Step::Stop(e),
         Verdict::Fine => Step::Next(Seen {
             end: mem::page_up(p.vaddr + p.memsz),
-            found: seen.found | phdr::in_text(entry, p),
+            found: seen.found | elf_header::in_text(entry, p),
         }),
     }
 }
@@ -85,7 +85,7 @@ fn scan(image: &[u8], entry: u64, phoff: usize, phnum: usize) -> Verdict
     let mut at = phoff;
     let mut k = phnum;
     while k > 0 {
-        let s = advance(image, entry, seen, phdr::read_phdr(image, at));
+        let s = advance(image, entry, seen, elf_header::read_phdr(image, at));
         at += PHDR_SIZE;
         k -= 1;
         match s {
@@ -108,7 +108,7 @@ fn scan(image: &[u8], entry: u64, phoff: usize, phnum: usize) -> Verdict
 fn judge(image: &[u8], h: Ehdr) -> Verdict
     ensures { λ r. ⌜ verdictNumber r ≡ imageError (now (image .entry)) h ⌝ }
 {
-    let v = header::judge_ehdr(image.len(), h);
+    let v = elf_header::judge_ehdr(image.len(), h);
     match v {
         Verdict::Refused(e) => Verdict::Refused(e),
         Verdict::Fine => scan(image, h.entry, h.phoff as usize, h.phnum as usize),
@@ -119,15 +119,15 @@ fn judge(image: &[u8], h: Ehdr) -> Verdict
 fn error(image: &[u8]) -> u64
     ensures { λ n. ⌜ n ≡ elfError (now (image .entry)) ⌝ }
 {
-    if image.len() < header::EHDR_SIZE {
-        return field::error_number(ElfError::Truncated);
+    if image.len() < elf_header::EHDR_SIZE {
+        return elf_header::error_number(ElfError::Truncated);
     }
-    if !field::has_magic(image) {
-        return field::error_number(ElfError::BadMagic);
+    if !elf_header::has_magic(image) {
+        return elf_header::error_number(ElfError::BadMagic);
     }
-    let v = judge(image, header::read_ehdr(image));
+    let v = judge(image, elf_header::read_ehdr(image));
     match v {
-        Verdict::Refused(e) => field::error_number(e),
+        Verdict::Refused(e) => elf_header::error_number(e),
         Verdict::Fine => 0,
     }
 }
@@ -140,7 +140,7 @@ fn table_in<'a>(image: &'a [u8], number: u64) -> &'a [u8]
     if number != 0 {
         return &image[..0];
     }
-    let h = header::read_ehdr(image);
+    let h = elf_header::read_ehdr(image);
     let from = h.phoff as usize;
     let to = from + PHDR_SIZE * h.phnum as usize;
     &image[from..to]
@@ -154,7 +154,7 @@ fn entry_in(image: &[u8], number: u64) -> u64
     if number != 0 {
         return 0;
     }
-    header::read_ehdr(image).entry
+    elf_header::read_ehdr(image).entry
 }
 
 // The segment that the program header at a place of an image describes, unless it is skipped.
@@ -162,11 +162,11 @@ fn segment_at(image: &[u8], at: usize) -> Load
     requires { ⌜ at + 56 ≤ length (now image) ⌝ }
     ensures { λ r. ⌜ r ≡ loadOf (phdrAt (now (image .entry)) at) ⌝ }
 {
-    let p = phdr::read_phdr(image, at);
-    if !phdr::is_load(p) {
+    let p = elf_header::read_phdr(image, at);
+    if !elf_header::is_load(p) {
         return Load::Skip;
     }
-    let perm = field::perm(p.flags);
+    let perm = elf_header::perm(p.flags);
     Load::Segment(Segment {
         vaddr: p.vaddr,
         memsz: p.memsz,
@@ -273,7 +273,7 @@ pub fn count_of(image: &[u8]) -> usize
     requires { ⌜ elfError (now image) ≡ 0 ⌝ }
     ensures { λ r. ⌜ r ≡ phnum (now (image .entry)) ⌝ }
 {
-    header::read_ehdr(image).phnum as usize
+    elf_header::read_ehdr(image).phnum as usize
 }
 
 // The segment that program header `i` of an accepted image describes, unless it is skipped.

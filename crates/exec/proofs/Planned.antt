@@ -15,12 +15,12 @@ use Rattle.spec.specs.Elf.{entry, elfError, Segment, segmentsOf}
 use Rattle.spec.specs.Exec.{layoutOk, bssOf, imageSegments, imageBss, imageError, startPieces}
 use Rattle.spec.specs.declared.VirtRange.{VirtRange}
 use Rattle.spec.specs.declared.UserSegment.{UserSegment}
-use Rattle.laws.proofs.Accepted.{accepted-means, recorded-all}
-use Rattle.laws.proofs.Headers.{AllLoad, elf-loads}
+use Rattle.spec_laws.proofs.Accepted.{accepted-means, recorded-all}
+use Rattle.spec_laws.proofs.Headers.{AllLoad, elf-loads}
 use Rattle.spec.proofs.Bools.{split}
 use Rattle.spec.proofs.Free.{count-append}
 use Rattle.spec.specs.declared.Setup.{Setup}
-use Rattle.recorded.specs.Pages.{recorded}
+use Rattle.exec.specs.Pages.{recorded}
 use Rattle.exec.specs.Plan.{refusedPlan, acceptedPlan, planOf}
 use Rattle.exec.specs.declared.Plan.{Plan}
 

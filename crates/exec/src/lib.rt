@@ -1,5 +1,8 @@
-// The plan of a program, as r9's exec.rs: its layout (crate layout), its record's segments (crate recorded), and how many pages a start
+// The plan of a program, as r9's exec.rs: its layout (module layout), its record's segments (module recorded), and how many pages a start
 // takes. Nothing here touches memory: a call maps what is planned here.
+
+mod layout;
+mod recorded;
 
 ghost use mathlib.Core.Path.{_≡_};
 ghost use mathlib.Core.Bool.{true};
@@ -7,7 +10,8 @@ ghost use Rattle.spec.specs.Numbers.{SetupOk};
 ghost use Rattle.spec.specs.Elf.{elfError, segmentsOf};
 ghost use Rattle.spec.specs.Exec.{layoutOk, imageBss};
 ghost use Rattle.exec.specs.Plan.{refusedPlan, planOf};
-use layout::Fit;
+use crate::layout::Fit;
+pub use recorded::user_segment;
 use spec::Setup;
 use spec::UserSegment;
 use spec::VirtRange;
@@ -53,7 +57,7 @@ fn fill(setup: Setup, image: &[u8], bss: VirtRange) -> Plan
     ensures { λ r. ⌜ r ≡ planOf setup (now (image .entry)) ⌝ }
 {
     let size = setup.ustksize;
-    let r = recorded::segments(image, bss);
+    let r = crate::recorded::segments(image, bss);
     let count = r.count;
     let mut segments = r.segments;
     if count > 15 {
@@ -84,7 +88,7 @@ fn plan_parsed(setup: Setup, image: &[u8]) -> Plan
     requires { ⌜ SetupOk setup ⌝ }
     ensures { λ r. ⌜ r ≡ planOf setup (now (image .entry)) ⌝ }
 {
-    let f = layout::layout(setup, image);
+    let f = crate::layout::layout(setup, image);
     match f {
         Fit::Refused => refused(spec::EBADEXEC, 0),
         Fit::Fits(l) => {

@@ -47,11 +47,11 @@ use Rattle.spec.proofs.Answer as N
 use Rattle.spec.specs.declared.Left.{Left}
 use Rattle.spec.proofs.Left as L
 use Rattle.spec.proofs.Left.Laws as L′
-use Rattle.told.specs.declared.Told.{Told}
-use Rattle.told.specs.Tells.{toldOf, Tells}
-use Rattle.told.proofs.Told as O
-use Rattle.told.proofs.Told.Laws as O′
-use Rattle.told.proofs.tell.Symbol.{name as #tell}
+use Rattle.holthrimi.specs.declared.told.Told.{Told}
+use Rattle.holthrimi.specs.Tells.{toldOf, Tells}
+use Rattle.holthrimi.proofs.told.Told as O
+use Rattle.holthrimi.proofs.told.Told.Laws as O′
+use Rattle.holthrimi.proofs.told.tell.Symbol.{name as #tell}
 use Rattle.holthrimi.proofs.Locals.{Cell, empty, holds, with, At, Whole, locals, dead, peek, peek-in, fill}
 use Rattle.holthrimi.proofs.Params.{Par, slots}
 use Rattle.holthrimi.proofs.Opening.{Opening, opening}

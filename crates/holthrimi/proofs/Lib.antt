@@ -1,4 +1,5 @@
 -- How the exported calls are walked.
+pub mod Linked
 pub mod Locals
 pub mod Params
 pub mod Telling

@@ -40,11 +40,11 @@ use Rattle.spec.proofs.Procs.Laws as P′
 use Rattle.spec.specs.declared.Answer.{Answer}
 use Rattle.spec.proofs.Answer as N
 use Rattle.spec.proofs.Answer.Laws as N′
-use Rattle.told.specs.declared.Told.{Told}
-use Rattle.told.specs.Tells.{Tells}
-use Rattle.told.proofs.Told as O
-use Rattle.told.proofs.Told.Laws as O′
-use Rattle.told.proofs.tell.Symbol.{name as #tell}
+use Rattle.holthrimi.specs.declared.told.Told.{Told}
+use Rattle.holthrimi.specs.Tells.{Tells}
+use Rattle.holthrimi.proofs.told.Told as O
+use Rattle.holthrimi.proofs.told.Told.Laws as O′
+use Rattle.holthrimi.proofs.told.tell.Symbol.{name as #tell}
 use Rattle.holthrimi.proofs.Locals.{Cell, empty, holds, with, At, locals, dead, peek, fill, Whole}
 use Rattle.holthrimi.proofs.Params.{Par, slots}
 use Rattle.holthrimi.proofs.Opening.{Opening, opening}

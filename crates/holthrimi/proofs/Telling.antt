@@ -54,14 +54,14 @@ use Rattle.spec.proofs.Procs.Laws as P′
 use Rattle.spec.specs.declared.Setup.{Setup}
 use Rattle.spec.proofs.Setup as S
 use Rattle.spec.proofs.Setup.Laws as S′
-use Rattle.told.specs.declared.Told.{Told}
-use Rattle.told.specs.Tells.{toldOf, Tells}
-use Rattle.told.proofs.Told as O
-use Rattle.told.proofs.Told.Laws as O′
-use Rattle.told.proofs.tell as tell
-use Rattle.told.proofs.tell.Symbol as tell-def
-use Rattle.told.proofs.tell.Symbol.{name as #tell}
-use Rattle.told.proofs.tell.Met as tell-thm
+use Rattle.holthrimi.specs.declared.told.Told.{Told}
+use Rattle.holthrimi.specs.Tells.{toldOf, Tells}
+use Rattle.holthrimi.proofs.told.Told as O
+use Rattle.holthrimi.proofs.told.Told.Laws as O′
+use Rattle.holthrimi.proofs.told.tell as tell
+use Rattle.holthrimi.proofs.told.tell.Symbol as tell-def
+use Rattle.holthrimi.proofs.told.tell.Symbol.{name as #tell}
+use Rattle.holthrimi.proofs.told.tell.Met as tell-thm
 use Rattle.holthrimi.proofs.Params.{Par, rows, spells}
 use Rattle.holthrimi.proofs.Locals.{Cell, empty, holds, with, At, Whole, locals, dead, peek, peek-in, fill, leaves}
 

@@ -5,3 +5,4 @@
 mod reads;
 mod records;
 mod rules;
+mod told;

@@ -1,14 +1,14 @@
 // The calls that change nothing but a lent buffer. Each copies the records from behind their reference, makes the call of its name in
-// crate access with the other arguments as they are, and tells its answer.
+// crate call_access with the other arguments as they are, and tells its answer.
 
 ghost use mathlib.Core.Path.{_≡_};
 ghost use mathlib.Core.List.{[]};
 ghost use Rattle.spec.specs.Machine.{user-range-ok, try-copy-str-from-user, call};
 ghost use Rattle.spec.specs.World.{stateOf};
-ghost use Rattle.told.specs.Tells.{Tells};
+ghost use Rattle.holthrimi.specs.Tells.{Tells};
+use crate::told::Told;
 use spec::Procs;
 use spec::Setup;
-use told::Told;
 
 #[no_mangle]
 pub extern "C" fn holthrimi_user_range_ok(
@@ -24,8 +24,8 @@ pub extern "C" fn holthrimi_user_range_ok(
     ensures { λ r. ⌜ Tells (stateOf setup (now (frames .entry)) (now (book .entry)) (now (procs .entry))) (call number (user-range-ok addr len write)) (stateOf setup (now (frames .entry)) (now (book .entry)) (now (procs .entry))) r [] ⌝ }
 {
     let records = *procs;
-    let answer = access::user_range_ok(setup, frames, book, records, number, addr, len, write);
-    told::tell(answer)
+    let answer = call_access::user_range_ok(setup, frames, book, records, number, addr, len, write);
+    crate::told::tell(answer)
 }
 
 #[no_mangle]
@@ -41,6 +41,14 @@ pub extern "C" fn holthrimi_try_copy_str_from_user(
     ensures { λ r. ⌜ Tells (stateOf setup (now (frames .entry)) (now (book .entry)) (now (procs .entry))) (call number (try-copy-str-from-user (now (dst .entry)) src)) (stateOf setup (now (frames .entry)) (now (book .entry)) (now (procs .entry))) r (now (dst .exit)) ⌝ }
 {
     let records = *procs;
-    let answer = access::try_copy_str_from_user(setup, frames, book, records, number, dst, src);
-    told::tell(answer)
+    let answer = call_access::try_copy_str_from_user(
+        setup,
+        frames,
+        book,
+        records,
+        number,
+        dst,
+        src,
+    );
+    crate::told::tell(answer)
 }

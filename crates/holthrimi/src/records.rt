@@ -1,16 +1,16 @@
 // The calls that change frames, book or records. Each copies the records from behind their reference, makes the call of its name in
-// that call's own crate (`start::start`; the copies in access) with the other arguments as they are, puts back the records that it
+// that call's own crate (`call_start::start`; the copies in access) with the other arguments as they are, puts back the records that it
 // leaves, and tells its answer.
 
 ghost use mathlib.Core.List.{[]};
 ghost use Rattle.spec.specs.Book.{used, procAt};
 ghost use Rattle.spec.specs.Machine.{start, replace, push, break, fork, end, copy-from-user, copy-to-user, call};
 ghost use Rattle.spec.specs.World.{stateOf};
-ghost use Rattle.told.specs.Tells.{Tells};
+ghost use Rattle.holthrimi.specs.Tells.{Tells};
+use crate::told::Told;
 use spec::Procs;
 use spec::Setup;
 use spec::UserSegment;
-use told::Told;
 
 #[no_mangle]
 pub extern "C" fn holthrimi_start(
@@ -27,7 +27,7 @@ pub extern "C" fn holthrimi_start(
     ensures { λ r. ⌜ Tells (stateOf setup (now (frames .entry)) (now (book .entry)) (now (procs .entry))) (call number (start (now (image .entry)) (now (name .entry)) (now (bytes .entry)) (now (lengths .entry)))) (stateOf setup (now (frames .exit)) (now (book .exit)) (now (procs .exit))) r [] ⌝ }
 {
     let before = *procs;
-    let left = start::start(
+    let left = call_start::start(
         setup,
         frames,
         book,
@@ -39,7 +39,7 @@ pub extern "C" fn holthrimi_start(
         lengths,
     );
     *procs = left.procs;
-    told::tell(left.answer)
+    crate::told::tell(left.answer)
 }
 
 #[no_mangle]
@@ -56,9 +56,9 @@ pub extern "C" fn holthrimi_replace(
     ensures { λ r. ⌜ Tells (stateOf setup (now (frames .entry)) (now (book .entry)) (now (procs .entry))) (call number (replace (now (image .entry)) (now (name .entry)) argv)) (stateOf setup (now (frames .exit)) (now (book .exit)) (now (procs .exit))) r [] ⌝ }
 {
     let before = *procs;
-    let left = replace::replace(setup, frames, book, before, number, image, name, argv);
+    let left = call_replace::replace(setup, frames, book, before, number, image, name, argv);
     *procs = left.procs;
-    told::tell(left.answer)
+    crate::told::tell(left.answer)
 }
 
 #[no_mangle]
@@ -76,9 +76,9 @@ pub extern "C" fn holthrimi_push(
     ensures { λ r. ⌜ Tells (stateOf setup (now (frames .entry)) (now (book .entry)) (now (procs .entry))) (call number (push pc top (now (bytes .entry)) (now (lengths .entry)))) (stateOf setup (now (frames .exit)) (now (book .exit)) (now (procs .exit))) r [] ⌝ }
 {
     let before = *procs;
-    let left = push::push(setup, frames, book, before, number, pc, top, bytes, lengths);
+    let left = call_push::push(setup, frames, book, before, number, pc, top, bytes, lengths);
     *procs = left.procs;
-    told::tell(left.answer)
+    crate::told::tell(left.answer)
 }
 
 #[no_mangle]
@@ -93,9 +93,9 @@ pub extern "C" fn holthrimi_break(
     ensures { λ r. ⌜ Tells (stateOf setup (now (frames .entry)) (now (book .entry)) (now (procs .entry))) (call number (break addr)) (stateOf setup (now (frames .exit)) (now (book .exit)) (now (procs .exit))) r [] ⌝ }
 {
     let before = *procs;
-    let left = brk::brk(setup, frames, book, before, number, addr);
+    let left = call_break::brk(setup, frames, book, before, number, addr);
     *procs = left.procs;
-    told::tell(left.answer)
+    crate::told::tell(left.answer)
 }
 
 // The child's segments are its parent's record's.
@@ -111,9 +111,9 @@ pub extern "C" fn holthrimi_fork(
     ensures { λ r. ⌜ Tells (stateOf setup (now (frames .entry)) (now (book .entry)) (now (procs .entry))) (call number (fork child (used (procAt (now (procs .entry)) number .segments)))) (stateOf setup (now (frames .exit)) (now (book .exit)) (now (procs .exit))) r [] ⌝ }
 {
     let before = *procs;
-    let left = fork::fork(setup, frames, book, before, number, child);
+    let left = call_fork::fork(setup, frames, book, before, number, child);
     *procs = left.procs;
-    told::tell(left.answer)
+    crate::told::tell(left.answer)
 }
 
 // The same with the parent's recorded segments lent as a list, which the call compares with the record.
@@ -130,9 +130,9 @@ pub extern "C" fn holthrimi_fork_list(
     ensures { λ r. ⌜ Tells (stateOf setup (now (frames .entry)) (now (book .entry)) (now (procs .entry))) (call number (fork child (now (segments .entry)))) (stateOf setup (now (frames .exit)) (now (book .exit)) (now (procs .exit))) r [] ⌝ }
 {
     let before = *procs;
-    let left = forks::fork_list(setup, frames, book, before, number, child, segments);
+    let left = call_fork::fork_list(setup, frames, book, before, number, child, segments);
     *procs = left.procs;
-    told::tell(left.answer)
+    crate::told::tell(left.answer)
 }
 
 #[no_mangle]
@@ -146,9 +146,9 @@ pub extern "C" fn holthrimi_end(
     ensures { λ r. ⌜ Tells (stateOf setup (now (frames .entry)) (now (book .entry)) (now (procs .entry))) (call number end) (stateOf setup (now (frames .exit)) (now (book .exit)) (now (procs .exit))) r [] ⌝ }
 {
     let before = *procs;
-    let left = end::end(setup, frames, book, before, number);
+    let left = call_end::end(setup, frames, book, before, number);
     *procs = left.procs;
-    told::tell(left.answer)
+    crate::told::tell(left.answer)
 }
 
 #[no_mangle]
@@ -164,9 +164,9 @@ pub extern "C" fn holthrimi_copy_from_user(
     ensures { λ r. ⌜ Tells (stateOf setup (now (frames .entry)) (now (book .entry)) (now (procs .entry))) (call number (copy-from-user (now (dst .entry)) src)) (stateOf setup (now (frames .exit)) (now (book .exit)) (now (procs .exit))) r (now (dst .exit)) ⌝ }
 {
     let before = *procs;
-    let left = access::copy_from_user(setup, frames, book, before, number, dst, src);
+    let left = call_access::copy_from_user(setup, frames, book, before, number, dst, src);
     *procs = left.procs;
-    told::tell(left.answer)
+    crate::told::tell(left.answer)
 }
 
 #[no_mangle]
@@ -182,7 +182,7 @@ pub extern "C" fn holthrimi_copy_to_user(
     ensures { λ r. ⌜ Tells (stateOf setup (now (frames .entry)) (now (book .entry)) (now (procs .entry))) (call number (copy-to-user dst (now (bytes .entry)))) (stateOf setup (now (frames .exit)) (now (book .exit)) (now (procs .exit))) r [] ⌝ }
 {
     let before = *procs;
-    let left = access::copy_to_user(setup, frames, book, before, number, dst, bytes);
+    let left = call_access::copy_to_user(setup, frames, book, before, number, dst, bytes);
     *procs = left.procs;
-    told::tell(left.answer)
+    crate::told::tell(left.answer)
 }

@@ -10,14 +10,14 @@ ghost use Rattle.spec.specs.SetupText.{readSetup};
 ghost use Rattle.spec.specs.World.{stateOf};
 ghost use Rattle.segment.specs.Rule.{optOf, breakOf};
 ghost use Rattle.text.specs.Text.{Puts};
-ghost use Rattle.setup_text.specs.Said.{told};
-ghost use Rattle.setup_put.specs.Text.{setupIn};
-ghost use Rattle.args.specs.Sizes.{saturated};
+ghost use Rattle.setup.specs.Said.{told};
+ghost use Rattle.setup.specs.Text.{setupIn};
+ghost use Rattle.exec_args.specs.Sizes.{saturated};
 ghost use Rattle.holthrimi.specs.Rules.{bssOf, ruleOf, ibrkIn, argsIn, planIn, plannedOf, bookWords, bookError};
 use exec::Plan;
 use segment::Break;
 use segment::Bss;
-use setup_text::SetupRead;
+use setup::SetupRead;
 use spec::Procs;
 use spec::Setup;
 use spec::UserSegment;
@@ -103,7 +103,7 @@ pub extern "C" fn holthrimi_ibrk(
 pub extern "C" fn holthrimi_stack_size(strings: u64, nargs: u64) -> u64
     ensures { λ r. ⌜ r ≡ saturated (stackSize strings nargs) ⌝ }
 {
-    args::stack_size(strings, nargs)
+    exec_args::stack_size(strings, nargs)
 }
 
 // The number that arguments are refused with: 1 for lengths that don't sum to their bytes, 38 for a setup that breaks a condition, 32
@@ -112,13 +112,13 @@ pub extern "C" fn holthrimi_stack_size(strings: u64, nargs: u64) -> u64
 pub extern "C" fn holthrimi_args_error(setup: Setup, bytes: &[u8], lengths: &[u64]) -> u64
     ensures { λ r. ⌜ r ≡ argsIn setup (now (bytes .entry)) (now (lengths .entry)) ⌝ }
 {
-    if !args::lengths_fit(bytes, lengths) {
+    if !exec_args::lengths_fit(bytes, lengths) {
         return spec::SIZES;
     }
     if !setup::setup_ok(setup) {
         return spec::SETUP;
     }
-    let a = args::args_size(setup, bytes, lengths);
+    let a = exec_args::args_size(setup, bytes, lengths);
     a.error
 }
 
@@ -127,7 +127,7 @@ pub extern "C" fn holthrimi_args_error(setup: Setup, bytes: &[u8], lengths: &[u6
 pub extern "C" fn holthrimi_read_setup(bytes: &[u8]) -> SetupRead
     ensures { λ r. ⌜ told r ≡ readSetup (now (bytes .entry)) ⌝ }
 {
-    setup_text::read_setup(bytes)
+    setup::read_setup(bytes)
 }
 
 // Puts the four lines of a setup into a buffer, and answers their length; one without room for the longest is left as it is, and the
@@ -136,7 +136,7 @@ pub extern "C" fn holthrimi_read_setup(bytes: &[u8]) -> SetupRead
 pub extern "C" fn holthrimi_write_setup(setup: Setup, out: &mut [u8]) -> usize
     ensures { λ r. ⌜ Puts (now (out .entry)) 0 (setupIn (length (now (out .entry))) setup) (now (out .exit)) r ⌝ }
 {
-    setup_put::setup_into(out, setup)
+    setup::setup_into(out, setup)
 }
 
 // Copies a name into 28 bytes, as Plan 9's kstrcpy.
@@ -214,7 +214,7 @@ pub extern "C" fn holthrimi_book_words(frames: u64) -> u64
 fn book_error(setup: Setup, frames: &[u8], book: &[u64], procs: Procs) -> u64
     ensures { λ r. ⌜ r ≡ bookError (stateOf setup (now (frames .entry)) (now (book .entry)) procs) ⌝ }
 {
-    if !front::numbers::sizes_ok(frames, book) {
+    if !call_front::sizes_ok(frames, book) {
         return spec::SIZES;
     }
     sound::sound_error(setup, book, procs)

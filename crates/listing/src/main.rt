@@ -7,6 +7,6 @@ fn main() {
     let mut image = [0u8; 32769];
     let n = io::read_full(0, &mut image);
     let mut out = [0u8; 1024];
-    let k = list::list_into(&image[..n], &mut out);
+    let k = listing_lines::list_into(&image[..n], &mut out);
     io::write_all(STDOUT_FILENO, &out[..k]);
 }

@@ -47,7 +47,7 @@ fn list(name: &[u8], image: &[u8]) {
     io::write_all(STDOUT_FILENO, name);
     io::write_all(STDOUT_FILENO, b"\n");
     let mut out = [0u8; 1024];
-    let k = list::list_into(image, &mut out);
+    let k = listing_lines::list_into(image, &mut out);
     io::write_all(STDOUT_FILENO, &out[..k]);
 }
 

@@ -9,7 +9,7 @@ use lib.ListN.{take, drop}
 use Rattle.spec.specs.Book.{holders}
 use Rattle.spec.specs.Frames.{put, frameBytes}
 use Rattle.spec.specs.declared.Found.the-variants.{Nothing}
-use Rattle.laws.proofs.Lists.{by-order}
+use Rattle.spec_laws.proofs.Lists.{by-order}
 use Rattle.book.specs.Answers.{foundOf}
 use Rattle.book.proofs.Searches.{found-none}
 

@@ -16,8 +16,8 @@ use Rattle.spec.specs.declared.Found.the-variants.{At, Nothing}
 use Rattle.spec.proofs.Bools.{split}
 use Rattle.spec.proofs.Search.{hit, miss, highest-none}
 use Rattle.spec.proofs.Enter.{enter-length, enter-count, holders-here, holders-else}
-use Rattle.laws.proofs.Lists.{by-order}
-use Rattle.laws.proofs.Place.{place-none}
+use Rattle.spec_laws.proofs.Lists.{by-order}
+use Rattle.spec_laws.proofs.Place.{place-none}
 use Rattle.book.specs.Answers.{foundOf}
 use Rattle.book.proofs.Searches.{found-at, found-none}
 use Rattle.pagealloc.specs.Lent.{Passed}

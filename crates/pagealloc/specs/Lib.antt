@@ -1,3 +1,3 @@
 -- What is lent, the answers of searches, and what pages hold.
-pub mod Lent
 pub mod Contents
+pub mod Lent

@@ -2,8 +2,10 @@
 // frame, its places and its count of holders. A frame whose count is 0 is free; a page placed is its frame's only mapping. Callers
 // have checked sizes, numbers and ranges: what these functions ask of them stands in their `requires`.
 
-// The bytes of frames, and frames filled.
+// The bytes of frames.
 pub mod frames;
+
+// A page in its frame.
 mod pages;
 
 // Pages placed in free frames.
@@ -11,3 +13,8 @@ pub mod place;
 
 // A process's bytes, written over.
 pub mod user;
+
+pub use frames::copy;
+pub use frames::give;
+pub use frames::hold;
+pub use frames::zero;

@@ -1,7 +1,7 @@
 // The lines of standard input, in one buffer.
-use buffers::room;
-use script::asked::LINE_MAX;
-use session::Session;
+use replay_buffers::room;
+use replay_script::asked::LINE_MAX;
+use replay_session::Session;
 
 // The input's bytes: those of a line, with one more, by which a longer line is seen to be one, and those that are read at once.
 pub const INPUT_SIZE: usize = LINE_MAX + 1 + 65536;
@@ -9,7 +9,7 @@ pub const INPUT_SIZE: usize = LINE_MAX + 1 + 65536;
 // Where the line ends: at its line feed, or where the input that is there does.
 pub(crate) fn line_end(input: &[u8], s: Session) -> usize {
     let there = room::part(input, 0, s.end);
-    room::least(buffers::words::end(there, s.at, b'\n'), there.len())
+    room::least(replay_buffers::words::end(there, s.at, b'\n'), there.len())
 }
 
 // Behind the line that ends at `end`.

@@ -1,25 +1,25 @@
 // Replays a script of calls from standard input, one call a line, and answers each line: docs/REPLAY.md has the form. A line is read
-// into what it asks (crate script), that is run (crate session), and its answer is written (crate replies).
+// into what it asks (crate replay_script), that is run (crate replay_session), and its answer is written (crate replay_replies).
 mod input;
 
-use buffers::room;
-use script::asked::Asked;
-use script::asked::Kind;
-use script::taken;
-use session::Session;
+use replay_buffers::room;
+use replay_script::asked::Asked;
+use replay_script::asked::Kind;
+use replay_script::taken;
+use replay_session::Session;
 
 // So many frames and no process, under the deposit machine's numbers.
 fn fresh(frames: u64, at: usize, end: usize, ended: bool) -> Session {
-    let n = room::least(frames as usize, script::asked::FRAMES_MAX);
-    let p = procs::zero_proc();
+    let n = room::least(frames as usize, replay_script::asked::FRAMES_MAX);
+    let p = call_front::zero_proc();
     let all = [p; 16];
     Session {
         procs: spec::Procs { all },
         setup: setup::deposit(),
-        bytes: session::FRAME_BYTES * n,
-        words: session::BOOK_WORDS * n,
-        lent_bytes: session::FRAME_BYTES * n,
-        lent_words: session::BOOK_WORDS * n,
+        bytes: replay_session::FRAME_BYTES * n,
+        words: replay_session::BOOK_WORDS * n,
+        lent_bytes: replay_session::FRAME_BYTES * n,
+        lent_words: replay_session::BOOK_WORDS * n,
         at,
         end,
         ended,
@@ -53,20 +53,20 @@ fn after(s: Session, a: Asked) -> Session {
 
 // Runs what a line asks, and answers it.
 fn answer(
-    frames: &mut [u8; session::FRAMES_SIZE],
-    book: &mut [u64; session::BOOK_SIZE],
+    frames: &mut [u8; replay_session::FRAMES_SIZE],
+    book: &mut [u64; replay_session::BOOK_SIZE],
     space: &mut [u8; taken::SPACE_MAX],
     list: &taken::List,
     s: Session,
     a: Asked,
 ) -> Session {
-    session::run::set(book, a);
-    let left = session::run::run(frames, book, space, list, s, a);
+    replay_session::run::set(book, a);
+    let left = replay_session::run::run(frames, book, space, list, s, a);
     let procs = left.procs;
     let answer = left.answer;
     let mut next = s;
     next.procs = procs;
-    replies::put_reply(
+    replay_replies::put_reply(
         s.setup,
         room::part(frames, 0, s.bytes),
         room::first_words(book, s.words),
@@ -80,8 +80,8 @@ fn answer(
 
 // Takes a turn: answers the next line, or reads more of it if it isn't whole. The last line may lack its line feed.
 fn turn(
-    frames: &mut [u8; session::FRAMES_SIZE],
-    book: &mut [u64; session::BOOK_SIZE],
+    frames: &mut [u8; replay_session::FRAMES_SIZE],
+    book: &mut [u64; replay_session::BOOK_SIZE],
     space: &mut [u8; taken::SPACE_MAX],
     list: &mut taken::List,
     input: &mut [u8; input::INPUT_SIZE],
@@ -98,8 +98,8 @@ fn turn(
 }
 
 fn main() {
-    let mut frames = [0u8; session::FRAMES_SIZE];
-    let mut book = [0u64; session::BOOK_SIZE];
+    let mut frames = [0u8; replay_session::FRAMES_SIZE];
+    let mut book = [0u64; replay_session::BOOK_SIZE];
     let mut space = [0u8; taken::SPACE_MAX];
     let mut list = [0u64; taken::ARGS];
     let mut input = [0u8; input::INPUT_SIZE];

@@ -1,5 +1,5 @@
 // User memory, as r9's segment.rs, which follows Plan 9's port/segment.c: the break's rule. It is over numbers alone, so that it can
-// be called and proved without frames; crate brk carries it out.
+// be called and proved without frames; crate call_break carries it out.
 
 ghost use mathlib.Core.Path.{_≡_};
 ghost use mathlib.Core.Option.{some};

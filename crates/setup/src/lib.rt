@@ -1,10 +1,17 @@
 // The machine's numbers: the deposit's, what follows from a setup's, and refusal 38. A setup that meets no condition may be handed
 // over, so that none of this asks for one that does.
 
+mod setup_put;
+mod setup_read;
+
 ghost use mathlib.Core.Path.{_≡_};
 ghost use Prim.Native.Nat.{_-_};
 ghost use Rattle.spec.specs.Numbers.{deposit as depositOf, limit as limitOf, argLimit, setupOk};
 ghost use Rattle.spec.specs.Book.{stack as stackOf};
+pub use setup_put::numbers_into;
+pub use setup_put::setup_into;
+pub use setup_read::SetupRead;
+pub use setup_read::read_setup;
 use spec::MAX_TOP;
 use spec::Setup;
 

@@ -15,20 +15,20 @@ use Rattle.spec.specs.declared.Proc.{Proc}
 use Rattle.spec.specs.declared.Procs.{Procs}
 use Rattle.spec.proofs.Bools.{split, all-at, all-test, within-test}
 use Rattle.spec.proofs.Words.{unpack, repack, used-word}
-use Rattle.laws.proofs.Record.{Whole}
-use Rattle.laws.proofs.Lists.{by-order}
-use Rattle.laws.proofs.Frame.{frame-found, frame-none, frame-perm, once-means, frame-is}
-use Rattle.laws.proofs.Owned.{valid-means, valid-test}
-use Rattle.laws.proofs.Facts.{sound-facts, facts-sound, sound-between}
-use Rattle.records.specs.Records.{passes}
-use Rattle.plan.specs.Plan.{hits, rank, nth, LaidAll}
-use Rattle.table.specs.Table.{placeAt, placeWith, Planned, FramedAll, Full, Marked}
-use Rattle.plan.proofs.Within.{rank-below, rank-word}
-use Rattle.lookup.proofs.Entries.{place-of}
-use Rattle.table.proofs.Pass.{with-found, with-missing, option-some}
-use Rattle.table.proofs.Counting.{numbered, placeNumber}
-use Rattle.plan.proofs.Parts.{each-made, parts-of, place-gives}
-use Rattle.plan.proofs.Passing.{Mapped, shape-pass, pass-shape}
+use Rattle.spec_laws.proofs.Record.{Whole}
+use Rattle.spec_laws.proofs.Lists.{by-order}
+use Rattle.spec_laws.proofs.Frame.{frame-found, frame-none, frame-perm, once-means, frame-is}
+use Rattle.spec_laws.proofs.Owned.{valid-means, valid-test}
+use Rattle.spec_laws.proofs.Facts.{sound-facts, facts-sound, sound-between}
+use Rattle.sound_records.specs.Records.{passes}
+use Rattle.sound_plan.specs.Plan.{hits, rank, nth, LaidAll}
+use Rattle.sound_table.specs.Table.{placeAt, placeWith, Planned, FramedAll, Full, Marked}
+use Rattle.sound_plan.proofs.Within.{rank-below, rank-word}
+use Rattle.sound.proofs.Entries.{place-of}
+use Rattle.sound_table.proofs.Pass.{with-found, with-missing, option-some}
+use Rattle.sound_table.proofs.Counting.{numbered, placeNumber}
+use Rattle.sound_plan.proofs.Parts.{each-made, parts-of, place-gives}
+use Rattle.sound_plan.proofs.Passing.{Mapped, shape-pass, pass-shape}
 use Rattle.sound.proofs.Planning.{Good, Made, base-total, rank-hits, rank-good, rank-gives, gives-rank, nth-apart, plan}
 
 -- ---- ranks whose words stand in places are no more than the places

@@ -14,17 +14,17 @@ use Rattle.spec.specs.declared.Setup.{Setup}
 use Rattle.spec.specs.declared.UserSegment.{UserSegment}
 use Rattle.spec.specs.declared.Procs.{Procs}
 use Rattle.spec.proofs.Bools.{split, within-means, within-test}
-use Rattle.laws.proofs.Lists.{Each}
-use Rattle.laws.proofs.Record.{Whole}
-use Rattle.laws.proofs.Owned.{valid-means, valid-test}
-use Rattle.records.specs.Records.{passes}
-use Rattle.plan.specs.Plan.{seat, part, tag, size, owner, partAt, hits, nth, Before, Plan, LaidAll}
-use Rattle.plan.proofs.Ranks.{sum-none, sum-more, base-up, nth-find, nth-at}
-use Rattle.plan.proofs.Within.{hit-test}
-use Rattle.plan.proofs.Parts.{Part, Perm, parts, Parts, each-part, part-gives, gives-part, part-one}
-use Rattle.plan.proofs.Seats.{seats-at, pass-seats}
-use Rattle.plan.proofs.Laying.{part-segment}
-use Rattle.plan.proofs.Passing.{top-part, top-perm, pass-perms, pass-parts}
+use Rattle.spec_laws.proofs.Lists.{Each}
+use Rattle.spec_laws.proofs.Record.{Whole}
+use Rattle.spec_laws.proofs.Owned.{valid-means, valid-test}
+use Rattle.sound_records.specs.Records.{passes}
+use Rattle.sound_plan.specs.Plan.{seat, part, tag, size, owner, partAt, hits, nth, Before, Plan, LaidAll}
+use Rattle.sound_plan.proofs.Ranks.{sum-none, sum-more, base-up, nth-find, nth-at}
+use Rattle.sound_plan.proofs.Within.{hit-test}
+use Rattle.sound_plan.proofs.Parts.{Part, Perm, parts, Parts, each-part, part-gives, gives-part, part-one}
+use Rattle.sound_plan.proofs.Seats.{seats-at, pass-seats}
+use Rattle.sound_plan.proofs.Laying.{part-segment}
+use Rattle.sound_plan.proofs.Passing.{top-part, top-perm, pass-perms, pass-parts}
 
 -- page r of a part, its word taken apart
 pub record Apart (g : UserSegment) (n w r : ℕ) : Type 0 where

@@ -8,9 +8,9 @@ use mathlib.Core.List.{List}
 use lib.ListN.{replicate}
 use Rattle.spec.specs.Tests.{_is_}
 use Rattle.spec.specs.declared.Procs.{Procs}
-use Rattle.plan.specs.Plan.{tagsOf, basesOf}
-use Rattle.table.specs.Table.{tableOf}
-pub use Rattle.lookup.specs.Ready.{Ready}
+use Rattle.sound_plan.specs.Plan.{tagsOf, basesOf}
+use Rattle.sound_table.specs.Table.{tableOf}
+pub use Rattle.sound.specs.Ready.{Ready}
 
 -- all three are zeros
 pub record Zeros (tags bases table : List ℕ) : Type 0 where

@@ -1,7 +1,9 @@
 // Refusal 2: is the book sound? Added: r9 keeps its pages in page tables of its own making, and here the book and the records are
-// lent. The answer is found in one pass over the book (crate table), against a plan of all pages that the records call for (crate plan),
+// lent. The answer is found in one pass over the book (crate sound_table), against a plan of all pages that the records call for (crate sound_plan),
 // and the pass leaves a table by which the rest of a call finds the frame of a page of the process that makes it, without the book
-// (crate lookup).
+// (module lookup).
+
+mod lookup;
 
 ghost use mathlib.Core.Path.{_≡_};
 ghost use mathlib.Core.Bool.{true};
@@ -31,15 +33,15 @@ fn is_sound(
     ensures { λ r. ⌜ r ≡ soundBook setup (now (book .entry)) procs ⌝ }
     ensures { λ r. ⌜ (r ≡ true → Filled (now (book .entry)) procs number (now (tags .exit)) (now (bases .exit)) (now (table .exit))) ⌝ }
 {
-    if !records::records_ok(setup, procs) {
+    if !sound_records::records_ok(setup, procs) {
         return false;
     }
-    let total = plan::lay_all(tags, bases, procs);
+    let total = sound_plan::lay_all(tags, bases, procs);
     let places = 16 * (book.len() / 17) as u64;
     if places < total {
         return false;
     }
-    table::mark(book, tags, bases, table, number)
+    sound_table::mark(book, tags, bases, table, number)
 }
 
 // All three lists as zeros.

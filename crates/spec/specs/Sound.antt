@@ -1,4 +1,4 @@
--- Item 2: a sound book, as a test that can be run and as facts. A call is judged by the test; proofs use the facts, and crate laws
+-- Item 2: a sound book, as a test that can be run and as facts. A call is judged by the test; proofs use the facts, and crate spec_laws
 -- proves that the two say the same.
 -- Assumes nothing.
 use Prim.Native.Nat.{ℕ, zero, _+_, _*_, _-_, _/_, _%_, _≤_, _<_}

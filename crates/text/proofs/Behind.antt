@@ -7,7 +7,7 @@ use native.Mathlib.Omega.{arith}
 use lib.ListN.{length, take, length-append}
 use lib.Seq.{length-take-le}
 use Rattle.spec.specs.Frames.{put}
-use Rattle.laws.proofs.Lists.{put-nil, put-append, length-put}
+use Rattle.spec_laws.proofs.Lists.{put-nil, put-append, length-put}
 use Rattle.text.specs.Text.{Puts}
 
 -- the buffer keeps its length

@@ -1,3 +1,8 @@
 -- A string copy, part by part.
+pub mod Plain
+pub mod Nul
+pub mod CopyParts
+pub mod Found
+pub mod InRange
 pub mod Chunk
-pub mod Strings
+pub mod StringCopy

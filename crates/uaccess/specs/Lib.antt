@@ -1,2 +1,3 @@
 -- What a string copy comes to.
-pub mod Strings
+pub mod Nul
+pub mod Copied

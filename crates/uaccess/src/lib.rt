@@ -1,8 +1,12 @@
-// Access to user memory from calls, as r9's uaccess.rs, which follows Plan 9's validaddr in port/fault.c: ranges (crate ranges), copies
-// (crate copies) and the copy of a string.
+// Access to user memory from calls, as r9's uaccess.rs, which follows Plan 9's validaddr in port/fault.c: ranges (module ranges), copies
+// (module copies) and the copy of a string.
 //
 // Each page is checked, then its frame is read or written: where r9 uses a user address directly, here a page's frame is found by
 // the table that the check of the book has left (`sound::prepare`). A bad range ends no process here: the calls above do that.
+
+mod copies;
+mod ranges;
+mod strings;
 
 ghost use mathlib.Core.Path.{_≡_};
 ghost use Prim.Native.Nat.{_*_, _≤_};
@@ -12,11 +16,13 @@ ghost use Rattle.spec.specs.Book.{frameCount};
 ghost use Rattle.spec.specs.Frames.{memOf, store};
 ghost use Rattle.spec.specs.Access.{copyStr};
 ghost use Rattle.sound.specs.Table.{Ready};
-ghost use Rattle.uaccess.specs.Strings.{copied};
+ghost use Rattle.uaccess.specs.Copied.{copied};
 pub use copies::read_user;
 pub use copies::write_user;
+pub use ranges::frame_at;
 pub use ranges::user_range_ok;
 use spec::Setup;
+pub use strings::to_nul;
 
 // What a string copy answers: whether every byte that it needed could be read, and the length.
 pub struct Str {
@@ -52,10 +58,10 @@ pub fn try_copy_str_from_user(
                 size: n,
             };
         }
-        let chunk = copies::in_page(va, dst.len() - n);
+        let chunk = crate::copies::in_page(va, dst.len() - n);
         let e = n + chunk;
-        let s = copies::user_bytes(frames, book, tags, bases, table, number, va, chunk);
-        let k = strings::copy_to_nul(&mut dst[n..e], s);
+        let s = crate::copies::user_bytes(frames, book, tags, bases, table, number, va, chunk);
+        let k = crate::strings::copy_to_nul(&mut dst[n..e], s);
         n += k;
         if k < chunk {
             return Str {

@@ -9,10 +9,10 @@ use lib.ListN.{length}
 use borrow.Author.Needs.{needs}
 use borrow.Author.Tests.{not-true, not-false}
 use Rattle.spec.specs.Elf.{errorNumber}
-use Rattle.header.specs.Header.{verdictNumber}
-use Rattle.phdr.specs.Phdr.{phdrOf}
+use Rattle.elf_header.specs.Header.{verdictNumber}
+use Rattle.elf_header.specs.Phdr.{phdrOf}
 use Rattle.elf.specs.Reader.{segmentFrom, Checked}
-use Rattle.laws.proofs.Headers.{header-means}
+use Rattle.spec_laws.proofs.Headers.{header-means}
 use Rattle.elf.proofs.Errors.{not-zero}
 use Rattle.elf.proofs.Checked.{checked}
 use Rattle.elf.proofs.Walk.{skips, refuses, goes-on}

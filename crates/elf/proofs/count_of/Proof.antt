@@ -3,7 +3,7 @@
 use mathlib.Core.Path.{ap}
 use denote.Ref.{now}
 use borrow.Author.Needs.{needs}
-use Rattle.header.specs.declared.Ehdr.{Ehdr}
+use Rattle.elf_header.specs.declared.header.Ehdr.{Ehdr}
 use Rattle.elf.proofs.Image.{accepted}
 use Rattle.elf.proofs.count_of.Statement.{statement}
 use Rattle.elf.proofs.count_of.Tie as tie

@@ -2,7 +2,7 @@
 -- Assumes nothing.
 use mathlib.Core.Path.{sym, ap, _∙_}
 use denote.Ref.{now}
-use Rattle.header.specs.declared.Ehdr.{Ehdr}
+use Rattle.elf_header.specs.declared.header.Ehdr.{Ehdr}
 use Rattle.elf.proofs.Image.{accepted}
 use Rattle.elf.proofs.Tables.{entry-is, no-entry}
 use Rattle.elf.proofs.entry_in.Statement.{statement}

@@ -5,7 +5,7 @@ use denote.Ref.{now}
 use borrow.Author.Needs.{needs}
 use borrow.Author.Tests.{not-true, not-false}
 use Rattle.spec.specs.Elf.{elfError}
-use Rattle.header.specs.Header.{verdictNumber}
+use Rattle.elf_header.specs.Header.{verdictNumber}
 use Rattle.elf.specs.Reader.{imageError}
 use Rattle.elf.proofs.Image.{truncated, bad-magic, by-fields}
 use Rattle.elf.proofs.error.Statement.{statement}

@@ -4,7 +4,7 @@ use mathlib.Core.Path.{_≡_, refl, sym, ap, _∙_}
 use denote.Ref.{now}
 use lib.ListN.{length}
 use borrow.Author.Needs.{needs}
-use Rattle.header.specs.Header.{verdictNumber, fieldsError}
+use Rattle.elf_header.specs.Header.{verdictNumber, fieldsError}
 use Rattle.spec.proofs.Chain.{number-first, number-next}
 use Rattle.elf.proofs.Errors.{not-zero}
 use Rattle.elf.proofs.Image.{table}

@@ -7,7 +7,7 @@ use native.Mathlib.Omega.{arith}
 use denote.Ref.{now}
 use lib.ListN.{length}
 use borrow.Author.Needs.{needs}
-use Rattle.phdr.specs.Phdr.{phdrOf}
+use Rattle.elf_header.specs.Phdr.{phdrOf}
 use Rattle.elf.specs.Reader.{scanError, stepError, left}
 use Rattle.elf.specs.declared.Step.{Step}
 use Rattle.elf.proofs.Walk.{turn, ends}

@@ -6,7 +6,7 @@ use Prim.Native.Nat.{ℕ}
 use borrow.Author.Needs.{needs}
 use borrow.Author.Tests.{not-true, not-false}
 use Rattle.spec.specs.Elf.{Phdr, loads, flagPerm}
-use Rattle.phdr.specs.Phdr.{phdrOf}
+use Rattle.elf_header.specs.Phdr.{phdrOf}
 use Rattle.elf.specs.Reader.{loadOf}
 use Rattle.elf.specs.declared.Load.the-variants.{Skip, Segment}
 use Rattle.elf.proofs.segment_at.Statement.{statement}

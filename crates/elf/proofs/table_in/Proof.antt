@@ -7,7 +7,7 @@ use denote.Ref.{now}
 use lib.ListN.{length, take, drop}
 use borrow.Author.Needs.{needs}
 use Rattle.spec.specs.Elf.{elfError, phoff, phnum}
-use Rattle.header.specs.declared.Ehdr.{Ehdr}
+use Rattle.elf_header.specs.declared.header.Ehdr.{Ehdr}
 use Rattle.elf.proofs.Image.{accepted}
 use Rattle.elf.proofs.Tables.{table-is, no-table}
 use Rattle.elf.proofs.table_in.Statement.{statement}

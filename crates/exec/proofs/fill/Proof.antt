@@ -12,8 +12,8 @@ use Rattle.spec.specs.Elf.{segmentsOf}
 use Rattle.spec.specs.Exec.{imageSegments, kept}
 use Rattle.spec.specs.declared.UserSegment.{UserSegment}
 use Rattle.spec.specs.declared.VirtRange.{VirtRange}
-use Rattle.recorded.specs.Pages.{recorded}
-use Rattle.recorded.specs.declared.Recorded.{Recorded}
+use Rattle.exec.specs.Pages.{recorded}
+use Rattle.exec.specs.declared.recorded.Recorded.{Recorded}
 use Rattle.exec.proofs.Planned.{plan-many, plan-yes, bss-low, all-pages, first-ones, with-stack, same-plan}
 use Rattle.exec.proofs.fill.Statement.{statement}
 use Rattle.exec.proofs.fill.Tie as tie

@@ -4,7 +4,7 @@ use mathlib.Core.Path.{sym, _∙_}
 use denote.Ref.{now}
 use borrow.Author.Needs.{needs}
 use Rattle.spec.specs.Elf.{segmentsOf}
-use Rattle.layout.proofs.Fitted.{layout-no, layout-yes}
+use Rattle.exec.proofs.Fitted.{layout-no, layout-yes}
 use Rattle.exec.proofs.Planned.{plan-layout}
 use Rattle.exec.proofs.plan_parsed.Statement.{statement}
 use Rattle.exec.proofs.plan_parsed.Tie as tie

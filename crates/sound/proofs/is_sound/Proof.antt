@@ -8,13 +8,13 @@ use borrow.Author.Tests.{not-true, not-false}
 use Rattle.spec.specs.Tests.{all}
 use Rattle.spec.specs.Book.{zeroProc, procAt}
 use Rattle.spec.proofs.Bools.{all-at}
-use Rattle.laws.proofs.Record.{Whole}
-use Rattle.records.specs.Records.{passes}
-use Rattle.records.proofs.Whole.{whole-procs}
-use Rattle.plan.proofs.Passing.{small-parts}
+use Rattle.spec_laws.proofs.Record.{Whole}
+use Rattle.sound_records.specs.Records.{passes}
+use Rattle.sound_records.proofs.Whole.{whole-procs}
+use Rattle.sound_plan.proofs.Passing.{small-parts}
 use Rattle.sound.proofs.Planning.{plan}
 use Rattle.sound.proofs.Decides.{records-of, made, total-of, decided, sound-exact}
-use Rattle.sound.proofs.Lookup.{tags-long, bases-long, table-long, table-blank, filled}
+use Rattle.sound.proofs.LookedUp.{tags-long, bases-long, table-long, table-blank, filled}
 use Rattle.sound.proofs.is_sound.Statement.{statement}
 use Rattle.sound.proofs.is_sound.Tie as tie
 

@@ -4,7 +4,7 @@ use borrow.Author.Needs.{needs}
 use borrow.Author.Tests.{not-false}
 use Rattle.spec.proofs.Chain.{here, past, not-holds, not-fails}
 use Rattle.spec.proofs.Setups.{setup-means}
-use Rattle.sound.proofs.Lookup.{left-zeros, left-filled}
+use Rattle.sound.proofs.LookedUp.{left-zeros, left-filled}
 use Rattle.sound.proofs.prepare.Statement.{statement}
 use Rattle.sound.proofs.prepare.Tie as tie
 

@@ -1,7 +1,7 @@
 -- `sound_error` meets its contract: its lists are zeros.
 use native.Mathlib.Omega.{arith}
 use borrow.Author.Needs.{needs}
-use Rattle.sound.proofs.Lookup.{made-zeros}
+use Rattle.sound.proofs.LookedUp.{made-zeros}
 use Rattle.sound.proofs.sound_error.Statement.{statement}
 use Rattle.sound.proofs.sound_error.Tie as tie
 

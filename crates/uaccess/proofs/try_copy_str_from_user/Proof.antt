@@ -11,13 +11,13 @@ use Rattle.spec.specs.Numbers.{maxTop}
 use Rattle.spec.specs.Frames.{Mem, memOf, store}
 use Rattle.spec.specs.Access.{userRangeOk, byteOf, bytesAt, copyStr}
 use Rattle.spec.proofs.Bools.{not-true, un-not}
-use Rattle.laws.proofs.Contents.{length-bytes}
-use Rattle.strings.specs.Nul.{toNul}
-use Rattle.strings.proofs.Nul.{nul-most}
-use Rattle.uaccess.specs.Strings.{copied}
-use Rattle.ranges.proofs.Ranges.{range-cell}
-use Rattle.uaccess.proofs.Strings.{copyFrom, str-none, str-end, str-bad, str-part, str-nul, str-whole}
-use Rattle.laws.proofs.Overwrite.{mix, mix-none}
+use Rattle.spec_laws.proofs.Contents.{length-bytes}
+use Rattle.uaccess.specs.Nul.{toNul}
+use Rattle.uaccess.proofs.Nul.{nul-most}
+use Rattle.uaccess.specs.Copied.{copied}
+use Rattle.uaccess.proofs.InRange.{range-cell}
+use Rattle.uaccess.proofs.StringCopy.{copyFrom, str-none, str-end, str-bad, str-part, str-nul, str-whole}
+use Rattle.spec_laws.proofs.Overwrite.{mix, mix-none}
 use Rattle.spec.proofs.Ranges.{range-means}
 use Rattle.uaccess.proofs.try_copy_str_from_user.Statement.{statement}
 use Rattle.uaccess.proofs.try_copy_str_from_user.Tie as tie

@@ -4,7 +4,7 @@ use mathlib.Core.Path.{sym, _∙_}
 use denote.Ref.{now}
 use borrow.Author.Needs.{needs}
 use borrow.Author.Tests.{not-false}
-use Rattle.front.proofs.First.{given, further, sizes-words}
+use Rattle.call_front.proofs.FirstNumbers.{given, further, sizes-words}
 use Rattle.holthrimi.specs.Rules.{bookError}
 use Rattle.holthrimi.proofs.rules.book_error.Statement.{statement}
 use Rattle.holthrimi.proofs.rules.book_error.Tie as tie

@@ -2,8 +2,8 @@
 use mathlib.Core.Path.{_≡_, refl, sym, ap, _∙_}
 use borrow.Author.Needs.{needs}
 use borrow.Author.Tests.{not-false, not-true, eqb-true}
-use Rattle.args.specs.declared.ArgsSize.{ArgsSize}
-use Rattle.args.proofs.Size.{size-number}
+use Rattle.exec_args.specs.declared.args.ArgsSize.{ArgsSize}
+use Rattle.exec_args.proofs.Size.{size-number}
 use Rattle.holthrimi.proofs.rules.holthrimi_args_error.Statement.{statement}
 use Rattle.holthrimi.proofs.rules.holthrimi_args_error.Tie as tie
 

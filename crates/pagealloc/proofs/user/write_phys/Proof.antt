@@ -4,7 +4,7 @@ use Prim.Native.Nat.{_+_, _-_}
 use native.Mathlib.Omega.{arith}
 use denote.Ref.{now}
 use lib.ListN.{length}
-use Rattle.laws.proofs.Lists.{put-part}
+use Rattle.spec_laws.proofs.Lists.{put-part}
 use borrow.Author.Needs.{needs}
 use Rattle.pagealloc.proofs.user.write_phys.Statement.{statement}
 use Rattle.pagealloc.proofs.user.write_phys.Tie as tie

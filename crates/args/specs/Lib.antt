@@ -1,2 +1,0 @@
--- What the contracts of arguments cite besides the specification.
-pub mod Sizes

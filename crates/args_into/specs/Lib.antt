@@ -1,2 +1,0 @@
--- Arguments in a buffer.
-pub mod Laid

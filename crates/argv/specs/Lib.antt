@@ -1,2 +1,0 @@
--- What reading the arguments of replace comes to.
-pub mod Reading

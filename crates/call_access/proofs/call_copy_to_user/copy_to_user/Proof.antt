@@ -1,0 +1,118 @@
+-- `copy_to_user` meets its contract: the whole range is checked before a byte is copied.
+use Prim.Native.Nat.{_*_}
+use mathlib.Core.Path.{_≡_, refl, sym, ap, _∙_}
+use mathlib.Core.Bool.{true}
+use denote.Ref.{now}
+use lib.ListN.{length}
+use borrow.Author.Needs.{needs}
+use borrow.Author.Tests.{not-true, not-false}
+use Rattle.spec.specs.Numbers.{SetupOk}
+use Rattle.spec.proofs.Setups.{setup-means}
+use Rattle.spec.specs.Book.{frameCount, free}
+use Rattle.spec.specs.Machine.{Ask, copy-to-user, Reply, outcome, weigh, call}
+use Rattle.spec.specs.World.{State, view, withStore, leave, Does, stateOf}
+use Rattle.spec_laws.proofs.Owned.{valid-means}
+use Rattle.sound.proofs.LookedUp.{made-zeros, ready-of}
+use Rattle.call_front.proofs.FirstNumbers.{Passed, plain-none, sizes-words}
+use Rattle.call_front.proofs.Answers.{plain-refused, plain-goes}
+use Rattle.call_access.proofs.Copied.{writes, writes-bad}
+use Rattle.call_access.proofs.call_copy_to_user.copy_to_user.Statement.{statement}
+use Rattle.call_access.proofs.call_copy_to_user.copy_to_user.Tie as tie
+
+plain-ready-requires : tie.Need-plain-ready-requires
+plain-ready-requires c κs = made-zeros
+
+same-length : tie.Need-same-length
+same-length c = search needs
+
+same-length-2 : tie.Need-same-length-2
+same-length-2 c = search needs
+
+returns : tie.Need-returns
+returns c =
+    let e = c .before .plain-ready in
+    let a = c .before .before .before .before .before .before .before .before .before .before .args in
+    plain-refused _ _ (copy-to-user (a .dst) (now (a .bytes))) (e .result) refl (e .ensures .0) (c .if1 .taken)
+
+-- where no number came first
+module _ (c : tie.Else1) where
+  abbrev start : tie.Start
+  start = c .before .before .before .before .before .before .before .before .before .before
+
+  abbrev state : State
+  state = stateOf (start .args .setup) (now (start .args .frames)) (now (start .args .book)) (start .args .procs)
+
+  passed : Passed state (start .args .number) true
+  passed = plain-none state (start .args .number) true (sym (c .before .plain-ready .ensures .0) ∙ c .if1 .left) .0
+
+  accepted : SetupOk (start .args .setup)
+  accepted = setup-means (start .args .setup) (passed .setup)
+
+  sizes : length (now (start .args .frames)) ≡ 4096 * frameCount (now (start .args .book))
+  sizes = sizes-words (now (start .args .frames)) (now (start .args .book)) (passed .sizes) .0
+
+  abbrev asked : Ask
+  asked = copy-to-user (start .args .dst) (now (start .args .bytes))
+
+  answers : (t : State) (r : Reply) → weigh (view state (start .args .number)) (free (now (start .args .book))) 0 asked ≡ r
+      → t ≡ leave state (call (start .args .number) asked) (outcome r) → Does state (call (start .args .number) asked) t r
+  answers = plain-goes state (start .args .number) asked (c .before .plain-ready .result) refl (c .before .plain-ready .ensures .0) (c .if1 .left)
+
+user-range-ok-requires : tie.Need-user-range-ok-requires
+user-range-ok-requires c κs = let i = c .before .before .before .before in ((ready-of (i .before .plain-ready .ensures .1) (i .if1 .left), valid-means (start i .args .number) (passed i .number) .0, valid-means (start i .args .number) (passed i .number) .1), accepted i)
+
+forget-requires : tie.Need-forget-requires
+forget-requires c κs = passed (c .before .before .before .before .before .before .before) .number
+
+same-length-3 : tie.Need-same-length-3
+same-length-3 c = search needs
+
+same-length-4 : tie.Need-same-length-4
+same-length-4 c = search needs
+
+returns-2 : tie.Need-returns-2
+returns-2 c =
+    let u = c .before .before .before .before in
+    let i = u .before .before .before .before .before .before in
+    let a = start i .args in
+    answers i _ _ (writes-bad (view (state i) (a .number)) (free (now (a .book))) (a .dst) (now (a .bytes)) (sym (u .before .user-range-ok .ensures (now (a .frames))) ∙ not-true _ (u .if2 .taken)))
+    (c .before .before .forget .ensures _ _)
+
+write-user-requires : tie.Need-write-user-requires
+write-user-requires c κs =
+    let u = c .before .before .before .before .before in
+    let i = u .before .before .before .before .before .before in
+    ((sizes i, ready-of (i .before .plain-ready .ensures .1) (i .if1 .left), valid-means (start i .args .number) (passed i .number) .0, valid-means (start i .args .number) (passed i .number) .1), (start i .args .setup, accepted i, sym (u .before .user-range-ok .ensures (now (start i .args .frames))) ∙ not-false _ (u .if2 .left)))
+
+same-length-5 : tie.Need-same-length-5
+same-length-5 c = search needs
+
+same-length-6 : tie.Need-same-length-6
+same-length-6 c = search needs
+
+returns-3 : tie.Need-returns-3
+returns-3 c =
+    let d = c .before .before in
+    let u = d .before .before .before .before .before .before in
+    let i = u .before .before .before .before .before .before in
+    let a = start i .args in
+    answers i _ _ (writes (view (state i) (a .number)) (free (now (a .book))) (a .dst) (now (a .bytes)) (sym (u .before .user-range-ok .ensures (now (a .frames))) ∙ not-false _ (u .if2 .left)))
+    (ap (withStore (state i)) (d .write-user .ensures))
+
+pub copy-to-user-spec : {M : Type 1} → statement M
+copy-to-user-spec =
+    tie.close
+    (tie.spec
+    plain-ready-requires
+    same-length
+    same-length-2
+    returns
+    user-range-ok-requires
+    forget-requires
+    same-length-3
+    same-length-4
+    returns-2
+    write-user-requires
+    same-length-5
+    same-length-6
+    returns-3)

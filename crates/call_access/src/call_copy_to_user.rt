@@ -1,0 +1,56 @@
+// `copy_to_user` as a call of its own.
+
+ghost use Rattle.spec.specs.Machine.{copy-to-user, plainly, call};
+ghost use Rattle.spec.specs.World.{Does, stateOf};
+use spec::Answer;
+use spec::Left;
+use spec::Procs;
+use spec::Setup;
+
+// Copies `bytes` to the memory of process `number` from `dst` on. A bad range ends the process with 35, and no byte is copied.
+// Refused with 1, 38 or 2 to 4, it changes nothing.
+pub fn copy_to_user(
+    setup: Setup,
+    frames: &mut [u8],
+    book: &mut [u64],
+    procs: Procs,
+    number: u64,
+    dst: u64,
+    bytes: &[u8],
+) -> Left
+    ensures { λ r. ⌜ Does (stateOf setup (now (frames .entry)) (now (book .entry)) procs) (call number (copy-to-user dst (now (bytes .entry)))) (stateOf setup (now (frames .exit)) (now (book .exit)) (r .procs)) (plainly (r .answer)) ⌝ }
+{
+    let mut tags = [0u64; 272];
+    let mut bases = [0u64; 273];
+    let mut table = [0u16; 1024];
+    let e = call_front::numbers::plain_ready(
+        setup,
+        frames,
+        book,
+        procs,
+        number,
+        true,
+        &mut tags,
+        &mut bases,
+        &mut table,
+    );
+    if e != 0 {
+        return Left {
+            procs: procs,
+            answer: Answer::Refused(e),
+        };
+    }
+    let len = bytes.len() as u64;
+    if !uaccess::user_range_ok(setup, book, &tags, &bases, &table, number, dst, len, true) {
+        let after = call_front::ending::forget(book, procs, number);
+        return Left {
+            procs: after,
+            answer: Answer::Ended(spec::BAD_ADDRESS),
+        };
+    }
+    uaccess::write_user(frames, book, &tags, &bases, &table, number, dst, bytes);
+    Left {
+        procs: procs,
+        answer: Answer::Done,
+    }
+}

@@ -1,0 +1,3 @@
+-- What a push answers.
+pub mod Ranges
+pub mod Answered

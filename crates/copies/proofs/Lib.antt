@@ -1,2 +1,0 @@
--- Reads and writes page by page.
-pub mod Copies

@@ -1,3 +1,0 @@
--- A string by way of any buffer; one string more.
-pub mod Buffered
-pub mod Adding

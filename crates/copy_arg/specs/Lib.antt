@@ -1,2 +1,0 @@
--- What one string more comes to.
-pub mod Strings

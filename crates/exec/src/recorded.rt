@@ -1,0 +1,98 @@
+// The segments of a process's record that an image's pages make, as r9's exec.rs records them. The data's pages end where the bss
+// begins, and over fifteen are only counted, which is refusal 31.
+
+ghost use mathlib.Core.Path.{_≡_};
+ghost use Prim.Native.Nat.{_+_, _-_, _*_, _^_, _≤_, _<_};
+ghost use Rattle.spec.specs.Elf.{phoff, phnum, phdrAt, elfError, segmentsOf};
+ghost use Rattle.spec.specs.Exec.{kept};
+ghost use Rattle.elf.specs.Reader.{loadOf};
+ghost use Rattle.exec.specs.Pages.{pagesIn, pushed, recordedWith, recorded};
+use elf::Load;
+use elf::Segment;
+use spec::UserSegment;
+use spec::VirtRange;
+
+// The segments that an image's pages make, up to fifteen of them, and how many there are.
+pub struct Recorded {
+    pub segments: [UserSegment; 16],
+    pub count: usize,
+}
+
+// A segment's pages, given the bss: but the data's only up to the bss's start, rounded up, since the bss owns the pages from there.
+pub fn user_segment(bss: VirtRange, g: Segment) -> UserSegment
+    requires { ⌜ (g .vaddr + g .memsz ≤ 2 ^ 64 - 4096) × (bss .start ≤ 2 ^ 64 - 4096) ⌝ }
+    ensures { λ r. ⌜ r ≡ pagesIn bss g ⌝ }
+{
+    let start = mem::page_down(g.vaddr);
+    let perm = g.perm;
+    if perm == spec::DATA {
+        let end = mem::page_up(bss.start);
+        return UserSegment {
+            range: VirtRange { start, end },
+            perm,
+        };
+    }
+    let end = mem::page_up(g.vaddr + g.memsz);
+    UserSegment {
+        range: VirtRange { start, end },
+        perm,
+    }
+}
+
+// One more segment behind those recorded. An empty one is dropped, and behind fifteen it is only counted.
+fn push(before: Recorded, u: UserSegment) -> Recorded
+    requires { ⌜ before .count < 2 ^ 63 ⌝ }
+    ensures { λ r. ⌜ r ≡ pushed before u ⌝ }
+{
+    if u.range.start >= u.range.end {
+        return before;
+    }
+    let count = before.count;
+    let mut segments = before.segments;
+    let more = count + 1;
+    if count >= 15 {
+        return Recorded {
+            segments,
+            count: more,
+        };
+    }
+    segments[count] = u;
+    Recorded {
+        segments,
+        count: more,
+    }
+}
+
+// The recorded segments with that of one more program header, if it has one.
+fn push_header(image: &[u8], i: usize, bss: VirtRange, before: Recorded) -> Recorded
+    requires { ⌜ (elfError (now image) ≡ 0) × (i < phnum (now image)) ⌝ }
+    requires { ⌜ (bss .start ≤ 2 ^ 64 - 4096) × (before .count < 2 ^ 63) ⌝ }
+    ensures { λ r. ⌜ r ≡ recordedWith bss before (loadOf (phdrAt (now (image .entry)) (phoff (now (image .entry)) + 56 * i))) ⌝ }
+{
+    let l = elf::segment_of(image, i);
+    match l {
+        Load::Skip => before,
+        Load::Segment(g) => push(before, user_segment(bss, g)),
+    }
+}
+
+// The segments that an accepted image's pages make, given its bss, as Plan 9's TSEG and DSEG.
+pub fn segments(image: &[u8], bss: VirtRange) -> Recorded
+    requires { ⌜ elfError (now image) ≡ 0 ⌝ }
+    requires { ⌜ bss .start ≤ 2 ^ 64 - 4096 ⌝ }
+    ensures { λ r. ⌜ r ≡ recorded (kept bss (segmentsOf (now (image .entry)))) ⌝ }
+{
+    let zero = UserSegment {
+        range: VirtRange { start: 0, end: 0 },
+        perm: 0,
+    };
+    let segments = [zero; 16];
+    let mut seen = Recorded { segments, count: 0 };
+    let n = elf::count_of(image);
+    let mut k = 0;
+    while k < n {
+        seen = push_header(image, k, bss, seen);
+        k += 1;
+    }
+    seen
+}

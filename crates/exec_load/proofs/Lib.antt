@@ -1,0 +1,7 @@
+-- The pages of an image, segment by segment.
+pub mod Installed
+pub mod Pushing
+pub mod FileBytes
+pub mod Segments
+pub mod Headers
+pub mod Whole

@@ -1,2 +1,0 @@
--- Bytes held and given.
-pub mod Held

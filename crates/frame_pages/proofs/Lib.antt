@@ -1,3 +1,0 @@
--- Pages filled, and a file's pages.
-pub mod Filled
-pub mod FilePages

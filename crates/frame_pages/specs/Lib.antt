@@ -1,2 +1,0 @@
--- What pages hold.
-pub mod Contents

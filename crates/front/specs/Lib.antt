@@ -1,2 +1,0 @@
--- The numbers that come first.
-pub mod Numbers

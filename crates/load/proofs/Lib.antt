@@ -1,5 +1,0 @@
--- The pages of an image, segment by segment.
-pub mod FileBytes
-pub mod Segments
-pub mod Headers
-pub mod Whole

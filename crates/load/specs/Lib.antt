@@ -1,2 +1,0 @@
--- An image's pages, segment by segment.
-pub mod Pages

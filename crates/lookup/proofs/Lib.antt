@@ -1,2 +1,0 @@
--- Entries of the table as frames.
-pub mod Entries

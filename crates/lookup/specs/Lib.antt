@@ -1,2 +1,0 @@
--- What a sound book leaves for a call's lookups.
-pub mod Ready

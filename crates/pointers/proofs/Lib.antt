@@ -1,2 +1,0 @@
--- A place of the array of pointers.
-pub mod Pointing

@@ -1,2 +1,0 @@
--- What a push answers.
-pub mod Answered

@@ -1,2 +1,0 @@
--- The places and the two ranges of a push.
-pub mod Ranges

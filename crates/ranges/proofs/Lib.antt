@@ -1,3 +1,0 @@
--- Frames found, and ranges page by page.
-pub mod Found
-pub mod Ranges

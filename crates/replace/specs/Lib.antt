@@ -1,2 +1,0 @@
--- A process that reads its arguments and enters an image.
-pub mod Becoming

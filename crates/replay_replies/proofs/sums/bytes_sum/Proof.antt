@@ -1,0 +1,26 @@
+-- `replies::sums::bytes_sum` is safe and ends.
+use Prim.Native.Nat.{_-_, _≤_}
+use lib.ListN.{length}
+use borrow.Author.Needs.{needs}
+use Rattle.replay_replies.proofs.sums.bytes_sum.Statement.{statement}
+use Rattle.replay_replies.proofs.sums.bytes_sum.Tie as tie
+
+abbrev Inv-loop : tie.InvT-loop
+Inv-loop sum bytes r₀ i₀ r i = i ≤ length bytes
+
+abbrev μ-loop : tie.MeasureT-loop
+μ-loop sum bytes r₀ i₀ r i = length bytes - i
+
+pub bytes-sum-spec : {M : Type 1} → statement M
+bytes-sum-spec =
+    tie.close
+    (tie.spec
+    Inv-loop
+    μ-loop
+    (λ c. search needs)
+    (λ c. search needs)
+    (λ c κs. search needs)
+    (λ c. search needs)
+    (λ c. search needs)
+    (λ c. search needs)
+    (λ c. search needs))

@@ -1,2 +1,0 @@
--- What the folds of a row say.
-pub mod Rows

@@ -1,2 +1,0 @@
--- The turns of the loop that shares.
-pub mod Shared

@@ -1,0 +1,211 @@
+-- What an accepted call tells, for each of the calls that change something: who lives, and that its own tests passed.
+use Prim.Native.Nat.{ℕ, _+_, _*_, _-_, _%_, _^_, _≤_}
+use native.Mathlib.Omega.{arith}
+use mathlib.Core.Path.{_≡_, refl, sym, ap, _∙_}
+use mathlib.Core.Bool.{Bool, true, false, not}
+use mathlib.Core.Option.{some}
+use mathlib.Core.List.{List}
+use lib.ListN.{length}
+use borrow.Author.Tests.{eqb-true, ltb-true, ltb-false, ne-eqb}
+use Rattle.spec.proofs.Bools.{split, both, not-true, un-not}
+use Rattle.spec.specs.Tests.{_is_, _isnt_, _below_, _above_, _⇒_else_}
+use Rattle.spec.specs.Numbers.{limit, pageUp}
+use Rattle.spec.specs.Book.{valid, free, alone, pageCount}
+use Rattle.spec.specs.Access.{userRangeOk}
+use Rattle.spec.specs.Elf.{entry}
+use Rattle.spec.specs.Exec.{imageError, startPieces, argsOf, argsError, registers, pushOk, Argv, copyArgv}
+use Rattle.spec.specs.Segment.{Break, refusedBy, endsAt, ibrk}
+use Rattle.spec.specs.Machine.{Ask, start, replace, push, break, fork, end, copy-to-user, Call, Outcome, accepted, refused, ended, outcome, outcomeOf, copied}
+use Rattle.spec.specs.World.{State, taken, view, aloneFor, answer}
+use Rattle.spec.specs.declared.VirtRange.{VirtRange}
+use Rattle.spec.specs.declared.UserSegment.{UserSegment}
+use Rattle.spec.specs.declared.UserRegs.{UserRegs}
+use Rattle.spec.specs.declared.Answer.{Answer}
+use Rattle.spec.specs.declared.Answer.the-variants.{Regs, Value, Done, Refused, Ended}
+use Rattle.spec.specs.declared.Setup.{Setup}
+use Rattle.spec_history.proofs.Passed.{Good, answered, accepted≢, Passed, passed}
+
+-- ---- any call
+
+-- a call that is not refused has passed 1 to 5
+pub not-refused : (s : State) → Good s → (c : Call) (o : Outcome) → outcome (answer s c) ≡ o → (o ≡ refused → ⊥) → Passed (view s (c .number)) (free (s .store .book)) (aloneFor s c) (taken s) c o
+not-refused s g c o e h = passed (view s (c .number)) (free (s .store .book)) (aloneFor s c) (taken s) c o (ap outcome (sym (answered s g c)) ∙ e) h
+
+abbrev Accepts : State → ℕ → Ask → Type 0
+Accepts s n q = outcome (answer s (record { number = n; ask = q })) ≡ accepted
+
+went : (s : State) → Good s → (n : ℕ) (q : Ask) → Accepts s n q → Passed (view s n) (free (s .store .book)) (aloneFor s (record { number = n; ask = q })) (taken s) (record { number = n; ask = q }) accepted
+went s g n q e = not-refused s g (record { number = n; ask = q }) accepted e accepted≢
+
+-- a choice that comes to what its first answer isn't
+pub past : {A : Type 0} (P : A → Type 0) (t : Bool) (x y : A) → P (t ⇒ x else y) → (P x → ⊥) → (t ≡ false) × P y
+past P true x y e h = absurd (h e)
+past P false x y e h = (refl, e)
+
+abbrev Goes : Answer → Type 0
+Goes a = outcomeOf a ≡ accepted
+
+refused-not : refused ≡ accepted → ⊥
+refused-not e = let z : _≡_ {A = ℕ} 0 1 = cc in omega arith
+
+ended-not : ended ≡ accepted → ⊥
+ended-not e = let z : _≡_ {A = ℕ} 0 1 = cc in omega arith
+
+zero-is : (k : ℕ) → (k isnt 0) ≡ false → k ≡ 0
+zero-is k e = eqb-true k 0 (un-not (k is 0) e)
+
+-- ---- start
+
+pub record Starts (s : State) (n : ℕ) (image : List ℕ) (args : List (List ℕ)) : Type 0 where
+  pub number : valid n ≡ true
+  pub dead : taken s n ≡ false
+  pub args-fit : argsError (s .setup) args ≡ 0
+  pub image-fits : imageError (s .setup) image ≡ 0
+  pub room : pageCount (startPieces (s .setup) image) ≤ free (s .store .book)
+
+pub starts : (s : State) → Good s → (n : ℕ) (image name bytes lengths : List ℕ) → Accepts s n (start image name bytes lengths) → Starts s n image (argsOf bytes lengths)
+starts s g n image name bytes lengths e =
+    let args : List (List ℕ) = argsOf bytes lengths in
+    let w = went s g n (start image name bytes lengths) e in
+    let a₃ : Answer = Regs (registers (entry image) (s .setup .ustktop) args) in
+    let a₂ : Answer = pageCount (startPieces (s .setup) image) above free (s .store .book) ⇒ Refused 33 else a₃ in
+    let a₁ : Answer = imageError (s .setup) image isnt 0 ⇒ Refused (imageError (s .setup) image) else a₂ in
+    let p₁ = past Goes (argsError (s .setup) args isnt 0) (Refused (argsError (s .setup) args)) a₁ (w .weighed) refused-not in
+    let p₂ = past Goes (imageError (s .setup) image isnt 0) (Refused (imageError (s .setup) image)) a₂ (p₁ .1) refused-not in
+    let p₃ = past Goes (pageCount (startPieces (s .setup) image) above free (s .store .book)) (Refused 33) a₃ (p₂ .1) refused-not in
+    record { number = w .number; dead = not-true (taken s n) (w .new); args-fit = zero-is _ (p₁ .0); image-fits = zero-is _ (p₂ .0); room = ltb-false _ _ (p₃ .0) }
+
+-- a start ends nobody
+never-ended : (a b c : Bool) (x y z : ℕ) (r : UserRegs) → outcomeOf (a ⇒ Refused x else b ⇒ Refused y else c ⇒ Refused z else Regs r) ≡ ended → ⊥
+never-ended true b c x y z r e = let u : _≡_ {A = ℕ} 0 1 = cc in omega arith
+never-ended false true c x y z r e = let u : _≡_ {A = ℕ} 0 1 = cc in omega arith
+never-ended false false true x y z r e = let u : _≡_ {A = ℕ} 0 1 = cc in omega arith
+never-ended false false false x y z r e = let u : _≡_ {A = ℕ} 0 1 = cc in omega arith
+
+pub start-ends-nobody : (s : State) → Good s → (n : ℕ) (image name bytes lengths : List ℕ) → outcome (answer s (record { number = n; ask = start image name bytes lengths })) ≡ ended → ⊥
+start-ends-nobody s g n image name bytes lengths e =
+    let args : List (List ℕ) = argsOf bytes lengths in
+    let w = not-refused s g (record { number = n; ask = start image name bytes lengths }) ended e (λ z. let u : _≡_ {A = ℕ} 0 1 = cc in omega arith) in
+    never-ended (argsError (s .setup) args isnt 0) (imageError (s .setup) image isnt 0) (pageCount (startPieces (s .setup) image) above free (s .store .book)) (argsError (s .setup) args) (imageError (s .setup) image) 33 (registers (entry image) (s .setup .ustktop) args) (w .weighed)
+
+-- ---- replace
+
+pub record Replaces (s : State) (n : ℕ) (image : List ℕ) (argv : ℕ) : Type 0 where
+  pub number : valid n ≡ true
+  pub living : taken s n ≡ true
+  pub image-fits : imageError (s .setup) image ≡ 0
+  pub readable : (copyArgv (s .setup) (view s n .mem) argv .error is 35) ≡ false
+  pub within-limit : (copyArgv (s .setup) (view s n .mem) argv .error is 33) ≡ false
+  pub room : pageCount (startPieces (s .setup) image) ≤ alone (s .store .book) n + free (s .store .book)
+
+pub replaces : (s : State) → Good s → (n : ℕ) (image name : List ℕ) (argv : ℕ) → Accepts s n (replace image name argv) → Replaces s n image argv
+replaces s g n image name argv e =
+    let w = went s g n (replace image name argv) e in
+    let read : Argv = copyArgv (s .setup) (view s n .mem) argv in
+    let a₄ : Answer = Regs (registers (entry image) (s .setup .ustktop) (read .args)) in
+    let a₃ : Answer = pageCount (startPieces (s .setup) image) above alone (s .store .book) n + free (s .store .book) ⇒ Ended 33 else a₄ in
+    let a₂ : Answer = read .error is 33 ⇒ Refused 33 else a₃ in
+    let a₁ : Answer = read .error is 35 ⇒ Ended 35 else a₂ in
+    let p₁ = past Goes (imageError (s .setup) image isnt 0) (Refused (imageError (s .setup) image)) a₁ (w .weighed) refused-not in
+    let p₂ = past Goes (read .error is 35) (Ended 35) a₂ (p₁ .1) ended-not in
+    let p₃ = past Goes (read .error is 33) (Refused 33) a₃ (p₂ .1) refused-not in
+    let p₄ = past Goes (pageCount (startPieces (s .setup) image) above alone (s .store .book) n + free (s .store .book)) (Ended 33) a₄ (p₃ .1) ended-not in
+    record { number = w .number; living = w .lives; image-fits = zero-is _ (p₁ .0); readable = p₂ .0; within-limit = p₃ .0; room = ltb-false _ _ (p₄ .0) }
+
+-- ---- push
+
+pub record Pushes (s : State) (n top : ℕ) (args : List (List ℕ)) : Type 0 where
+  pub number : valid n ≡ true
+  pub living : taken s n ≡ true
+  pub aligned : top % 16 ≡ 0
+  pub args-fit : argsError (s .setup) args ≡ 0
+  pub writable : pushOk (s .setup) (view s n .mem) top args ≡ true
+
+pub pushes : (s : State) → Good s → (n pc top : ℕ) (bytes lengths : List ℕ) → Accepts s n (push pc top bytes lengths) → Pushes s n top (argsOf bytes lengths)
+pushes s g n pc top bytes lengths e =
+    let args : List (List ℕ) = argsOf bytes lengths in
+    let w = went s g n (push pc top bytes lengths) e in
+    let a₃ : Answer = Regs (registers pc top args) in
+    let a₂ : Answer = not (pushOk (s .setup) (view s n .mem) top args) ⇒ Ended 35 else a₃ in
+    let a₁ : Answer = argsError (s .setup) args isnt 0 ⇒ Refused (argsError (s .setup) args) else a₂ in
+    let p₁ = past Goes (top % 16 isnt 0) (Refused 36) a₁ (w .weighed) refused-not in
+    let p₂ = past Goes (argsError (s .setup) args isnt 0) (Refused (argsError (s .setup) args)) a₂ (p₁ .1) refused-not in
+    let p₃ = past Goes (not (pushOk (s .setup) (view s n .mem) top args)) (Ended 35) a₃ (p₂ .1) ended-not in
+    record { number = w .number; living = w .lives; aligned = zero-is _ (p₁ .0); args-fit = zero-is _ (p₂ .0); writable = un-not _ (p₃ .0) }
+
+-- ---- break
+
+-- a break that moves the end of a bss
+pub record Moves (setup : Setup) (b : VirtRange) (addr free : ℕ) : Type 0 where
+  pub above-start : b .start ≤ addr
+  pub low : pageUp addr ≤ limit setup
+  pub room : pageUp addr - b .end ≤ 4096 * free
+
+pub ibrk-moves : (setup : Setup) (b : VirtRange) (addr free : ℕ) → ibrk setup (some b) addr free .error ≡ 0 → (addr ≡ 0 → ⊥) → Moves setup b addr free
+unfolding ibrk
+ibrk-moves setup b addr free e nz =
+    let Fine : Break → Type 0 = λ x. x .error ≡ 0 in
+    let b₆ : Break = endsAt (pageUp addr) b in
+    let b₅ : Break = pageUp addr - b .end above 4096 * free ⇒ refusedBy 33 b else b₆ in
+    let b₄ : Break = pageUp addr below b .end ⇒ endsAt (pageUp addr) b else b₅ in
+    let b₃ : Break = pageUp addr above limit setup ⇒ refusedBy 34 b else b₄ in
+    let b₂ : Break = not (pageUp addr below 2 ^ 64) ⇒ refusedBy 33 b else b₃ in
+    let b₁ : Break = addr below b .start ⇒ refusedBy 33 b else b₂ in
+    let e₁ : Fine b₁ = rw (ne-eqb addr 0 nz) at e in
+    let p₁ = past Fine (addr below b .start) (refusedBy 33 b) b₂ e₁ (λ z. omega arith) in
+    let p₂ = past Fine (not (pageUp addr below 2 ^ 64)) (refusedBy 33 b) b₃ (p₁ .1) (λ z. omega arith) in
+    let p₃ = past Fine (pageUp addr above limit setup) (refusedBy 34 b) b₄ (p₂ .1) (λ z. omega arith) in
+    record {
+      above-start = ltb-false _ _ (p₁ .0);
+      low = ltb-false _ _ (p₃ .0);
+      room = split (pageUp addr below b .end) (λ q. let l = ltb-true (pageUp addr) (b .end) q in omega arith)
+          (λ q. ltb-false _ _ (past Fine (pageUp addr - b .end above 4096 * free) (refusedBy 33 b) b₆ (rw q at (p₃ .1)) (λ z. omega arith) .0));
+    }
+
+pub record Breaks (s : State) (n addr : ℕ) : Type 0 where
+  pub number : valid n ≡ true
+  pub living : taken s n ≡ true
+  pub moves : (addr ≡ 0 → ⊥) → Moves (s .setup) (view s n .bss) addr (free (s .store .book))
+
+pub breaks : (s : State) → Good s → (n addr : ℕ) → Accepts s n (break addr) → Breaks s n addr
+breaks s g n addr e =
+    let w = went s g n (break addr) e in
+    let b : Break = ibrk (s .setup) (some (view s n .bss)) addr (free (s .store .book)) in
+    let p = past Goes (b .error isnt 0) (Refused (b .error)) (Value (b .value)) (w .weighed) refused-not in
+    record { number = w .number; living = w .lives; moves = ibrk-moves (s .setup) (view s n .bss) addr (free (s .store .book)) (zero-is _ (p .0)) }
+
+-- ---- fork
+
+pub record Forks (s : State) (n child : ℕ) : Type 0 where
+  pub number : valid n ≡ true
+  pub child-number : valid child ≡ true
+  pub living : taken s n ≡ true
+  pub dead : taken s child ≡ false
+  pub room : copied (view s n) ≤ free (s .store .book)
+
+pub forks-child : (s : State) → Good s → (n child : ℕ) (segments : List UserSegment) → Accepts s n (fork child segments) → Forks s n child
+forks-child s g n child segments e =
+    let w = went s g n (fork child segments) e in
+    let v = both (valid n) (valid child) (w .number) in
+    let p = past Goes (copied (view s n) above free (s .store .book)) (Refused 33) Done (w .weighed) refused-not in
+    record { number = v .0; child-number = v .1; living = w .lives; dead = not-true (taken s child) (w .new); room = ltb-false _ _ (p .0) }
+
+-- ---- end, copy_to_user
+
+pub record Ends (s : State) (n : ℕ) : Type 0 where
+  pub number : valid n ≡ true
+  pub living : taken s n ≡ true
+
+pub ends : (s : State) → Good s → (n : ℕ) → Accepts s n end → Ends s n
+ends s g n e = let w = went s g n end e in record { number = w .number; living = w .lives }
+
+pub record Writes (s : State) (n dst : ℕ) (bytes : List ℕ) : Type 0 where
+  pub number : valid n ≡ true
+  pub living : taken s n ≡ true
+  pub writable : userRangeOk (s .setup) (view s n .mem) true dst (length bytes) ≡ true
+
+pub writes : (s : State) → Good s → (n dst : ℕ) (bytes : List ℕ) → Accepts s n (copy-to-user dst bytes) → Writes s n dst bytes
+writes s g n dst bytes e =
+    let w = went s g n (copy-to-user dst bytes) e in
+    let p = past Goes (not (userRangeOk (s .setup) (view s n .mem) true dst (length bytes))) (Ended 35) Done (w .weighed) ended-not in
+    record { number = w .number; living = w .lives; writable = un-not _ (p .0) }

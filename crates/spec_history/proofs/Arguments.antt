@@ -1,0 +1,222 @@
+-- Demand 2's last sentence: registers that a call answers tell of its arguments, of any good state.
+use Prim.Native.Nat.{ℕ, zero, suc, _+_, _*_, _-_, _/_, _%_, _≤_, _<_}
+use native.Mathlib.Omega.{arith}
+use mathlib.Core.Path.{_≡_, refl, sym, ap, subst, _∙_}
+use mathlib.Core.Bool.{Bool, true, false, not, _&&_}
+use mathlib.Core.Option.{Option, none, some}
+use mathlib.Core.List.{List, [], _∷_, _++_}
+use lib.ListN.{length}
+use borrow.Author.Tests.{eq-eqb, le-ltb, eqb-true, eqb-false}
+use Rattle.spec.proofs.Args.{args-means}
+use Rattle.spec.proofs.Bools.{split, and-test, not-false, within-test}
+use Rattle.spec.proofs.Ranges.{InRange, range-all}
+use Rattle.spec.proofs.ReadBack.{Stacked, start-args, replace-args, push-args}
+use Rattle.spec.specs.Tests.{_is_, _isnt_, _above_, _⇒_else_}
+use Rattle.spec.specs.Numbers.{SetupOk, pageDown}
+use Rattle.spec.specs.Book.{free, alone, stack, bssSegment, permAt, pageCount}
+use Rattle.spec.specs.Access.{cellOk, userRangeOk, bytesAt, Str, copyStr}
+use Rattle.spec.specs.Elf.{segmentsOf, entry}
+use Rattle.spec.specs.Exec.{imageError, imageSegments, imageBss, startPieces, fileByte, cellOf, loaded, argsOf, strings, argsError, stringsAt, argvAt, belowZero, registers, pushOk, Argv, copyArgv}
+use Rattle.spec.specs.Segment.{Break, ibrk}
+use Rattle.spec.specs.Machine.{Ask, start, replace, push, break, fork, end, user-range-ok, copy-from-user, copy-to-user, try-copy-str-from-user, Call, begins, plain, Outcome, accepted, Reply, outcome, outcomeOf, Machine, copied, weigh, run}
+use Rattle.spec.specs.World.{State, taken, view, aloneFor, answer, after}
+use Rattle.spec.specs.History.{put, ArgsRead}
+use Rattle.spec.specs.declared.Setup.{Setup}
+use Rattle.spec.specs.declared.UserSegment.{UserSegment}
+use Rattle.spec.specs.declared.UserRegs.{UserRegs}
+use Rattle.spec.specs.declared.Answer.{Answer}
+use Rattle.spec.specs.declared.Answer.the-variants.{Regs, Value, Done, Refused, Ended}
+use Rattle.spec_laws.proofs.Allowed.{cell-page}
+use Rattle.spec_laws.proofs.Argv.{argv-fits}
+use Rattle.spec_laws.proofs.Pieces.{Pieces, perm-page, perm-tail, perm-here}
+use Rattle.spec_laws.proofs.Started.{start-apart}
+use Rattle.spec_history.proofs.Passed.{Good, good-setup, answered, accepted≢, weighs}
+use Rattle.spec_history.proofs.Whole.{effect}
+use Rattle.spec_history.proofs.Accepted.{not-refused, starts, replaces, pushes}
+use Rattle.spec_history.proofs.EachCall.{each-call}
+
+-- ---- the stack of a loaded image may be written
+
+-- an address of a later piece is of no earlier one
+behind : (gs hs : List UserSegment) (a q : ℕ) → Pieces (gs ++ hs) → permAt hs a ≡ some q → permAt (gs ++ hs) a ≡ some q
+behind [] hs a q p e = e
+behind (g ∷ gs) hs a q p e = perm-tail g (gs ++ hs) a q (p .0) (behind gs hs a q (p .1) e)
+
+later-pieces : (gs hs : List UserSegment) → Pieces (gs ++ hs) → Pieces hs
+later-pieces [] hs p = p
+later-pieces (g ∷ gs) hs p = later-pieces gs hs (p .1)
+
+module _ (setup : Setup) (set : SetupOk setup) (image : List ℕ) (ok : imageError setup image ≡ 0) where
+  stack-perm : (a : ℕ) → setup .ustktop - setup .ustksize ≤ a → a < setup .ustktop → permAt (startPieces setup image) a ≡ some 3
+  stack-perm a l h =
+      let p = start-apart setup set image ok in
+      let q = later-pieces (imageSegments image) (bssSegment (imageBss image) ∷ stack setup ∷ []) p in
+      behind (imageSegments image) (bssSegment (imageBss image) ∷ stack setup ∷ []) a 3 p
+      (perm-tail (bssSegment (imageBss image)) (stack setup ∷ []) a 3 (q .0) (perm-here (stack setup) [] a (within-test (setup .ustktop - setup .ustksize) (setup .ustktop) a l h)))
+
+  writable : (b : ℕ) (o : Option ℕ) → o ≡ some 3 → cellOk true (cellOf b o) ≡ true
+  writable b o e = rw e refl
+
+  by-perm : (b d : ℕ) (o : Option ℕ) → cellOk true (cellOf b o) ≡ cellOk true (cellOf d o)
+  by-perm b d none = refl
+  by-perm b d (some q) = refl
+
+  by-page : (a : ℕ) → cellOk true (loaded setup image a) ≡ cellOk true (loaded setup image (pageDown a))
+  by-page a =
+      by-perm (fileByte (segmentsOf image) a) (fileByte (segmentsOf image) (pageDown a)) (permAt (startPieces setup image) a)
+      ∙ ap (λ (o : Option ℕ). cellOk true (cellOf (fileByte (segmentsOf image) (pageDown a)) o)) (sym (perm-page (startPieces setup image) a (start-apart setup set image ok)))
+
+  stack-range : (addr len : ℕ) → setup .ustktop - setup .ustksize ≤ addr → addr + len ≤ setup .ustktop → InRange setup (loaded setup image) true addr len
+  stack-range addr len l h = record {
+    top = omega arith;
+    each = λ a x y. writable _ (permAt (startPieces setup image) (pageDown a)) (stack-perm (pageDown a) (omega arith) (omega arith));
+  }
+
+  no-bytes : (addr len : ℕ) → len ≡ 0 → addr ≤ setup .uaddrtop → userRangeOk setup (loaded setup image) true addr len ≡ true
+  no-bytes addr len z h = rw (le-ltb (setup .uaddrtop) (addr + len) (omega arith), eq-eqb len 0 z) refl
+
+  some-byte : (k : ℕ) → (k ≡ 0 → ⊥) → 1 ≤ k
+  some-byte zero nz = absurd (nz refl)
+  some-byte (suc k) nz = omega arith
+
+  stacked : (args : List (List ℕ)) → argsError setup args ≡ 0 → Stacked setup image args
+  stacked args e = record {
+    accepted = set;
+    whole = by-page;
+    fit = e;
+    room =
+        let small = args-means setup args e .1 in
+        and-test (not (belowZero (setup .ustktop) args) && userRangeOk setup (loaded setup image) true (stringsAt (setup .ustktop) args) (length (strings args))) (userRangeOk setup (loaded setup image) true (argvAt (setup .ustktop) args) (8 * (length args + 1)))
+        (and-test (not (belowZero (setup .ustktop) args)) (userRangeOk setup (loaded setup image) true (stringsAt (setup .ustktop) args) (length (strings args)))
+        (not-false (belowZero (setup .ustktop) args) (le-ltb (stringsAt (setup .ustktop) args / 8 * 8) (8 * (length args + 1)) (omega arith)))
+        (split (length (strings args) is 0)
+        (λ z. no-bytes (stringsAt (setup .ustktop) args) (length (strings args)) (eqb-true _ _ z) (omega arith))
+        (λ z. range-all setup (loaded setup image) true (stringsAt (setup .ustktop) args) (length (strings args)) (some-byte _ (eqb-false (length (strings args)) 0 z)) (stack-range _ _ (omega arith) (omega arith)))))
+        (range-all setup (loaded setup image) true (argvAt (setup .ustktop) args) (8 * (length args + 1)) (omega arith) (stack-range _ _ (omega arith) (omega arith)));
+  }
+
+-- ---- answers with registers
+
+-- 1 for registers
+abbrev shows : Answer → ℕ
+shows (Regs regs) = 1
+shows (Value value) = 0
+shows Done = 0
+shows (Refused number) = 0
+shows (Ended number) = 0
+
+-- of an answer with registers only the last of a chain is left
+past-regs : (t : Bool) (x y : Answer) (regs : UserRegs) → shows x ≡ 0 → (t ⇒ x else y) ≡ Regs regs → y ≡ Regs regs
+past-regs true x y regs n e = absurd (let z : shows x ≡ 1 = ap shows e in omega arith)
+past-regs false x y regs n e = e
+
+no-regs : (t : Bool) (x y : Answer) (regs : UserRegs) → shows x ≡ 0 → shows y ≡ 0 → (t ⇒ x else y) ≡ Regs regs → ⊥
+no-regs t x y regs m n e = let z : shows y ≡ 1 = ap shows (past-regs t x y regs m e) in omega arith
+
+pick : (t : Bool) (x y : Reply) → (t ⇒ x else y) .says ≡ (t ⇒ x .says else y .says)
+pick true x y = refl
+pick false x y = refl
+
+regs-are : (x y : UserRegs) → Regs x ≡ Regs y → x ≡ y
+regs-are x y e = cc
+
+module _ (s : State) (g : Good s) (n : ℕ) (regs : UserRegs) where
+  abbrev call : Ask → Call
+  call q = record { number = n; ask = q }
+
+  abbrev Answers : Ask → Type 0
+  Answers q = answer s (call q) .says ≡ Regs regs
+
+  goes : (q : Ask) → Answers q → outcome (answer s (call q)) ≡ accepted
+  goes q e = ap outcomeOf e
+
+  -- it is what the call's own numbers come to
+  weighed : (q : Ask) → Answers q → weigh (view s n) (free (s .store .book)) (aloneFor s (call q)) q .says ≡ Regs regs
+  weighed q e =
+      let p = not-refused s g (call q) accepted (goes q e) accepted≢ in
+      ap (λ (r : Reply). r .says) (sym (answered s g (call q) ∙ weighs (view s n) (free (s .store .book)) (aloneFor s (call q)) (taken s) (call q) (p .lengths) (p .list) (p .number) (p .lives) (p .new))) ∙ e
+
+  put-here : {A : Type 0} (f : ℕ → A) (x : A) → put f n x n ≡ x
+  put-here f x = rw (eq-eqb n n refl)
+
+  -- what it told and left, by what the machine makes of the call
+  finish : (q : Ask) (told : UserRegs) → view (after s (call q)) n ≡ run (view s n) q → told ≡ regs → ArgsRead (view s n) q (run (view s n) q .mem) told
+      → ArgsRead (view s n) q (view (after s (call q)) n .mem) regs
+  finish q told seen are r =
+      subst (λ (m : Machine). ArgsRead (view s n) q (m .mem) regs) (sym seen) (subst (λ (x : UserRegs). ArgsRead (view s n) q (run (view s n) q .mem) x) are r)
+
+  of-start : (image name bytes lengths : List ℕ) → Answers (start image name bytes lengths)
+      → ArgsRead (view s n) (start image name bytes lengths) (view (after s (call (start image name bytes lengths))) n .mem) regs
+  unfolding effect
+  of-start image name bytes lengths e =
+      let q : Ask = start image name bytes lengths in
+      let args : List (List ℕ) = argsOf bytes lengths in
+      let p = starts s g n image name bytes lengths (goes q e) in
+      let a₃ : Answer = Regs (registers (entry image) (s .setup .ustktop) args) in
+      let a₂ : Answer = pageCount (startPieces (s .setup) image) above free (s .store .book) ⇒ Refused 33 else a₃ in
+      let a₁ : Answer = imageError (s .setup) image isnt 0 ⇒ Refused (imageError (s .setup) image) else a₂ in
+      finish q (registers (entry image) (s .setup .ustktop) args)
+      (each-call s g (call q) .each n (p .number) ∙ ap (λ (o : Outcome). effect (s .setup) (view s) (call q) begins o n) (goes q e) ∙ put-here (view s) _)
+      (regs-are _ regs
+      (past-regs (pageCount (startPieces (s .setup) image) above free (s .store .book)) (Refused 33) a₃ regs refl
+      (past-regs (imageError (s .setup) image isnt 0) (Refused (imageError (s .setup) image)) a₂ regs refl (past-regs (argsError (s .setup) args isnt 0) (Refused (argsError (s .setup) args)) a₁ regs refl (weighed q e)))))
+      (start-args (view s n) (entry image) image name bytes lengths (stacked (s .setup) (good-setup s g) image (p .image-fits) args (p .args-fit)))
+
+  of-replace : (image name : List ℕ) (argv : ℕ) → Answers (replace image name argv) → ArgsRead (view s n) (replace image name argv) (view (after s (call (replace image name argv))) n .mem) regs
+  unfolding effect
+  of-replace image name argv e =
+      let q : Ask = replace image name argv in
+      let read : Argv = copyArgv (s .setup) (view s n .mem) argv in
+      let p = replaces s g n image name argv (goes q e) in
+      let a₄ : Answer = Regs (registers (entry image) (s .setup .ustktop) (read .args)) in
+      let a₃ : Answer = pageCount (startPieces (s .setup) image) above alone (s .store .book) n + free (s .store .book) ⇒ Ended 33 else a₄ in
+      let a₂ : Answer = read .error is 33 ⇒ Refused 33 else a₃ in
+      let a₁ : Answer = read .error is 35 ⇒ Ended 35 else a₂ in
+      finish q (registers (entry image) (s .setup .ustktop) (read .args))
+      (each-call s g (call q) .each n (p .number) ∙ ap (λ (o : Outcome). effect (s .setup) (view s) (call q) plain o n) (goes q e) ∙ put-here (view s) _)
+      (regs-are _ regs
+      (past-regs (pageCount (startPieces (s .setup) image) above alone (s .store .book) n + free (s .store .book)) (Ended 33) a₄ regs refl
+      (past-regs (read .error is 33) (Refused 33) a₃ regs refl
+      (past-regs (read .error is 35) (Ended 35) a₂ regs refl (past-regs (imageError (s .setup) image isnt 0) (Refused (imageError (s .setup) image)) a₁ regs refl (weighed q e))))))
+      (replace-args (view s n) (entry image) image name argv
+      (stacked (s .setup) (good-setup s g) image (p .image-fits) (read .args)
+      (argv-fits (s .setup) (good-setup s g) (view s n .mem) argv read refl (eqb-false (read .error) 35 (p .readable)) (eqb-false (read .error) 33 (p .within-limit)) .1)))
+
+  of-push : (pc top : ℕ) (bytes lengths : List ℕ) → Answers (push pc top bytes lengths) → ArgsRead (view s n) (push pc top bytes lengths) (view (after s (call (push pc top bytes lengths))) n .mem) regs
+  unfolding effect
+  of-push pc top bytes lengths e =
+      let q : Ask = push pc top bytes lengths in
+      let args : List (List ℕ) = argsOf bytes lengths in
+      let p = pushes s g n pc top bytes lengths (goes q e) in
+      let a₃ : Answer = Regs (registers pc top args) in
+      let a₂ : Answer = not (pushOk (s .setup) (view s n .mem) top args) ⇒ Ended 35 else a₃ in
+      let a₁ : Answer = argsError (s .setup) args isnt 0 ⇒ Refused (argsError (s .setup) args) else a₂ in
+      finish q (registers pc top args)
+      (each-call s g (call q) .each n (p .number) ∙ ap (λ (o : Outcome). effect (s .setup) (view s) (call q) plain o n) (goes q e) ∙ put-here (view s) _)
+      (regs-are _ regs
+      (past-regs (not (pushOk (s .setup) (view s n .mem) top args)) (Ended 35) a₃ regs refl
+      (past-regs (argsError (s .setup) args isnt 0) (Refused (argsError (s .setup) args)) a₂ regs refl (past-regs (top % 16 isnt 0) (Refused 36) a₁ regs refl (weighed q e)))))
+      (push-args (view s n) pc (good-setup s g) top bytes lengths (λ a. cell-page (s .store) n a true) (p .aligned) (p .args-fit) (p .writable))
+
+  of-each : (q : Ask) → Answers q → ArgsRead (view s n) q (view (after s (call q)) n .mem) regs
+  of-each (start image name bytes lengths) e = of-start image name bytes lengths e
+  of-each (replace image name argv) e = of-replace image name argv e
+  of-each (push pc top bytes lengths) e = of-push pc top bytes lengths e
+  of-each (break addr) e =
+      let b : Break = ibrk (s .setup) (some (view s n .bss)) addr (free (s .store .book)) in
+      no-regs (b .error isnt 0) (Refused (b .error)) (Value (b .value)) regs refl refl (weighed (break addr) e)
+  of-each (fork child segments) e = no-regs (copied (view s n) above free (s .store .book)) (Refused 33) Done regs refl refl (weighed (fork child segments) e)
+  of-each end e = no-regs false Done Done regs refl refl (weighed end e)
+  of-each (user-range-ok addr len write) e =
+      let v : Answer = Value (userRangeOk (s .setup) (view s n .mem) write addr len ⇒ 1 else 0) in
+      no-regs false v v regs refl refl (weighed (user-range-ok addr len write) e)
+  of-each (copy-from-user buffer src) e =
+      let t : Bool = not (userRangeOk (s .setup) (view s n .mem) false src (length buffer)) in
+      no-regs t (Ended 35) Done regs refl refl (sym (pick t (record { says = Ended 35; buffer = buffer }) (record { says = Done; buffer = bytesAt (view s n .mem) src (length buffer) })) ∙ weighed (copy-from-user buffer src) e)
+  of-each (copy-to-user dst bytes) e = no-regs (not (userRangeOk (s .setup) (view s n .mem) true dst (length bytes))) (Ended 35) Done regs refl refl (weighed (copy-to-user dst bytes) e)
+  of-each (try-copy-str-from-user buffer src) e =
+      let str : Str = copyStr (s .setup) (view s n .mem) buffer src in
+      no-regs (not (str .whole)) (Refused 35) (Value (str .size)) regs refl refl (weighed (try-copy-str-from-user buffer src) e)
+
+pub args-read : (s : State) → Good s → (c : Call) (regs : UserRegs) → answer s c .says ≡ Regs regs → ArgsRead (view s (c .number)) (c .ask) (view (after s c) (c .number) .mem) regs
+args-read s g c regs e = of-each s g (c .number) regs (c .ask) e

@@ -1,3 +1,0 @@
--- Bytes without a NUL, and the count of those before one.
-pub mod Plain
-pub mod Nul

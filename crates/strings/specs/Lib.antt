@@ -1,2 +1,0 @@
--- The bytes before a NUL.
-pub mod Nul

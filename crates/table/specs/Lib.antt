@@ -1,2 +1,0 @@
--- The pass over the book, and the table that it leaves.
-pub mod Table

@@ -1,2 +1,0 @@
--- A run of exported functions is a run under `Does`.
-pub mod Linked
