@@ -1,5 +1,5 @@
-// The four calls that look at user memory, as calls of their own (uaccess.rs): the check of a range, the string copy, and, passed on
-// from this crate, bytes read and bytes written. Each gives the numbers that come first, then goes by crate uaccess. A bad
+// The four calls that look at user memory, as calls of their own (uaccess.rs): the check of a range, bytes read, bytes written, and the
+// string copy. Each gives the numbers that come first, then goes by crate uaccess. A bad
 // address is only told here; in the two copies it ends the process.
 
 mod call_copy_from_user;

@@ -1,4 +1,5 @@
-// Lent buffers: parts of them, and the bytes that a word of a script gives, put into one. Every function takes any bytes and numbers.
+// Lent buffers: parts of them, the words of a line, and the bytes that a word gives, put into one. Every function takes any bytes and
+// numbers.
 pub mod bytes;
 pub mod room;
 pub mod words;

@@ -1,5 +1,4 @@
-// What a line of a replay script asks for: its words, separated by one space, and the numbers and bytes that they give. Every function
-// takes any bytes and any numbers.
+// What a line of a replay script asks for, by its words and the numbers and bytes that they give. Every function takes any bytes and any numbers.
 pub mod asked;
 mod lines;
 pub mod taken;

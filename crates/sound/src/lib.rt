@@ -1,7 +1,7 @@
 // Refusal 2: is the book sound? Added: r9 keeps its pages in page tables of its own making, and here the book and the records are
-// lent. The answer is found in one pass over the book (crate sound_table), against a plan of all pages that the records call for (crate sound_plan),
-// and the pass leaves a table by which the rest of a call finds the frame of a page of the process that makes it, without the book
-// (module lookup).
+// lent. The answer is found in one pass over the book (crate sound_table), against a plan of all pages that the records call for (crate
+// sound_plan), and the pass leaves a table by which the rest of a call finds the frame of a page of the process that makes it, without
+// the book (module lookup).
 
 mod lookup;
 

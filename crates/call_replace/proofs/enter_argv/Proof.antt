@@ -1,4 +1,4 @@
--- `replace::enter_argv` meets its contract: the arguments are read, and the pointers put behind them, before pages are freed.
+-- `enter_argv` meets its contract: the arguments are read, and the pointers put behind them, before pages are freed.
 use Prim.Native.Nat.{ℕ}
 use native.Mathlib.Omega.{arith}
 use mathlib.Core.Path.{_≡_, refl, sym, _∙_}

@@ -1,4 +1,4 @@
--- `start::install_with` meets its contract: arguments that pass fit a buffer, and are installed from it.
+-- `install_with` meets its contract: arguments that pass fit a buffer, and are installed from it.
 use mathlib.Core.Path.{_≡_}
 use Prim.Native.Nat.{ℕ}
 use native.Mathlib.Omega.{arith}

@@ -1,4 +1,4 @@
--- `argv::copy_argv` meets its contract. The loop's invariant: the strings of the first `count` arguments stand over the first `used` bytes of
+-- `copy_argv` meets its contract. The loop's invariant: the strings of the first `count` arguments stand over the first `used` bytes of
 -- the buffer, within the limit, and the definition goes on from them.
 use Prim.Native.Nat.{ℕ, _+_, _*_, _-_}
 use native.Mathlib.Omega.{arith}

@@ -1,4 +1,4 @@
--- `list::list_into` meets its contract: nothing put, or the whole listing.
+-- `list_into` meets its contract: nothing put, or the whole listing.
 -- Assumes nothing.
 use native.Mathlib.Omega.{arith}
 use denote.Ref.{now}

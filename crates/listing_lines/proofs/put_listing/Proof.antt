@@ -1,4 +1,4 @@
--- `list::put_listing` meets its contract: each text is the listing's, by the plan's numbers.
+-- `put_listing` meets its contract: each text is the listing's, by the plan's numbers.
 -- Assumes nothing.
 use mathlib.Core.Path.{_≡_, refl, sym, subst, ap, _∙_}
 use Prim.Native.Nat.{ℕ, _≤_}

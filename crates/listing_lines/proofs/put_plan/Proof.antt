@@ -1,4 +1,4 @@
--- `list::put_plan` meets its contract: five texts, one behind the other.
+-- `put_plan` meets its contract: five texts, one behind the other.
 -- Assumes nothing.
 use borrow.Author.Needs.{needs}
 use Rattle.text.proofs.Behind.{behind}

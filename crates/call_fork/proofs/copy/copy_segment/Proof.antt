@@ -1,4 +1,4 @@
--- `fork::copy::copy_segment` meets its contract. The loop's invariant: the pages before `page` are placed, no frame from `c` on is
+-- `copy::copy_segment` meets its contract. The loop's invariant: the pages before `page` are placed, no frame from `c` on is
 -- free, the parent's pages stay in their frames with their bytes, and the lists tell its frames.
 use mathlib.Core.Path.{_≡_, refl, sym, ap, _∙_}
 use mathlib.Core.Option.{some}

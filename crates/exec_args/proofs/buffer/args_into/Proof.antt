@@ -1,4 +1,4 @@
--- `args_into::args_into` meets its contract: strings, then pointers in a lent part behind them.
+-- `buffer::args_into` meets its contract: strings, then pointers in a lent part behind them.
 use mathlib.Core.Path.{_≡_, sym, ap, _∙_}
 use Prim.Native.Nat.{ℕ, _+_, _-_, _*_}
 use native.Mathlib.Omega.{arith}

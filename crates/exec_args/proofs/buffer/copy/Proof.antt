@@ -1,4 +1,4 @@
--- `args_into::copy` meets its contract. The loop's invariant: the first `i` bytes of `s` are in place.
+-- `buffer::copy` meets its contract. The loop's invariant: the first `i` bytes of `s` are in place.
 use mathlib.Core.Path.{_≡_, refl, _∙_}
 use Prim.Native.Nat.{_-_, _≤_}
 use native.Mathlib.Omega.{arith}

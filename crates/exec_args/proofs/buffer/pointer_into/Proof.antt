@@ -1,4 +1,4 @@
--- `args_into::pointer_into` meets its contract: a lent part.
+-- `buffer::pointer_into` meets its contract: a lent part.
 use mathlib.Core.Path.{_∙_}
 use denote.Ref.{now}
 use borrow.Author.Needs.{needs}

@@ -1,4 +1,4 @@
--- `args_into::pointers_behind` meets its contract. The loop's invariant: the strings are as they were, the next one begins at `from`, and the
+-- `buffer::pointers_behind` meets its contract. The loop's invariant: the strings are as they were, the next one begins at `from`, and the
 -- pointers from it on, put at their place, would complete the buffer.
 use mathlib.Core.Path.{_≡_, refl, sym, ap, subst, _∙_}
 use Prim.Native.Nat.{ℕ, _+_, _-_, _*_, _≤_, _<_}

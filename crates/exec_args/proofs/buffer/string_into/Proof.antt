@@ -1,4 +1,4 @@
--- `args_into::string_into` meets its contract: a lent part, then a store behind it.
+-- `buffer::string_into` meets its contract: a lent part, then a store behind it.
 use native.Mathlib.Omega.{arith}
 use denote.Ref.{now}
 use borrow.Author.Needs.{needs}

@@ -1,4 +1,4 @@
--- `args_into::to_le_bytes` meets its contract.
+-- `buffer::to_le_bytes` meets its contract.
 use native.Mathlib.Omega.{arith}
 use borrow.Author.Needs.{needs}
 use Rattle.exec_args.proofs.Lay.{word-bytes}

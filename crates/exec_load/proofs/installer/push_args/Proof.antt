@@ -1,4 +1,4 @@
--- `install::push_args` meets its contract: strings and pointers lie inside the stack, and each is written from its part of the buffer.
+-- `installer::push_args` meets its contract: strings and pointers lie inside the stack, and each is written from its part of the buffer.
 use mathlib.Core.Path.{_≡_, sym, ap, _∙_}
 use Prim.Native.Nat.{ℕ, _+_, _-_, _*_, _/_, _≤_}
 use native.Mathlib.Omega.{arith}

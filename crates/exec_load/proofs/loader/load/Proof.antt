@@ -1,4 +1,4 @@
--- `load::load` meets its contract: segments, bss and stack are placed one after the other.
+-- `loader::load` meets its contract: segments, bss and stack are placed one after the other.
 use mathlib.Core.Path.{ap, _∙_}
 use Prim.Native.Nat.{ℕ, _-_}
 use native.Mathlib.Omega.{arith}

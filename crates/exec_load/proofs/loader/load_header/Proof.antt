@@ -1,4 +1,4 @@
--- `load::load_header` meets its contract: a header that is skipped places nothing, and any other its segment's pages.
+-- `loader::load_header` meets its contract: a header that is skipped places nothing, and any other its segment's pages.
 use mathlib.Core.Path.{refl, sym, ap, _∙_}
 use mathlib.Core.List.{List, [], _∷_}
 use Prim.Native.Nat.{ℕ, _+_, _-_, _≤_}

@@ -1,4 +1,4 @@
--- `load::load_segments` meets its contract. The invariant: placing the pages of the headers that are left, after what is placed, is
+-- `loader::load_segments` meets its contract. The invariant: placing the pages of the headers that are left, after what is placed, is
 -- placing those of the whole image.
 use mathlib.Core.Path.{_≡_, refl, sym, ap, _∙_}
 use mathlib.Core.Bool.{true}

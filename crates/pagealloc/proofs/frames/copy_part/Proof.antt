@@ -1,4 +1,4 @@
--- `frame_bytes::copy_part` meets its contract.
+-- `frames::copy_part` meets its contract.
 use native.Mathlib.Omega.{arith}
 use denote.Ref.{now}
 use borrow.Author.Needs.{needs}

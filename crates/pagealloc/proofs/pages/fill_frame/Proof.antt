@@ -1,4 +1,4 @@
--- `frame_pages::fill_frame` meets its contract: three parts, one behind the other.
+-- `pages::fill_frame` meets its contract: three parts, one behind the other.
 use denote.Ref.{now}
 use Rattle.pagealloc.proofs.Filled.{put-padded}
 use borrow.Author.Needs.{needs}

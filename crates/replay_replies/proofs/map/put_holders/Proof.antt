@@ -1,4 +1,4 @@
--- `replies::map::put_holders` is safe and ends.
+-- `map::put_holders` is safe and ends.
 use Prim.Native.Nat.{_+_, _*_, _-_, _≤_, _<_}
 use native.Mathlib.Omega.{arith}
 use lib.ListN.{length}

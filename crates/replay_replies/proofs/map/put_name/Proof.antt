@@ -1,4 +1,4 @@
--- `replies::map::put_name` is safe and ends.
+-- `map::put_name` is safe and ends.
 use mathlib.Core.Path.{_≡_}
 use Prim.Native.Nat.{_-_, _≤_}
 use lib.ListN.{length}

@@ -1,4 +1,4 @@
--- `replies::map::put_pages` is safe and ends.
+-- `map::put_pages` is safe and ends.
 use Prim.Native.Nat.{_-_, _≤_}
 use borrow.Author.Needs.{needs}
 use Rattle.replay_replies.proofs.map.put_pages.Statement.{statement}

@@ -1,4 +1,4 @@
--- `replies::sums::records_sum` is safe and ends.
+-- `sums::records_sum` is safe and ends.
 use Prim.Native.Nat.{_-_, _≤_}
 use borrow.Author.Needs.{needs}
 use Rattle.replay_replies.proofs.sums.records_sum.Statement.{statement}

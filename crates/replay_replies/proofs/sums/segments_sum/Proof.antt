@@ -1,4 +1,4 @@
--- `replies::sums::segments_sum` is safe and ends.
+-- `sums::segments_sum` is safe and ends.
 use Prim.Native.Nat.{_-_, _≤_}
 use borrow.Author.Needs.{needs}
 use Rattle.replay_replies.proofs.sums.segments_sum.Statement.{statement}

@@ -1,4 +1,4 @@
--- `replies::sums::word_sum` is safe and ends.
+-- `sums::word_sum` is safe and ends.
 use Prim.Native.Nat.{_≤_}
 use borrow.Author.Needs.{needs}
 use Rattle.replay_replies.proofs.sums.word_sum.Statement.{statement}

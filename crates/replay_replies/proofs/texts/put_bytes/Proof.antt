@@ -1,4 +1,4 @@
--- `replies::texts::put_bytes` is safe and ends.
+-- `texts::put_bytes` is safe and ends.
 use mathlib.Core.Path.{_≡_}
 use Prim.Native.Nat.{_-_, _≤_, _<_}
 use lib.ListN.{length}

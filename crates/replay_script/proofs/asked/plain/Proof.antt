@@ -1,4 +1,4 @@
--- `script::asked::plain` is safe and ends.
+-- `asked::plain` is safe and ends.
 use mathlib.Core.Path.{_≡_}
 use Prim.Native.Nat.{_-_, _≤_}
 use lib.ListN.{length}

@@ -1,4 +1,4 @@
--- `script::taken::args` is safe and ends.
+-- `taken::args` is safe and ends.
 use mathlib.Core.Path.{_≡_}
 use Prim.Native.Nat.{_≤_}
 use lib.ListN.{length}

@@ -1,4 +1,4 @@
--- `script::taken::triples` is safe and ends.
+-- `taken::triples` is safe and ends.
 use Prim.Native.Nat.{_≤_}
 use borrow.Author.Needs.{needs}
 use Rattle.replay_script.proofs.taken.triples.Statement.{statement}

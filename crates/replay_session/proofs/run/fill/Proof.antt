@@ -1,4 +1,4 @@
--- `session::run::fill` is safe and ends.
+-- `run::fill` is safe and ends.
 use mathlib.Core.Path.{_≡_}
 use Prim.Native.Nat.{_-_, _≤_}
 use lib.ListN.{length}

@@ -1,4 +1,4 @@
--- `setup_text::begins` meets its contract. The invariant: the bytes begin with the name if they do from `i` on.
+-- `setup_read::begins` meets its contract. The invariant: the bytes begin with the name if they do from `i` on.
 -- Assumes nothing.
 use mathlib.Core.Path.{_≡_, refl, sym, _∙_}
 use Prim.Native.Nat.{_-_, _≤_}

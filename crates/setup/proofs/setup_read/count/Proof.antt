@@ -1,4 +1,4 @@
--- `setup_text::count` meets its contract. The invariant: `i` digits are passed.
+-- `setup_read::count` meets its contract. The invariant: `i` digits are passed.
 -- Assumes nothing.
 use mathlib.Core.Path.{_≡_}
 use Prim.Native.Nat.{_+_, _-_, _≤_}

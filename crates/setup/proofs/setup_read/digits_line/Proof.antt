@@ -1,4 +1,4 @@
--- `setup_text::digits_line` meets its contract, test by test.
+-- `setup_read::digits_line` meets its contract, test by test.
 -- Assumes nothing.
 use mathlib.Core.Path.{sym}
 use native.Mathlib.Omega.{arith}

@@ -1,4 +1,4 @@
--- `setup_text::fourth_line` meets its contract: no line, or the rest after its line.
+-- `setup_read::fourth_line` meets its contract: no line, or the rest after its line.
 -- Assumes nothing.
 use mathlib.Core.Path.{sym, ap, _∙_}
 use denote.Ref.{now}

@@ -1,4 +1,4 @@
--- `setup_text::judged` meets its contract.
+-- `setup_read::judged` meets its contract.
 -- Assumes nothing.
 use mathlib.Core.Path.{sym, _∙_}
 use borrow.Author.Needs.{needs}

@@ -1,4 +1,4 @@
--- `setup_text::read_line` meets its contract.
+-- `setup_read::read_line` meets its contract.
 -- Assumes nothing.
 use mathlib.Core.Path.{sym, _∙_}
 use native.Mathlib.Omega.{arith}

@@ -1,4 +1,4 @@
--- `setup_text::second_line` meets its contract: no line, or the rest after its line.
+-- `setup_read::second_line` meets its contract: no line, or the rest after its line.
 -- Assumes nothing.
 use mathlib.Core.Path.{ap, _∙_}
 use denote.Ref.{now}

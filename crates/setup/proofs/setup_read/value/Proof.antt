@@ -1,4 +1,4 @@
--- `setup_text::value` meets its contract. The invariant: the number of the first `i` bytes, and what it is below.
+-- `setup_read::value` meets its contract. The invariant: the number of the first `i` bytes, and what it is below.
 -- Assumes nothing.
 use mathlib.Core.Path.{_≡_, refl, sym, ap, _∙_}
 use Prim.Native.Nat.{ℕ, _+_, _-_, _*_, _^_, _≤_}
