@@ -15,7 +15,7 @@ use Rattle.spec.proofs.Args.{length-pointers}
 use Rattle.spec.proofs.Bools.{neither}
 use Rattle.spec.proofs.Lists.{drop-next}
 use Rattle.spec_laws.proofs.Lists.{put-append, put-part, length-put}
-use Rattle.uaccess.specs.Nul.{toNul}
+use Rattle.kstr.specs.Nul.{toNul}
 use Rattle.exec_args.specs.Laid.{Standing, Laid}
 
 -- what stands before bytes that are put, and a part of a list

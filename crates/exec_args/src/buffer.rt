@@ -118,7 +118,7 @@ pub fn pointers_behind(buf: &mut [u8], top: u64, size: usize, count: usize)
     let mut i = 0;
     while i < count {
         pointer_into(buf, size + 8 * i, first + (from as u64));
-        from += uaccess::to_nul(&buf[from..size]) + 1;
+        from += kstr::to_nul(&buf[from..size]) + 1;
         i += 1;
     }
     pointer_into(buf, size + 8 * i, 0);

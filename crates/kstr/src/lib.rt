@@ -1,5 +1,7 @@
 // Names that the kernel holds in fixed arrays, as r9's str.rs. A name is any bytes, where the Rust's are UTF-8; it is cut at the
-// same place.
+// same place. Module nul has the search of a NUL.
+
+mod nul;
 
 ghost use mathlib.Core.Path.{_≡_};
 ghost use Prim.Native.Nat.{_+_, _≤_, _<_};
@@ -7,6 +9,8 @@ ghost use lib.ListN.{length, drop};
 ghost use Rattle.spec.specs.Tests.{within};
 ghost use Rattle.spec.specs.Name.{elem, cut, kstrcpy};
 ghost use Rattle.spec.specs.Frames.{put};
+pub use nul::blocks;
+pub use nul::to_nul;
 
 // How many bytes a name has room for.
 const NAME_SIZE: usize = 28;

@@ -1,6 +1,5 @@
 -- A string copy, part by part.
-pub mod Plain
-pub mod Nul
+pub mod Fronts
 pub mod CopyParts
 pub mod Found
 pub mod InRange

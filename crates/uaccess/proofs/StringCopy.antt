@@ -13,8 +13,8 @@ use Rattle.spec.specs.Access.{userRangeOk, byteOf, bytesAt, Str, copyStr}
 use Rattle.spec.specs.Numbers.{SetupOk}
 use Rattle.spec.specs.declared.Setup.{Setup}
 use Rattle.spec_laws.proofs.Contents.{length-bytes, get-bytes}
-use Rattle.uaccess.specs.Nul.{toNul}
-use Rattle.uaccess.proofs.Nul.{nul-most, nul-before, nul-at}
+use Rattle.kstr.specs.Nul.{toNul}
+use Rattle.kstr.proofs.BeforeNul.{nul-most, nul-before, nul-at}
 use Rattle.uaccess.specs.Copied.{copied}
 use Rattle.uaccess.proofs.InRange.{range-along}
 use Rattle.uaccess.proofs.CopyParts.{bytes-part}

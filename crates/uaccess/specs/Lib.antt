@@ -1,3 +1,2 @@
 -- What a string copy comes to.
-pub mod Nul
 pub mod Copied

@@ -22,7 +22,6 @@ pub use copies::write_user;
 pub use ranges::frame_at;
 pub use ranges::user_range_ok;
 use spec::Setup;
-pub use strings::to_nul;
 
 // What a string copy answers: whether every byte that it needed could be read, and the length.
 pub struct Str {

@@ -12,8 +12,8 @@ use Rattle.spec.specs.Frames.{Mem, memOf, store}
 use Rattle.spec.specs.Access.{userRangeOk, byteOf, bytesAt, copyStr}
 use Rattle.spec.proofs.Bools.{not-true, un-not}
 use Rattle.spec_laws.proofs.Contents.{length-bytes}
-use Rattle.uaccess.specs.Nul.{toNul}
-use Rattle.uaccess.proofs.Nul.{nul-most}
+use Rattle.kstr.specs.Nul.{toNul}
+use Rattle.kstr.proofs.BeforeNul.{nul-most}
 use Rattle.uaccess.specs.Copied.{copied}
 use Rattle.uaccess.proofs.InRange.{range-cell}
 use Rattle.uaccess.proofs.StringCopy.{copyFrom, str-none, str-end, str-bad, str-part, str-nul, str-whole}

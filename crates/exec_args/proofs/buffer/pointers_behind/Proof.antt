@@ -10,7 +10,7 @@ use lib.Seq.{length-take-le}
 use borrow.Author.Needs.{needs}
 use Rattle.spec.specs.Frames.{put}
 use Rattle.spec.specs.Exec.{strings, pointers}
-use Rattle.uaccess.specs.Nul.{toNul}
+use Rattle.kstr.specs.Nul.{toNul}
 use Rattle.exec_args.specs.Laid.{Standing}
 use Rattle.exec_args.proofs.Behind.{Along, along-none, along-room, along-nul, along-next, laid-put}
 use Rattle.exec_args.proofs.buffer.pointers_behind.Statement.{statement}

@@ -7,9 +7,10 @@ use lib.ListN.{length, length-set, drop}
 use lib.Seq.{length-take-le}
 use denote.Ref.{now}
 use borrow.Author.Needs.{needs}
-use Rattle.uaccess.specs.Nul.{toNul}
-use Rattle.uaccess.proofs.Nul.{nul-here, nul-next, nul-end}
-use Rattle.uaccess.proofs.Plain.{nul-behind, length-blocks, mix-blocks, mix-behind}
+use Rattle.kstr.specs.Nul.{toNul}
+use Rattle.kstr.proofs.BeforeNul.{nul-here, nul-next, nul-end}
+use Rattle.kstr.proofs.Plain.{nul-behind}
+use Rattle.uaccess.proofs.Fronts.{length-blocks, mix-blocks, mix-behind}
 use Rattle.uaccess.proofs.strings.copy_to_nul.Statement.{statement}
 use Rattle.uaccess.proofs.strings.copy_to_nul.Tie as tie
 use Rattle.spec_laws.proofs.Overwrite.{mix, mix-turn}

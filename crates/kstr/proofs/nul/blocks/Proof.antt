@@ -1,4 +1,4 @@
--- `strings::blocks` meets its contract. The loop's invariant: none of the first `k` bytes is a NUL.
+-- `nul::blocks` meets its contract. The loop's invariant: none of the first `k` bytes is a NUL.
 use Prim.Native.Nat.{_-_, _≤_}
 use native.Mathlib.Omega.{arith}
 use mathlib.Core.Path.{_≡_, refl, sym, _∙_}
@@ -8,9 +8,9 @@ use denote.Ref.{now}
 use borrow.Author.Needs.{needs}
 use Rattle.spec.specs.Tests.{has}
 use Rattle.spec.proofs.Bools.{not-true, un-not}
-use Rattle.uaccess.proofs.Plain.{none-block}
-use Rattle.uaccess.proofs.strings.blocks.Statement.{statement}
-use Rattle.uaccess.proofs.strings.blocks.Tie as tie
+use Rattle.kstr.proofs.Plain.{none-block}
+use Rattle.kstr.proofs.nul.blocks.Statement.{statement}
+use Rattle.kstr.proofs.nul.blocks.Tie as tie
 
 abbrev Inv-loop : tie.InvT-loop
 Inv-loop s k₀ k = (k ≤ length s) × (has 0 (take k s) ≡ false)

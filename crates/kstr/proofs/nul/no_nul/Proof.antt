@@ -1,4 +1,4 @@
--- `strings::no_nul` meets its contract: `ok` says it of the first `i` bytes.
+-- `nul::no_nul` meets its contract: `ok` says it of the first `i` bytes.
 use Prim.Native.Nat.{ℕ, _-_, _≤_}
 use native.Mathlib.Omega.{arith}
 use mathlib.Core.Path.{_≡_, refl, ap, _∙_}
@@ -8,9 +8,9 @@ use lib.ListN.{length, take}
 use lib.Seq.{take-all}
 use denote.Ref.{now}
 use Rattle.spec.specs.Tests.{has}
-use Rattle.uaccess.proofs.Plain.{none-next}
-use Rattle.uaccess.proofs.strings.no_nul.Statement.{statement}
-use Rattle.uaccess.proofs.strings.no_nul.Tie as tie
+use Rattle.kstr.proofs.Plain.{none-next}
+use Rattle.kstr.proofs.nul.no_nul.Statement.{statement}
+use Rattle.kstr.proofs.nul.no_nul.Tie as tie
 
 abbrev Inv-loop : tie.InvT-loop
 Inv-loop s ok₀ i₀ ok i = (i ≤ length s) × (ok ≡ not (has 0 (take i s)))

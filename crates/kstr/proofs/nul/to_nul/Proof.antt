@@ -1,15 +1,15 @@
--- `strings::to_nul` meets its contract. The loop's invariant: none of the first `i` bytes is a NUL.
+-- `nul::to_nul` meets its contract. The loop's invariant: none of the first `i` bytes is a NUL.
 use mathlib.Core.Path.{_≡_}
 use Prim.Native.Nat.{_+_, _-_, _≤_}
 use native.Mathlib.Omega.{arith}
 use denote.Ref.{now}
 use lib.ListN.{length, drop}
 use borrow.Author.Needs.{needs}
-use Rattle.uaccess.specs.Nul.{toNul}
-use Rattle.uaccess.proofs.Nul.{nul-here, nul-next, nul-end}
-use Rattle.uaccess.proofs.Plain.{nul-behind}
-use Rattle.uaccess.proofs.strings.to_nul.Statement.{statement}
-use Rattle.uaccess.proofs.strings.to_nul.Tie as tie
+use Rattle.kstr.specs.Nul.{toNul}
+use Rattle.kstr.proofs.BeforeNul.{nul-here, nul-next, nul-end}
+use Rattle.kstr.proofs.Plain.{nul-behind}
+use Rattle.kstr.proofs.nul.to_nul.Statement.{statement}
+use Rattle.kstr.proofs.nul.to_nul.Tie as tie
 
 abbrev Inv-loop : tie.InvT-loop
 Inv-loop s i₀ i = (i ≤ length s) × (toNul s ≡ i + toNul (drop i s))

@@ -9,7 +9,7 @@ use lib.Seq.{drop-cons}
 use borrow.Author.Tests.{eqb-true, eq-eqb, ne-eqb}
 use Rattle.spec.specs.Tests.{_is_}
 use Rattle.spec.proofs.Bools.{split}
-use Rattle.uaccess.specs.Nul.{toNul}
+use Rattle.kstr.specs.Nul.{toNul}
 
 pub nul-here : (s : List ℕ) (i : ℕ) → i < length s → getD s i 0 ≡ 0 → toNul (drop i s) ≡ 0
 nul-here s i h e = ap toNul (drop-cons s i 0 h) ∙ rw (eq-eqb (getD s i 0) 0 e)
