@@ -11,7 +11,7 @@
 
 enum { FRAMES = HOLTHRIMI_MAX_FRAMES, WORDS = FRAMES * HOLTHRIMI_FRAME_WORDS, STACK = 1 << 20, PATTERN = 0xa5, IMAGE = 184, ARGS = 1636 };
 
-static struct holthrimi_setup setup = {65536, (uint64_t)1 << 47, 65536, (uint64_t)1 << 47};
+static struct holthrimi_setup setup = {65536, (uint64_t)1 << 47, 65536, (uint64_t)1 << 47, HOLTHRIMI_BUILT_IN};
 static uint8_t frames[FRAMES * HOLTHRIMI_PAGE];
 static uint64_t book[WORDS];
 static struct holthrimi_procs procs;

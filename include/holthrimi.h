@@ -15,8 +15,8 @@
  * start and push 41, fork with a list 39, fork, and copies from and to a process, 31, break 29 and the other calls 25 (bench/run ""
  * stack).
  *
- * Numbers. A page is 4,096 bytes. The machine's four numbers are handed to every call, by value (struct holthrimi_setup); limit is one
- * guard page below the stack.
+ * Numbers. A page is 4,096 bytes. The machine's four numbers and the flag table are handed to every call, by value
+ * (struct holthrimi_setup); limit is one guard page below the stack.
  */
 #ifndef HOLTHRIMI_H
 #define HOLTHRIMI_H
@@ -56,18 +56,26 @@ enum {
 /*
  * The machine's numbers: where user text may begin; the top of the user stack, and its size; and the end of the user address space.
  * All are multiples of 4,096; utzero and ustksize at least 4,096; ustksize at most 65,536 and below ustktop; utzero + 8,192 at most
- * ustktop - ustksize; ustktop at most uaddrtop, and that at most 2^47. Every call refuses others with 38, directly after 1. The same
- * numbers go to every call over the same frames, book and records.
+ * ustktop - ustksize; ustktop at most uaddrtop, and that at most 2^47. Every call refuses others with 38, directly after 1.
+ * And the flag table: flags[r] is what a segment is loaded as whose flags have the low three bits r (execute 1, write 2, read 4), text,
+ * rodata or data as above, or 0 for refused. Rows 0, 1, 2, 3 and 7 are refused; row 4 is rodata or refused; row 5 text, rodata or
+ * refused; row 6 data, rodata or refused. Every call refuses another table with 39, directly after 38, whatever rows an image uses.
+ * A table of zeros, which C puts where an initialiser leaves it out, is accepted, and no image is under it.
+ * The same numbers and table go to every call over the same frames, book and records.
  */
 struct holthrimi_setup {
     uint64_t utzero;
     uint64_t ustktop;
     uint64_t ustksize;
     uint64_t uaddrtop;
+    uint8_t flags[8];
 };
 
-/* The deposit machine's. */
-#define HOLTHRIMI_DEPOSIT ((struct holthrimi_setup){65536, (uint64_t)1 << 47, 16384, (uint64_t)1 << 47})
+/* The built-in flag table: flags 4 are rodata, 5 text, 6 data. */
+#define HOLTHRIMI_BUILT_IN {0, 0, 0, 0, HOLTHRIMI_RODATA, HOLTHRIMI_TEXT, HOLTHRIMI_DATA, 0}
+
+/* The deposit machine's numbers, with it. */
+#define HOLTHRIMI_DEPOSIT ((struct holthrimi_setup){65536, (uint64_t)1 << 47, 16384, (uint64_t)1 << 47, HOLTHRIMI_BUILT_IN})
 
 /* User addresses from start up to, but not including, end. */
 struct holthrimi_range {
@@ -118,7 +126,8 @@ struct holthrimi_answer {
     struct holthrimi_regs regs;
 };
 
-/* The numbers of refusals. 1, 38 and 2 to 5 come first in every call, in this order; then each call's own, in the order named with it. */
+/* The numbers of refusals. 1, 38, 39 and 2 to 5 come first in every call, in this order; then each call's own, in the order named with
+ * it. */
 enum {
     HOLTHRIMI_SIZES = 1,     /* not 4,096 bytes and 17 words a frame, frames outside 1 to 1,024, or argument lengths don't sum to their bytes */
     HOLTHRIMI_TORN = 2,      /* the book is not sound: its mappings, counts and the records don't agree */
@@ -134,20 +143,21 @@ enum {
     HOLTHRIMI_EFAULT = 35,   /* bad address: a range, or a push below address 0 */
     HOLTHRIMI_TOP = 36,      /* top is not a multiple of 16 */
     HOLTHRIMI_SETUP_LINES = 37, /* holthrimi_read_setup: bytes that are not as described */
-    HOLTHRIMI_SETUP = 38     /* the machine's numbers break a condition */
+    HOLTHRIMI_SETUP = 38,    /* the machine's numbers break a condition */
+    HOLTHRIMI_FLAGS = 39     /* the flag table is against its rules; holthrimi_read_flags: bytes that are not as described, too */
 };
 
 /* ---- the ten calls
  *
- * The first arguments are the same in each: the machine's numbers, frames and their bytes, book and its words, records, and the
- * process's number.
+ * The first arguments are the same in each: the machine's numbers with the flag table, frames and their bytes, book and its words,
+ * records, and the process's number.
  */
 
 /*
  * Starts a process under `number`, which must not live, from an ELF image. Its name is what follows the last '/' of name, copied as
  * holthrimi_kstrcpy copies. Its arguments are `bytes` cut by `lengths`: the first lengths[0] bytes, and so on. Pages are placed
  * ascending, each in the highest-numbered free frame: the image's, the bss, the stack; then the arguments are pushed.
- * Refused, after 1, 38, 2, 3 and 5: 32, 33 (arguments), 30, 31, 33 (frames). Accepted: regs, to enter the program with.
+ * Refused, after 1, 38, 39, 2, 3 and 5: 32, 33 (arguments), 30, 31, 33 (frames). Accepted: regs, to enter the program with.
  */
 struct holthrimi_answer holthrimi_start(struct holthrimi_setup setup,
                                         uint8_t *frames, size_t frame_bytes, uint64_t *book, size_t words,
@@ -158,8 +168,8 @@ struct holthrimi_answer holthrimi_start(struct holthrimi_setup setup,
 /*
  * Replaces a process's program. `argv` is the user address of an array of pointers to its arguments, which a null ends; they are read
  * from its old memory. Its old pages are released first: a frame that others hold too stays theirs.
- * Refused, after 1, 38 and 2 to 4: 30, 31, then 35, which ends the process, or 33 (arguments) in reading order, then 33, which ends the
- * process, if the frames that it holds alone and the free ones don't suffice. Accepted: regs.
+ * Refused, after 1, 38, 39 and 2 to 4: 30, 31, then 35, which ends the process, or 33 (arguments) in reading order, then 33, which ends
+ * the process, if the frames that it holds alone and the free ones don't suffice. Accepted: regs.
  */
 struct holthrimi_answer holthrimi_replace(struct holthrimi_setup setup,
                                           uint8_t *frames, size_t frame_bytes, uint64_t *book, size_t words,
@@ -169,7 +179,7 @@ struct holthrimi_answer holthrimi_replace(struct holthrimi_setup setup,
 /*
  * Pushes arguments onto a process's stack: their strings end at `top`, and below them lie pointers to them and a null, from a multiple
  * of 8 on, which is regs.argv; regs.sp is that rounded down to 16, and regs.pc as given.
- * Refused, after 1, 38 and 2 to 4: 36, 32, 33, and 35, which ends the process, with no byte written.
+ * Refused, after 1, 38, 39 and 2 to 4: 36, 32, 33, and 35, which ends the process, with no byte written.
  */
 struct holthrimi_answer holthrimi_push(struct holthrimi_setup setup,
                                        uint8_t *frames, size_t frame_bytes, uint64_t *book, size_t words,
@@ -179,7 +189,7 @@ struct holthrimi_answer holthrimi_push(struct holthrimi_setup setup,
 /*
  * Moves the end of a process's bss to `addr` rounded up to a page: new pages are zeroed, pages past it released, and the bytes between
  * addr and its page's end kept. Address 0 changes nothing, and value is the bss's start; otherwise value is 0.
- * Refused, after 1, 38 and 2 to 4: 33 below the bss's start, 33 past 64 bits, 34, 33 if there are too few frames.
+ * Refused, after 1, 38, 39 and 2 to 4: 33 below the bss's start, 33 past 64 bits, 34, 33 if there are too few frames.
  */
 struct holthrimi_answer holthrimi_break(struct holthrimi_setup setup,
                                         uint8_t *frames, size_t frame_bytes, uint64_t *book, size_t words,
@@ -188,7 +198,7 @@ struct holthrimi_answer holthrimi_break(struct holthrimi_setup setup,
 /*
  * Forks a process as `child`, which must not live: it shares the parent's text and rodata frames, takes a copy of every data page, bss
  * and stack among them, now, and the record with its name. What one of them writes, the other does not see.
- * Refused, after 1, 38 and 2 to 5 (3 judges both numbers, 4 the parent, 5 the child): 33 if the free frames don't hold the copy.
+ * Refused, after 1, 38, 39 and 2 to 5 (3 judges both numbers, 4 the parent, 5 the child): 33 if the free frames don't hold the copy.
  */
 struct holthrimi_answer holthrimi_fork(struct holthrimi_setup setup,
                                        uint8_t *frames, size_t frame_bytes, uint64_t *book, size_t words,
@@ -198,16 +208,17 @@ struct holthrimi_answer holthrimi_fork(struct holthrimi_setup setup,
  * The same with a list lent, of `count` segments: those of the parent's record, in its order, the stack last, without unused places. The
  * list is held to the record, so that a caller whose own notes of a process differ from its record learns of it. It must not lie in
  * procs, which the call writes: of the record itself a copy is lent.
- * Refused: 1; 38; 2 for the book, or, if `number` is 1 to 16, for a list unlike its record's, one longer, shorter or with another start,
- * end or permission (of a process that doesn't live, whose record has none, for every list but an empty one); then 3, 4, 5 and 33 as above.
+ * Refused: 1; 38; 39; 2 for the book, or, if `number` is 1 to 16, for a list unlike its record's, one longer, shorter or with another
+ * start, end or permission (of a process that doesn't live, whose record has none, for every list but an empty one); then 3,
+ * 4, 5 and 33 as above.
  */
 struct holthrimi_answer holthrimi_fork_list(struct holthrimi_setup setup,
                                             uint8_t *frames, size_t frame_bytes, uint64_t *book, size_t words,
                                             struct holthrimi_procs *procs, uint64_t number, uint64_t child,
                                             const struct holthrimi_segment *segments, size_t count);
 
-/* Ends a process: its pages are released, a frame without a holder is free and keeps its bytes, and its record is zero. Refused: 1, 38
- * and 2 to 4. */
+/* Ends a process: its pages are released, a frame without a holder is free and keeps its bytes, and its record is zero. Refused: 1, 38,
+ * 39 and 2 to 4. */
 struct holthrimi_answer holthrimi_end(struct holthrimi_setup setup,
                                       uint8_t *frames, size_t frame_bytes, uint64_t *book, size_t words,
                                       struct holthrimi_procs *procs, uint64_t number);
@@ -215,20 +226,22 @@ struct holthrimi_answer holthrimi_end(struct holthrimi_setup setup,
 /*
  * Whether a process may read, or with `write` write, `length` bytes from `addr` on: value is 1 for yes and 0 for no. addr + length must
  * not exceed uaddrtop; length 0 then passes, mapped or not; otherwise every page touched must be mapped, and be data for writing.
- * It changes nothing and ends nothing. Refused: 1, 38 and 2 to 4.
+ * It changes nothing and ends nothing. Refused: 1, 38, 39 and 2 to 4.
  */
 struct holthrimi_answer holthrimi_user_range_ok(struct holthrimi_setup setup,
                                                 const uint8_t *frames, size_t frame_bytes, const uint64_t *book, size_t words,
                                                 const struct holthrimi_procs *procs, uint64_t number, uint64_t addr,
                                                 uint64_t length, bool write);
 
-/* Copies `count` bytes of a process from `src` on to dst. Refused, after 1, 38 and 2 to 4: 35, which ends the process, with no byte copied. */
+/* Copies `count` bytes of a process from `src` on to dst. Refused, after 1, 38, 39 and 2 to 4: 35, which ends the process, with no byte
+ * copied. */
 struct holthrimi_answer holthrimi_copy_from_user(struct holthrimi_setup setup,
                                                  uint8_t *frames, size_t frame_bytes, uint64_t *book, size_t words,
                                                  struct holthrimi_procs *procs, uint64_t number, uint8_t *dst, size_t count,
                                                  uint64_t src);
 
-/* Copies `count` bytes to a process from `dst` on. Refused, after 1, 38 and 2 to 4: 35, which ends the process, with no byte copied. */
+/* Copies `count` bytes to a process from `dst` on. Refused, after 1, 38, 39 and 2 to 4: 35, which ends the process, with no byte
+ * copied. */
 struct holthrimi_answer holthrimi_copy_to_user(struct holthrimi_setup setup,
                                                uint8_t *frames, size_t frame_bytes, uint64_t *book, size_t words,
                                                struct holthrimi_procs *procs, uint64_t number, uint64_t dst, const uint8_t *bytes,
@@ -237,7 +250,7 @@ struct holthrimi_answer holthrimi_copy_to_user(struct holthrimi_setup setup,
 /*
  * Copies a string of a process at `src` to dst up to a NUL, which isn't stored; the rest of dst stays. Value is its length, or `count`
  * where there is no NUL within that many bytes. Pages are checked one by one, as they are reached; with count 0, none is.
- * Refused, after 1, 38 and 2 to 4: 35 at a bad page; the bytes before it stay copied, and the process lives.
+ * Refused, after 1, 38, 39 and 2 to 4: 35 at a bad page; the bytes before it stay copied, and the process lives.
  */
 struct holthrimi_answer holthrimi_try_copy_str_from_user(struct holthrimi_setup setup,
                                                          const uint8_t *frames, size_t frame_bytes, const uint64_t *book,
@@ -249,13 +262,13 @@ struct holthrimi_answer holthrimi_try_copy_str_from_user(struct holthrimi_setup 
 /* The words of the book of so many frames: 17 a frame; 0 for a number outside 1 to 1,024, which no call takes. */
 uint64_t holthrimi_book_words(uint64_t frames);
 
-/* 1, 38 or 2, as every call gives them for frames, book and records, or 0. */
+/* 1, 38, 39 or 2, as every call gives them for frames, book and records, or 0. */
 uint64_t holthrimi_check(struct holthrimi_setup setup,
                          const uint8_t *frames, size_t frame_bytes, const uint64_t *book, size_t words,
                          const struct holthrimi_procs *procs);
 
 /*
- * The number that the ELF reader refuses an image with, or 0:
+ * The number that the ELF reader refuses an image with under the built-in flag table, or 0:
  * 11 under 64 bytes; 12 magic; 13 not ELF64; 14 not little-endian; 15 version; 16 not executable; 17 not aarch64; 18 size of a program
  * header; 19 entry not a multiple of 4; 20 the header table leaves the image; then for each program header, in table order: 21 file
  * size above memory size; 22 file bytes leave the image; 23 address and offset differ modulo 4,096; 24 it ends above 2^64 - 4,096;
@@ -263,9 +276,12 @@ uint64_t holthrimi_check(struct holthrimi_setup setup,
  */
 uint64_t holthrimi_parse(const uint8_t *image, size_t image_bytes);
 
+/* The same under another flag table; 39, before all of these, for one against the rules. */
+uint64_t holthrimi_parse_with(const uint8_t flags[8], const uint8_t *image, size_t image_bytes);
+
 /*
- * What a start needs of an image: number is 38, 30, 31 or 0; with 30, elf is the image's own number, or 0 if it is the layout's. Then the
- * entry point; the record's segments, `count` of the image, then the stack; the bss; and the pages that a start takes, with the
+ * What a start needs of an image: number is 38, 39, 30, 31 or 0; with 30, elf is the image's own number, or 0 if it is the layout's. Then
+ * the entry point; the record's segments, `count` of the image, then the stack; the bss; and the pages that a start takes, with the
  * stack. All but number and elf are zeros if it is refused.
  */
 struct holthrimi_planned {
@@ -282,7 +298,7 @@ struct holthrimi_planned holthrimi_plan(struct holthrimi_setup setup, const uint
 
 /*
  * The break's rule by itself, over a bss with any numbers in it, or with `set` false none, and a count of free frames. error is 0, or in
- * this order: 38 the setup; 32 no bss; 33 below start; 33 past 64 bits; 34 above limit; 33 too few frames. value is the start for
+ * this order: 38, 39 the setup; 32 no bss; 33 below start; 33 past 64 bits; 34 above limit; 33 too few frames. value is the start for
  * address 0. The bss handed back is as it was, or ends at addr rounded up; zeros for none.
  */
 struct holthrimi_rule {
@@ -301,8 +317,8 @@ struct holthrimi_rule holthrimi_ibrk(struct holthrimi_setup setup, bool set, uin
 uint64_t holthrimi_stack_size(uint64_t strings, uint64_t nargs);
 
 /*
- * 1 if lengths don't sum to `count`, 38 for the setup, 32 for a NUL in an argument, 33 if the stack that they take is above a quarter of
- * ustksize; or 0.
+ * 1 if lengths don't sum to `count`, 38 or 39 for the setup, 32 for a NUL in an argument, 33 if the stack that they take is above a
+ * quarter of ustksize; or 0.
  */
 uint64_t holthrimi_args_error(struct holthrimi_setup setup, const uint8_t *bytes, size_t count, const uint64_t *lengths,
                               size_t nargs);
@@ -310,7 +326,7 @@ uint64_t holthrimi_args_error(struct holthrimi_setup setup, const uint8_t *bytes
 /*
  * The machine's numbers in a file: four lines, UTZERO=65536 and so for USTKTOP, USTKSIZE and UADDRTOP, in this order, decimal, one to 15
  * digits, the first not 0, each closed by one line feed, with no byte after the fourth. number is 37 for other bytes; then 38 for numbers
- * that break a condition; or 0. The setup is zeros if they are refused.
+ * that break a condition; or 0. The setup's flag table is the built-in one. The setup is zeros if they are refused.
  */
 struct holthrimi_setup_read {
     uint64_t number;
@@ -321,11 +337,31 @@ struct holthrimi_setup_read holthrimi_read_setup(const uint8_t *bytes, size_t co
 
 /*
  * Puts the four lines of a setup into a buffer, and gives their length. A buffer under HOLTHRIMI_SETUP_TEXT bytes, which the longest
- * take, is left as it is, and the answer is 0. An accepted setup's lines read back as it.
+ * take, is left as it is, and the answer is 0. The lines of accepted numbers with the built-in flag table read back as that setup.
  */
 enum { HOLTHRIMI_SETUP_TEXT = 117 };
 
 size_t holthrimi_write_setup(struct holthrimi_setup setup, uint8_t *out, size_t room);
+
+/*
+ * The flag table in a file: eight lines, flags0=refused and so up to flags7=, in this order, each text, rodata, data or refused, closed
+ * by one line feed, with no byte after the last. number is 39 for other bytes and for a table against the rules; or 0. The table is
+ * zeros if they are refused.
+ */
+struct holthrimi_flags_read {
+    uint64_t number;
+    uint8_t flags[8];
+};
+
+struct holthrimi_flags_read holthrimi_read_flags(const uint8_t *bytes, size_t count);
+
+/*
+ * Puts the eight lines of a flag table into a buffer, and gives their length. For a table against the rules, and a buffer under
+ * HOLTHRIMI_FLAGS_TEXT bytes, which the longest take, the buffer is left as it is, and the answer is 0. The lines read back as the table.
+ */
+enum { HOLTHRIMI_FLAGS_TEXT = 120 };
+
+size_t holthrimi_write_flags(const uint8_t flags[8], uint8_t *out, size_t room);
 
 /*
  * Copies a name: up to 27 bytes as they are, the rest of the 28 zeroed; a longer one is cut at the largest place up to 24 where no byte

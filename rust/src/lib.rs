@@ -57,10 +57,15 @@ pub mod number {
     pub const SETUP_LINES: u64 = 37;
     /// The machine's numbers break a condition.
     pub const SETUP: u64 = 38;
+    /// The flag table is against its rules, or its lines are not as described.
+    pub const FLAGS: u64 = 39;
 }
 
-/// The machine's numbers: where user text may begin, the top and the size of the user stack, and the end of the user address space. A
-/// call refuses numbers that break a condition (`include/holthrimi.h`) with 38.
+/// What the low three bits of a segment's flags stand for, a row for each value: [`TEXT`], [`RODATA`], [`DATA`], or 0 for refused.
+pub type Flags = [u8; 8];
+
+/// The machine's numbers: where user text may begin, the top and the size of the user stack, and the end of the user address space; and
+/// the flag table. A call refuses numbers that break a condition (`include/holthrimi.h`) with 38, then a table against its rules with 39.
 #[repr(C)]
 #[derive(Clone, Copy, Debug, PartialEq, Eq)]
 pub struct Setup {
@@ -68,11 +73,16 @@ pub struct Setup {
     pub ustktop: u64,
     pub ustksize: u64,
     pub uaddrtop: u64,
+    pub flags: Flags,
 }
 
 impl Setup {
-    /// The deposit machine's.
-    pub const DEPOSIT: Setup = Setup { utzero: 65536, ustktop: 1 << 47, ustksize: 16384, uaddrtop: 1 << 47 };
+    /// The built-in flag table: flags 4 are rodata, 5 text, 6 data.
+    pub const BUILT_IN: Flags = [0, 0, 0, 0, RODATA as u8, TEXT as u8, DATA as u8, 0];
+
+    /// The deposit machine's, with the built-in table.
+    pub const DEPOSIT: Setup =
+        Setup { utzero: 65536, ustktop: 1 << 47, ustksize: 16384, uaddrtop: 1 << 47, flags: Setup::BUILT_IN };
 
     /// The highest address that an image or a bss may end at: one guard page lies between it and the stack.
     pub const fn limit(self) -> u64 {
@@ -84,7 +94,8 @@ impl Setup {
         self.ustksize / 4
     }
 
-    /// The numbers that four lines give, `UTZERO=65536` and so on; refused with 37 for bytes that are not as described, then with 38.
+    /// The numbers that four lines give, `UTZERO=65536` and so on, with the built-in flag table; refused with 37 for bytes that are not
+    /// as described, then with 38.
     pub fn read(lines: &[u8]) -> Result<Setup> {
         let r = unsafe { sys::holthrimi_read_setup(lines.as_ptr(), lines.len()) };
         match r.number {
@@ -93,11 +104,27 @@ impl Setup {
         }
     }
 
-    /// Its four lines, put into a buffer that has room for the longest.
+    /// The four lines of its numbers, put into a buffer that has room for the longest.
     pub fn lines(self, out: &mut [u8; 117]) -> &[u8] {
         let n = unsafe { sys::holthrimi_write_setup(self, out.as_mut_ptr(), out.len()) };
         &out[..n]
     }
+}
+
+/// The flag table that eight lines give, `flags0=refused` and so on; refused with 39 for bytes that are not as described and for a table
+/// against its rules.
+pub fn read_flags(lines: &[u8]) -> Result<Flags> {
+    let r = unsafe { sys::holthrimi_read_flags(lines.as_ptr(), lines.len()) };
+    match r.number {
+        0 => Ok(r.flags),
+        number => Err(Refusal::Refused(number)),
+    }
+}
+
+/// The eight lines of a flag table, put into a buffer that has room for the longest; none of a table against its rules.
+pub fn flags_lines(flags: Flags, out: &mut [u8; 120]) -> &[u8] {
+    let n = unsafe { sys::holthrimi_write_flags(&flags, out.as_mut_ptr(), out.len()) };
+    &out[..n]
 }
 
 /// A range of user addresses, from `start` up to, but not including, `end`.
@@ -188,9 +215,9 @@ fn told(answer: sys::Answer) -> Result<sys::Answer> {
     }
 }
 
-/// What is lent to every call, with the machine's numbers, which are the same throughout. 1 to 1,024 frames have 4,096 bytes and
-/// [`FRAME_WORDS`] words of the book each ([`book_words`]); book and records are zero at first. The first sixteen words of a frame are the places of
-/// processes 1 to 16, 0 or page address + 16 * owner + permission; the last is how many of them are not 0.
+/// What is lent to every call, with the machine's numbers and the flag table, which are the same throughout. 1 to 1,024 frames have
+/// 4,096 bytes and [`FRAME_WORDS`] words of the book each ([`book_words`]); book and records are zero at first. The first sixteen words
+/// of a frame are the places of processes 1 to 16, 0 or page address + 16 * owner + permission; the last is how many of them are not 0.
 pub struct Lent<'a> {
     pub setup: Setup,
     pub frames: &'a mut [u8],
@@ -216,7 +243,7 @@ macro_rules! looked {
 // length: not null, aligned, and alone where it is `&mut`. The library's contracts ask nothing else.
 impl Lent<'_> {
     /// Starts process `number`, which must not live, from an ELF image. Its arguments are `bytes` cut by `lengths`.
-    /// Refused with 1, 38, 2, 3, 5, 32, 33 (arguments), 30, 31 or 33 (frames), in this order.
+    /// Refused with 1, 38, 39, 2, 3, 5, 32, 33 (arguments), 30, 31 or 33 (frames), in this order.
     pub fn start(&mut self, number: u64, image: &[u8], name: &[u8], bytes: &[u8], lengths: &[u64]) -> Result<UserRegs> {
         let (u, f, fl, b, bl, p) = lent!(self);
         let (i, n, a, l) = (image, name, bytes, lengths);
@@ -243,8 +270,8 @@ impl Lent<'_> {
     }
 
     /// Replaces a process's program; `argv` is the user address of its array of pointers to arguments.
-    /// Refused with 1, 38, 2 to 4, 30, 31, 33 (arguments); ended with 35, or with 33 if the frames that it holds alone and the free ones
-    /// don't suffice.
+    /// Refused with 1, 38, 39, 2 to 4, 30, 31, 33 (arguments); ended with 35, or with 33 if the frames that it holds alone and the free
+    /// ones don't suffice.
     pub fn replace(&mut self, number: u64, image: &[u8], name: &[u8], argv: u64) -> Result<UserRegs> {
         let (u, f, fl, b, bl, p) = lent!(self);
         told(unsafe {
@@ -253,8 +280,8 @@ impl Lent<'_> {
         .map(|t| t.regs)
     }
 
-    /// Pushes arguments onto a process's stack: their strings end at `top`, their pointers and a null lie below. Refused with 1, 38, 2 to 4,
-    /// 36, 32, 33; ended with 35.
+    /// Pushes arguments onto a process's stack: their strings end at `top`, their pointers and a null lie below. Refused with 1, 38, 39,
+    /// 2 to 4, 36, 32, 33; ended with 35.
     pub fn push(&mut self, number: u64, pc: u64, top: u64, bytes: &[u8], lengths: &[u64]) -> Result<UserRegs> {
         let (u, f, fl, b, bl, p) = lent!(self);
         let (a, l) = (bytes, lengths);
@@ -263,14 +290,14 @@ impl Lent<'_> {
     }
 
     /// Moves the end of a process's bss to `addr`, rounded up to a page. Address 0 changes nothing and gives the bss's start.
-    /// Refused with 1, 38, 2 to 4, 33, 34.
+    /// Refused with 1, 38, 39, 2 to 4, 33, 34.
     pub fn brk(&mut self, number: u64, addr: u64) -> Result<u64> {
         let (u, f, fl, b, bl, p) = lent!(self);
         told(unsafe { sys::holthrimi_break(u, f, fl, b, bl, p, number, addr) }).map(|t| t.value)
     }
 
     /// Forks a process as `child`, which must not live: it shares the parent's text and rodata frames and takes a copy of every data page,
-    /// bss and stack among them. Refused with 1, 38, 2 to 5, or with 33 if the free frames don't hold the copy.
+    /// bss and stack among them. Refused with 1, 38, 39, 2 to 5, or with 33 if the free frames don't hold the copy.
     pub fn fork(&mut self, number: u64, child: u64) -> Result<()> {
         let (u, f, fl, b, bl, p) = lent!(self);
         told(unsafe { sys::holthrimi_fork(u, f, fl, b, bl, p, number, child) }).map(|_| ())
@@ -285,39 +312,40 @@ impl Lent<'_> {
         told(unsafe { sys::holthrimi_fork_list(u, f, fl, b, bl, p, number, child, s.as_ptr(), s.len()) }).map(|_| ())
     }
 
-    /// Ends a process: its pages are released, and a frame without a holder is free and keeps its bytes. Refused with 1, 38, 2 to 4.
+    /// Ends a process: its pages are released, and a frame without a holder is free and keeps its bytes. Refused with 1, 38, 39, 2 to 4.
     pub fn end(&mut self, number: u64) -> Result<()> {
         let (u, f, fl, b, bl, p) = lent!(self);
         told(unsafe { sys::holthrimi_end(u, f, fl, b, bl, p, number) }).map(|_| ())
     }
 
-    /// Whether a process may read, or write, `len` bytes from `addr` on. Refused with 1, 38, 2 to 4.
+    /// Whether a process may read, or write, `len` bytes from `addr` on. Refused with 1, 38, 39, 2 to 4.
     pub fn user_range_ok(&self, number: u64, addr: u64, len: u64, write: bool) -> Result<bool> {
         let (u, f, fl, b, bl, p) = looked!(self);
         told(unsafe { sys::holthrimi_user_range_ok(u, f, fl, b, bl, p, number, addr, len, write) }).map(|t| t.value == 1)
     }
 
-    /// Copies bytes of a process from `src` on into the whole of `dst`. Refused with 1, 38, 2 to 4; ended with 35, and no byte copied.
+    /// Copies bytes of a process from `src` on into the whole of `dst`. Refused with 1, 38, 39, 2 to 4; ended with 35, and no byte
+    /// copied.
     pub fn copy_from_user(&mut self, number: u64, dst: &mut [u8], src: u64) -> Result<()> {
         let (u, f, fl, b, bl, p) = lent!(self);
         told(unsafe { sys::holthrimi_copy_from_user(u, f, fl, b, bl, p, number, dst.as_mut_ptr(), dst.len(), src) }).map(|_| ())
     }
 
-    /// Copies bytes to a process from `dst` on. Refused with 1, 38, 2 to 4; ended with 35, and no byte copied.
+    /// Copies bytes to a process from `dst` on. Refused with 1, 38, 39, 2 to 4; ended with 35, and no byte copied.
     pub fn copy_to_user(&mut self, number: u64, dst: u64, bytes: &[u8]) -> Result<()> {
         let (u, f, fl, b, bl, p) = lent!(self);
         told(unsafe { sys::holthrimi_copy_to_user(u, f, fl, b, bl, p, number, dst, bytes.as_ptr(), bytes.len()) }).map(|_| ())
     }
 
     /// Copies a string of a process into `dst` up to its NUL, which isn't stored, and gives its length, or that of `dst`. Refused with
-    /// 1, 38, 2 to 4, or with 35 at a bad page: the bytes before it stay copied, and the process lives.
+    /// 1, 38, 39, 2 to 4, or with 35 at a bad page: the bytes before it stay copied, and the process lives.
     pub fn try_copy_str_from_user(&self, number: u64, dst: &mut [u8], src: u64) -> Result<usize> {
         let (u, f, fl, b, bl, p) = looked!(self);
         told(unsafe { sys::holthrimi_try_copy_str_from_user(u, f, fl, b, bl, p, number, dst.as_mut_ptr(), dst.len(), src) })
             .map(|t| t.value as usize)
     }
 
-    /// Whether frames, book and records are such that calls go on: refused with 1, 38 or 2.
+    /// Whether frames, book and records are such that calls go on: refused with 1, 38, 39 or 2.
     pub fn check(&self) -> Result<()> {
         let (u, f, fl, b, bl, p) = looked!(self);
         match unsafe { sys::holthrimi_check(u, f, fl, b, bl, p) } {
@@ -343,7 +371,7 @@ pub struct Plan {
     pub pages: u64,
 }
 
-/// The plan of an image; refused with 38, 30 or 31.
+/// The plan of an image; refused with 38, 39, 30 or 31.
 pub fn plan(setup: Setup, image: &[u8]) -> Result<Plan> {
     let p = unsafe { sys::holthrimi_plan(setup, image.as_ptr(), image.len()) };
     if p.number != 0 {
@@ -352,7 +380,7 @@ pub fn plan(setup: Setup, image: &[u8]) -> Result<Plan> {
     Ok(Plan { entry: p.entry, segments: p.segments, count: p.count, bss: p.bss, pages: p.pages })
 }
 
-/// The ELF reader's check of an image; refused with one of 11 to 27.
+/// The ELF reader's check of an image under the built-in flag table; refused with one of 11 to 27.
 pub fn parse(image: &[u8]) -> Result<()> {
     match unsafe { sys::holthrimi_parse(image.as_ptr(), image.len()) } {
         0 => Ok(()),
@@ -360,8 +388,16 @@ pub fn parse(image: &[u8]) -> Result<()> {
     }
 }
 
+/// The same under another flag table; refused with 39 for one against its rules.
+pub fn parse_with(flags: Flags, image: &[u8]) -> Result<()> {
+    match unsafe { sys::holthrimi_parse_with(&flags, image.as_ptr(), image.len()) } {
+        0 => Ok(()),
+        number => Err(Refusal::Refused(number)),
+    }
+}
+
 /// The break's rule by itself, over an optional bss with any numbers in it and a count of free frames: its value, and the bss
-/// afterwards; refused with 38, 32, 33 or 34.
+/// afterwards; refused with 38, 39, 32, 33 or 34.
 pub fn ibrk(setup: Setup, bss: Option<VirtRange>, addr: u64, free: u64) -> Result<(u64, VirtRange)> {
     let r = bss.unwrap_or_default();
     let b = unsafe { sys::holthrimi_ibrk(setup, bss.is_some(), r.start, r.end, addr, free) };
@@ -376,7 +412,7 @@ pub fn stack_size(strings: u64, nargs: u64) -> u64 {
     unsafe { sys::holthrimi_stack_size(strings, nargs) }
 }
 
-/// Whether arguments can be pushed; refused with 1, 38, 32 or 33.
+/// Whether arguments can be pushed; refused with 1, 38, 39, 32 or 33.
 pub fn check_args(setup: Setup, bytes: &[u8], lengths: &[u64]) -> Result<()> {
     match unsafe { sys::holthrimi_args_error(setup, bytes.as_ptr(), bytes.len(), lengths.as_ptr(), lengths.len()) } {
         0 => Ok(()),

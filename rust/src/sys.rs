@@ -1,6 +1,6 @@
 // The static library's functions, as include/holthrimi.h has them.
 
-use crate::{Procs, Setup, UserRegs, UserSegment, VirtRange};
+use crate::{Flags, Procs, Setup, UserRegs, UserSegment, VirtRange};
 
 #[repr(C)]
 pub struct Answer {
@@ -34,6 +34,12 @@ pub struct SetupRead {
     pub setup: Setup,
 }
 
+#[repr(C)]
+pub struct FlagsRead {
+    pub number: u64,
+    pub flags: Flags,
+}
+
 #[rustfmt::skip]
 extern "C" {
     pub fn holthrimi_start(u: Setup, f: *mut u8, fl: usize, b: *mut u64, bl: usize, p: *mut Procs, number: u64, image: *const u8, image_len: usize,
@@ -58,10 +64,13 @@ extern "C" {
     pub fn holthrimi_book_words(frames: u64) -> u64;
     pub fn holthrimi_check(u: Setup, f: *const u8, fl: usize, b: *const u64, bl: usize, p: *const Procs) -> u64;
     pub fn holthrimi_parse(image: *const u8, image_len: usize) -> u64;
+    pub fn holthrimi_parse_with(flags: *const Flags, image: *const u8, image_len: usize) -> u64;
     pub fn holthrimi_plan(u: Setup, image: *const u8, image_len: usize) -> Planned;
     pub fn holthrimi_ibrk(u: Setup, set: bool, start: u64, end: u64, addr: u64, free: u64) -> Rule;
     pub fn holthrimi_read_setup(bytes: *const u8, bytes_len: usize) -> SetupRead;
     pub fn holthrimi_write_setup(u: Setup, out: *mut u8, out_len: usize) -> usize;
+    pub fn holthrimi_read_flags(bytes: *const u8, bytes_len: usize) -> FlagsRead;
+    pub fn holthrimi_write_flags(flags: *const Flags, out: *mut u8, out_len: usize) -> usize;
     pub fn holthrimi_stack_size(strings: u64, nargs: u64) -> u64;
     pub fn holthrimi_args_error(u: Setup, bytes: *const u8, bytes_len: usize, lengths: *const u64, lengths_len: usize) -> u64;
     pub fn holthrimi_kstrcpy(dst: *mut [u8; 28], src: *const u8, src_len: usize);

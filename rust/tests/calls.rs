@@ -1,7 +1,8 @@
 // A start, breaks, forks and ends through the safe functions, with the 184-byte image of tests/images: a page of text, two of data and bss,
 // and the stack's four.
 
-use holthrimi::{book_words, number, Lent, Proc, Procs, Refusal, Setup, UserSegment, VirtRange, DATA, FRAME_WORDS, PAGE, TEXT};
+use holthrimi::{book_words, flags_lines, number, read_flags, Flags, Lent, Proc, Procs, Refusal, Setup, UserSegment, VirtRange};
+use holthrimi::{DATA, FRAME_WORDS, PAGE, RODATA, TEXT};
 
 const IMAGE: &[u8] = include_bytes!("../../tests/images/example.img");
 
@@ -338,7 +339,7 @@ fn no_calls() {
 fn setups() {
     let top = 1 << 20;
     for size in [4096, 65536] {
-        let setup = Setup { utzero: 4096, ustktop: top, ustksize: size, uaddrtop: top };
+        let setup = Setup { utzero: 4096, ustktop: top, ustksize: size, uaddrtop: top, flags: Setup::BUILT_IN };
         let most = (size / 4 - 24) as usize;
         let mut m = Memory::new(48);
         let mut lent = Lent { setup, ..m.lent() };
@@ -375,4 +376,115 @@ fn lines() {
     assert_eq!(Setup::read(text), Ok(Setup::DEPOSIT));
     refused(Setup::read(&text[..text.len() - 1]), number::SETUP_LINES);
     refused(Setup::read(b"UTZERO=65536\nUSTKTOP=65536\nUSTKSIZE=16384\nUADDRTOP=140737488355328\n"), number::SETUP);
+}
+
+/// The built-in flag table with one row changed.
+fn with_row(row: usize, code: u8) -> Flags {
+    let mut flags = Setup::BUILT_IN;
+    flags[row] = code;
+    flags
+}
+
+// A flag table against the rules is 39 from every call, after 1 and 38 and before a torn book, whatever rows the image uses.
+#[test]
+fn flag_tables() {
+    let argv = Setup::DEPOSIT.ustktop - 32;
+    for row in 0..8 {
+        for code in [0, 1, 2, 3, 4, 255] {
+            let fine = code == 0
+                || match row {
+                    4 => code == 2,
+                    5 => code == 1 || code == 2,
+                    6 => code == 3 || code == 2,
+                    _ => false,
+                };
+            let mut m = Memory::started(16);
+            let before = (m.frames.clone(), m.book.clone(), m.procs);
+            let list = m.procs.all[0].used().to_vec();
+            let mut lent = m.lent();
+            lent.setup.flags = with_row(row, code);
+            let setup = lent.setup;
+            if fine {
+                assert_eq!((lent.check(), lent.user_range_ok(1, 65536, 1, false)), (Ok(()), Ok(true)));
+                assert_eq!(read_flags(flags_lines(setup.flags, &mut [0; 120])), Ok(setup.flags));
+                continue;
+            }
+            assert_eq!(flags_lines(setup.flags, &mut [0; 120]), b"");
+            refused(holthrimi::parse_with(setup.flags, IMAGE), number::FLAGS);
+            refused(holthrimi::plan(setup, IMAGE), number::FLAGS);
+            refused(holthrimi::ibrk(setup, None, 0, 0), number::FLAGS);
+            refused(holthrimi::check_args(setup, b"\0", &[1]), number::FLAGS);
+            refused(holthrimi::check_args(setup, b"\0", &[2]), number::SIZES);
+            lent.book[FRAME_WORDS - 1] = 1;
+            refused(lent.check(), number::FLAGS);
+            refused(lent.start(17, &IMAGE[..63], b"x", b"\0", &[1]), number::FLAGS);
+            refused(lent.replace(17, &IMAGE[..63], b"x", argv), number::FLAGS);
+            refused(lent.push(17, 0, 8, b"\0", &[1]), number::FLAGS);
+            refused(lent.brk(17, 0), number::FLAGS);
+            refused(lent.fork(17, 17), number::FLAGS);
+            refused(lent.fork_list(1, 17, &list[1..]), number::FLAGS);
+            refused(lent.end(17), number::FLAGS);
+            refused(lent.user_range_ok(17, 0, 0, false), number::FLAGS);
+            refused(lent.copy_from_user(17, &mut [7], 0), number::FLAGS);
+            refused(lent.copy_to_user(17, 0, b"x"), number::FLAGS);
+            refused(lent.try_copy_str_from_user(17, &mut [7], 0), number::FLAGS);
+            lent.setup.uaddrtop += 4096;
+            refused(lent.end(1), number::SETUP);
+            refused(lent.check(), number::SETUP);
+            refused(holthrimi::plan(lent.setup, IMAGE), number::SETUP);
+            refused(holthrimi::ibrk(lent.setup, None, 0, 0), number::SETUP);
+            refused(holthrimi::check_args(lent.setup, b"\0", &[1]), number::SETUP);
+            refused(lent.start(2, IMAGE, b"x", b"", &[1]), number::SIZES);
+            lent.frames = &mut [];
+            refused(lent.end(1), number::SIZES);
+            m.book[FRAME_WORDS - 1] = 0;
+            assert!((&m.frames, &m.book, m.procs) == (&before.0, &before.1, before.2));
+        }
+    }
+}
+
+// A writable segment under a table that has it as rodata: its pages cannot be written, a fork shares them, and the bss behind it is empty.
+#[test]
+fn rodata_in_row_6() {
+    let flags = with_row(6, RODATA as u8);
+    let setup = Setup { flags, ..Setup::DEPOSIT };
+    assert_eq!((holthrimi::parse(IMAGE), holthrimi::parse_with(flags, IMAGE)), (Ok(()), Ok(())));
+    let plan = holthrimi::plan(setup, IMAGE).unwrap();
+    assert_eq!((plan.count, plan.pages, plan.bss), (2, 7, VirtRange { start: 77824, end: 77824 }));
+    let mut m = Memory::new(16);
+    let mut lent = Lent { setup, ..m.lent() };
+    lent.start(1, IMAGE, b"x", b"", &[]).unwrap();
+    assert_eq!(lent.procs.all[0].segments.map(|s| s.perm)[..4], [TEXT, RODATA, DATA, 0]);
+    assert_eq!((lent.user_range_ok(1, 69812, 4, false), lent.user_range_ok(1, 69812, 1, true)), (Ok(true), Ok(false)));
+    assert_eq!(lent.brk(1, 0), Ok(77824));
+    lent.fork(1, 2).unwrap();
+    assert_eq!(lent.copy_to_user(1, 69812, b"D"), Err(Refusal::Ended(number::EFAULT)));
+    let mut byte = [0];
+    lent.copy_from_user(2, &mut byte, 69812).unwrap();
+    assert_eq!(byte[0], IMAGE[180]);
+    // Row 5 or 6 refused: 25, which a start answers with 30; row 5 rodata: no text has the entry. Row 4 the image does not use.
+    for (row, code, elf) in [(5, 0, Err(25)), (6, 0, Err(25)), (5, RODATA as u8, Err(27)), (4, 0, Ok(()))] {
+        let flags = with_row(row, code);
+        assert_eq!(holthrimi::parse_with(flags, IMAGE).map_err(Refusal::number), elf);
+        lent.setup.flags = flags;
+        let started = lent.start(3, IMAGE, b"x", b"", &[]).map(|_| ()).map_err(Refusal::number);
+        assert_eq!(started, elf.map_err(|_| number::EBADEXEC));
+    }
+}
+
+// The eight lines of a flag table, written and read.
+#[test]
+fn flag_lines() {
+    let text = b"flags0=refused\nflags1=refused\nflags2=refused\nflags3=refused\nflags4=rodata\nflags5=text\nflags6=data\nflags7=refused\n";
+    assert_eq!(flags_lines(Setup::BUILT_IN, &mut [0; 120]), text);
+    assert_eq!(read_flags(text), Ok(Setup::BUILT_IN));
+    assert_eq!(flags_lines([0; 8], &mut [0; 120]).len(), 120);
+    assert_eq!(read_flags(flags_lines([0; 8], &mut [0; 120])), Ok([0; 8]));
+    refused(read_flags(&text[..text.len() - 1]), number::FLAGS);
+    refused(read_flags(&[&text[..], b"\n"].concat()), number::FLAGS);
+    refused(read_flags(&text[15..]), number::FLAGS);
+    refused(read_flags(b""), number::FLAGS);
+    // Read as described, but against the rules: text in row 4.
+    refused(read_flags(&String::from_utf8_lossy(text).replace("flags4=rodata", "flags4=text").into_bytes()), number::FLAGS);
+    refused(Setup::read(text), number::SETUP_LINES);
 }

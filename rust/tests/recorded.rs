@@ -1,6 +1,6 @@
-// The recorded scripts of tests/replay, whose answers are the published Rust's, or under other machine numbers than document 01's those of
-// tests/compare/model.py, run through the library: every answer, and by `sum` every record, book word and frame byte. How a script is read
-// and answered is the oracle's code; the calls here are the library's.
+// The recorded scripts of tests/replay, whose answers are the published Rust's, or under other machine numbers or another flag table than
+// document 01's those of tests/compare/model.py, run through the library: every answer, and by `sum` every record, book word and frame
+// byte. How a script is read and answered is the oracle's code; the calls here are the library's.
 
 #[allow(dead_code)] // An answer `assert` is the Rust's alone, and so is a list that the harness holds to a record.
 #[path = "../../tests/oracle/src/script.rs"]
@@ -67,11 +67,18 @@ impl Calls for World {
         (self.bytes, self.words) = (bytes, words);
     }
     fn numbers(&mut self, [utzero, ustktop, ustksize, uaddrtop]: [u64; 4]) -> Option<Answer<()>> {
-        self.setup = Setup { utzero, ustktop, ustksize, uaddrtop };
+        self.setup = Setup { utzero, ustktop, ustksize, uaddrtop, flags: self.setup.flags };
         Some(Ok(()))
     }
     fn numbers_of(&mut self, lines: &[u8]) -> Option<Answer<()>> {
-        Some(told(Setup::read(lines)).map(|setup| self.setup = setup))
+        Some(told(Setup::read(lines)).map(|setup| self.setup = Setup { flags: self.setup.flags, ..setup }))
+    }
+    fn flags(&mut self, table: [u8; 8]) -> Option<Answer<()>> {
+        self.setup.flags = table;
+        Some(Ok(()))
+    }
+    fn flags_of(&mut self, lines: &[u8]) -> Option<Answer<()>> {
+        Some(told(holthrimi::read_flags(lines)).map(|table| self.setup.flags = table))
     }
     fn start(&mut self, n: u64, name: &[u8], image: &[u8], args: &[&[u8]]) -> Answer<Regs> {
         told(self.lent().start(n, image, name, &args.concat(), &lengths(args))).map(regs)

@@ -1,21 +1,24 @@
 #!/usr/bin/env python3
 """Runs the same scripts through two commands and reports the first difference.
 
-    compare.py random SEED COUNT A B [--small] [--sets]   COUNT random calls, in histories of 40
-    compare.py directed A B [--sets] [FILE ..]            the directed scripts of tests/replay, or the files named
+    compare.py random SEED COUNT A B [--small] [--sets] [--tables]
+                                                          COUNT random calls, in histories of 40
+    compare.py directed A B [--sets] [--tables] [FILE ..] the directed scripts of tests/replay, or the files named
     compare.py books A B                                  every word of a small book changed (books.py)
     compare.py images SEED COUNT A B                      the listing: every one-byte change and every prefix of the
                                                           184-byte image, the images of tests/replay/images.txt, and
                                                           COUNT random images
-    compare.py write SEED COUNT [--small] [--sets]        the random script on standard output
+    compare.py write SEED COUNT [--small] [--sets] [--tables]
+                                                          the random script on standard output
 
 A and B are commands, each in one word, that read a script on standard input and
 write an answer for each line: `target/oracle/release/oracle`, `target/bin/replay`,
 `tests/compare/model.py`. For images they read one image; a command that ends in
 ` lists` reads an image a line instead. They run in the repository's root.
 
---sets: other sets of the machine's numbers too, three histories of four and all directed scripts. The
-oracle has document 01's numbers alone, so it is compared without.
+--sets: other sets of the machine's numbers too, in three histories of four, and the directed scripts that have some.
+--tables: other flag tables too, in histories and directed scripts.
+The oracle has document 01's numbers and table alone, so it is compared without.
 
 Of the oracle's answers it counts those that are its harness's own needs of frames and not the Rust's.
 """
@@ -35,9 +38,11 @@ sys.path.insert(0, HERE)
 import books  # noqa: E402
 from elf import change  # noqa: E402
 from histories import History  # noqa: E402
+from papers.flags import BUILT_IN, read_table, table_ok  # noqa: E402
+from papers.machine import TEXT  # noqa: E402
 from papers.setup import DEPOSIT, read  # noqa: E402
 from random_images import EXAMPLE, any_image, random_image  # noqa: E402
-from random_sets import random_set  # noqa: E402
+from random_sets import random_set, random_table  # noqa: E402
 from script import bytes_of, shown  # noqa: E402
 
 CALLS_A_HISTORY = 40
@@ -133,16 +138,19 @@ def report(lines, a, b, where, first):
 
 
 def handed(line):
-    """The set that an accepted line `numbers` hands over."""
-    words = line.split(b' ')[1:]
-    return tuple(map(int, words)) if len(words) == 4 else tuple(read(bytes_of(*words)))
+    """The set that an accepted line `numbers` hands over, or the table of a line `flags`."""
+    name, *words = line.split(b' ')
+    if len(words) > 1:
+        return tuple(map(int, words))
+    return read(bytes_of(*words)).numbers if name == b'numbers' else read_table(bytes_of(*words))
 
 
 class Count:
     """What was called and answered."""
 
     def __init__(self):
-        self.calls, self.kinds, self.sums, self.sets = Counter(), Counter(), 0, set()
+        self.calls, self.kinds, self.sums = Counter(), Counter(), 0
+        self.handed = {'numbers': set(), 'flags': set()}
         NEEDS.clear()
 
     def add(self, lines, got):
@@ -157,13 +165,20 @@ class Count:
                 self.kinds[kind] += 1
             elif name == 'sum':
                 self.sums += 1
-            elif name == 'numbers' and answer == b'ok':
-                self.sets.add(handed(line))
+            elif name in self.handed and answer == b'ok':
+                self.handed[name].add(handed(line))
+
+    def under(self):
+        """What was handed to the calls beside document 01's."""
+        sets, tables = self.handed['numbers'] - {DEPOSIT.numbers}, self.handed['flags'] - {BUILT_IN}
+        kept = sum(map(table_ok, tables))
+        counts = (len(sets), 'other sets'), (kept, 'other tables'), (len(tables) - kept, 'tables that break a rule')
+        said = ', '.join('%d %s' % count for count in counts if count[0])
+        return said and ' under ' + said
 
     def show(self, what, seconds):
         made = sum(self.calls.values())
-        sets = ' under %d other sets' % len(self.sets) if self.sets else ''
-        print('%s: no difference in %d calls and %d sums%s, %.0f s' % (what, made, self.sums, sets, seconds))
+        print('%s: no difference in %d calls and %d sums%s, %.0f s' % (what, made, self.sums, self.under(), seconds))
         print('  calls: ' + ', '.join('%s %d' % (n, self.calls[n]) for n in COUNTED if self.calls[n]))
         order = sorted(self.kinds, key=lambda k: (k.split()[0], int(k.split()[1]) if ' ' in k else 0))
         print('  answers: ' + ', '.join('%s: %d' % (k, self.kinds[k]) for k in order))
@@ -171,17 +186,19 @@ class Count:
             print('  by the needs of the harness: %d forks accepted, %d replaces ended' % (NEEDS['forks'], NEEDS['replaces']))
 
 
-def history(seed, k, small, sets):
+def history(seed, k, small, sets, tables):
     r = random.Random('%s/%d' % (seed, k))
     setup = random_set(r) if sets and r.random() < 0.75 else DEPOSIT
-    return History(r, CALLS_A_HISTORY, small, setup).lines
+    if tables:
+        setup = setup._replace(flags=random_table(r, [TEXT]))
+    return History(r, CALLS_A_HISTORY, small, setup, tables).lines
 
 
-def compare_random(seed, count, a, b, small, sets=False, explain=True):
+def compare_random(seed, count, a, b, small, sets=False, tables=False, explain=True):
     begin, total = time.time(), Count()
     k = 0
     while sum(total.calls.values()) < count:
-        many = [history(seed, k + i, small, sets) for i in range(HISTORIES_A_RUN)]
+        many = [history(seed, k + i, small, sets, tables) for i in range(HISTORIES_A_RUN)]
         lines = [line for h in many for line in h]
         x, y, at = difference(lines, a, b)
         if at is not None and not explain:
@@ -205,17 +222,18 @@ def script_lines(file):
         return f.read().split(b'\n')
 
 
-def directed_scripts(sets):
+def directed_scripts(sets, tables):
     """The scripts that directed.py writes: all of tests/replay but the recorded random histories. Without `sets`, those without a
-    line `numbers`."""
+    line `numbers`; without `tables`, those without a line `flags`."""
     names = sorted(n for n in os.listdir(REPLAY) if n.endswith('.txt') and not n.startswith('random-'))
     files = [os.path.join(REPLAY, n) for n in names]
-    return [f for f in files if sets or not any(line.startswith(b'numbers') for line in script_lines(f))]
+    left_out = (b'numbers',) * (not sets) + (b'flags',) * (not tables)
+    return [f for f in files if not any(line.startswith(left_out) for line in script_lines(f))]
 
 
-def compare_directed(a, b, files, sets=False, explain=True):
+def compare_directed(a, b, files, sets=False, tables=False, explain=True):
     begin, total = time.time(), Count()
-    files = files or directed_scripts(sets)
+    files = files or directed_scripts(sets, tables)
     fine = True
     for file in files:
         lines = script_lines(file)
@@ -290,12 +308,12 @@ def compare_images(seed, count, a, b):
 
 
 def main(argv):
-    small, sets = '--small' in argv, '--sets' in argv
-    argv = [a for a in argv if a not in ('--small', '--sets')]
+    small, sets, tables = (option in argv for option in ('--small', '--sets', '--tables'))
+    argv = [a for a in argv if a not in ('--small', '--sets', '--tables')]
     if len(argv) == 5 and argv[0] == 'random':
-        return compare_random(argv[1], int(argv[2]), argv[3], argv[4], small, sets)
+        return compare_random(argv[1], int(argv[2]), argv[3], argv[4], small, sets, tables)
     if len(argv) >= 3 and argv[0] == 'directed':
-        return compare_directed(argv[1], argv[2], argv[3:], sets)
+        return compare_directed(argv[1], argv[2], argv[3:], sets, tables)
     if len(argv) == 3 and argv[0] == 'books':
         return compare_books(argv[1], argv[2])
     if len(argv) == 5 and argv[0] == 'images':
@@ -303,7 +321,7 @@ def main(argv):
     if len(argv) == 3 and argv[0] == 'write':
         made, k = 0, 0
         while made < int(argv[2]):
-            lines = history(argv[1], k, small, sets)
+            lines = history(argv[1], k, small, sets, tables)
             sys.stdout.buffer.write(b'\n'.join(lines) + b'\n')
             made += sum(line.split(b' ')[0].decode() in COUNTED for line in lines)
             k += 1

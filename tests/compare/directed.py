@@ -1,6 +1,6 @@
 #!/usr/bin/env python3
-"""Writes the directed scripts, tests/replay/NAME.txt (boundaries/), and the files that two of them read, example.elf
-and school.numbers.
+"""Writes the directed scripts, tests/replay/NAME.txt (boundaries/), and the files that three of them read, example.elf,
+school.numbers and partner.flags.
 
     directed.py            writes them
     directed.py --check    says whether they are as it would write them
@@ -8,7 +8,9 @@ and school.numbers.
 import os
 import sys
 
-from boundaries import access, brk, fork, form, frames, images, numbers, push, replace, sets, shared, start, texts
+from boundaries import (access, brk, flag_texts, flags, fork, form, frames, images, numbers, push, replace, sets, shared, start,
+                        texts)
+from papers.flags import table_lines
 from papers.setup import written
 from random_images import EXAMPLE
 
@@ -16,11 +18,12 @@ HERE = os.path.dirname(os.path.abspath(__file__))
 REPLAY = os.path.join(os.path.dirname(HERE), 'replay')
 SCRIPTS = [images.images, start.examples, start.args, push.push, brk.brk, frames.frames, access.access, access.strings,
            replace.replace, start.names, fork.fork, numbers.numbers, frames.sizes, brk.rule, frames.history, form.form, form.files,
-           sets.sets, texts.texts, shared.shared, shared.orders, shared.torn]
+           sets.sets, texts.texts, flags.flags, flag_texts.flag_texts, shared.shared, shared.orders, shared.torn]
 
 
 def main(argv):
-    files = {os.path.join(HERE, 'example.elf'): EXAMPLE, os.path.join(HERE, 'school.numbers'): written(texts.SCHOOL)}
+    read = {'example.elf': EXAMPLE, 'school.numbers': written(texts.SCHOOL), 'partner.flags': table_lines(flags.PARTNER)}
+    files = {os.path.join(HERE, name): content for name, content in read.items()}
     for script in SCRIPTS:
         out = script()
         files[os.path.join(REPLAY, out.name + '.txt')] = out.content().encode()

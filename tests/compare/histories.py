@@ -2,23 +2,24 @@
 
 A history is a list of script lines. The model runs along while it is made, only to know which processes live, where their
 segments lie and what the book holds, so that addresses and words are apt; no answer of the model goes into a history. A history may
-be under another set of the machine's numbers than document 01's; the oracle has none of these.
+be under another set of the machine's numbers and another flag table than document 01's; the oracle has none of these.
 """
 import struct
 
+from papers.flags import REFUSED, table_lines, table_ok
 from papers.layout import stack_size
 from papers.machine import DATA, MAX, PAGE, Refused, down, up
 from papers.memory import WORDS
 from papers.names import elem
 from papers.setup import DEPOSIT, written
 from random_images import any_image, example_at, random_image
-from random_sets import near_set, random_set
+from random_sets import near_set, near_table, random_set, random_table
 from script import Script, shown
 
 
 def constants(setup):
     """Addresses that mean something under a set, each once."""
-    utzero, top, _, end = setup
+    utzero, top, _, end = setup.numbers
     limit, low = setup.limit, setup.low
     return list(dict.fromkeys([
         0, 1, 8, 16, PAGE - 1, PAGE, utzero - 1, utzero, limit - PAGE, limit - 1, limit, limit + 1, low - 1, low, top - 8, top - 1,
@@ -38,12 +39,14 @@ def full_parts(record):
 
 
 class History:
-    """`small` keeps images, answers and frames short, for recorded samples. The calls are under `setup`."""
+    """`small` keeps images, answers and frames short, for recorded samples. The calls are under `setup`, with `tables` some of them
+    under other tables too."""
 
-    def __init__(self, r, calls, small=False, setup=DEPOSIT):
+    def __init__(self, r, calls, small=False, setup=DEPOSIT, tables=False):
         self.r, self.small, self.setup = r, small, setup
         self.constants = constants(setup)
-        self.steps = self.STEPS + ([] if setup == DEPOSIT else [(History.other_numbers, 3)])
+        own_numbers = setup.numbers != DEPOSIT.numbers
+        self.steps = (self.STEPS + [(History.other_numbers, 3)] * own_numbers + [(History.other_flags, 4)] * tables)
         self.model = Script()
         self.lines = []
         n = r.choice([r.randint(7, 40), r.randint(14, 40), r.randint(20, 60), r.randint(41, 120)])
@@ -56,8 +59,10 @@ class History:
         if n <= 120:
             n = max(n + (setup.ustksize - DEPOSIT.ustksize) // PAGE, 0)
         self.emit('frames %d %d' % (n, r.choice([0, 1, 255, r.randrange(256)])))
-        if setup != DEPOSIT:
+        if own_numbers:
             self.numbers(setup)
+        if tables:
+            self.flags(setup.flags)
         self.sums = 1 if n <= 40 else 0.2
         if small:
             self.sums = 0.25
@@ -87,8 +92,13 @@ class History:
 
     def numbers(self, setup):
         """Hand a set over, as it is or as the lines of a file."""
-        as_lines = setup.ok() and self.r.random() < 0.5
-        self.emit('numbers ' + (shown(written(setup)) if as_lines else '%d %d %d %d' % setup))
+        as_lines = setup.numbers_ok() and self.r.random() < 0.5
+        self.emit('numbers ' + (shown(written(setup)) if as_lines else '%d %d %d %d' % setup.numbers))
+
+    def flags(self, table):
+        """The same of a table."""
+        as_lines = table_ok(table) and self.r.random() < 0.5
+        self.emit('flags ' + (shown(table_lines(table)) if as_lines else ' '.join(map(str, table))))
 
     # What calls are made of
 
@@ -196,7 +206,7 @@ class History:
     def start(self, good=False):
         image = self.image()
         if good:
-            image = shown(example_at(self.setup.utzero) if self.r.random() < 0.5
+            image = shown(example_at(self.setup.utzero) if self.r.random() < 0.5 and self.setup.flags[6] != REFUSED
                           else random_image(self.r, self.size(), self.setup))
         self.call('start', self.new_number(), shown(self.name()), image, *map(shown, self.args()))
 
@@ -239,7 +249,7 @@ class History:
 
     def push(self):
         r, n = self.r, self.number()
-        utzero, top, size, _ = self.setup
+        utzero, top, size, _ = self.setup.numbers
         inside = top - 16 * r.randint(0, min(700, size // 16))
         top = r.choice([top, inside, inside, inside, inside, self.address(n) // 16 * 16,
             self.address(n) // 16 * 16, self.address(n), 16 * r.randint(0, 8), self.setup.low + 16 * r.randint(0, 12)])
@@ -414,12 +424,20 @@ class History:
         lives, whose book is then torn: no start under it leaves a process behind."""
         r = self.r
         other = random_set(r) if self.alive() and r.random() < 0.3 else near_set(r, self.setup)
-        if min(other) < 0 or other.ok() and other.stack != self.setup.stack and not self.alive():
+        if min(other.numbers) < 0 or other.numbers_ok() and other.stack != self.setup.stack and not self.alive():
             return
         self.numbers(other)
         for _ in range(r.randint(1, 3)):
             self.step_once()
         self.numbers(self.setup)
+
+    def other_flags(self):
+        """Hand over another table, try some calls, and hand the history's own again. What was started under the other one stays."""
+        r = self.r
+        self.flags(random_table(r) if r.random() < 0.3 else near_table(r, self.setup.flags))
+        for _ in range(r.randint(1, 3)):
+            self.step_once()
+        self.flags(self.setup.flags)
 
     def step_once(self):
         self.r.choice([self.start, self.replace, self.push, self.brk, self.fork, self.end, self.range, self.copy_from,

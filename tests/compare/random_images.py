@@ -1,5 +1,7 @@
-"""Random images, and damaged ones, from a generator of random numbers, linked for a set of the machine's numbers."""
+"""Random images, and damaged ones, from a generator of random numbers, linked for a set of the machine's numbers and a permission
+table."""
 from elf import change, example, field, header, program
+from papers.flags import BUILT_IN, REFUSED
 from papers.machine import DATA, MAX, PAGE, RODATA, TEXT, up
 from papers.setup import DEPOSIT
 
@@ -11,6 +13,16 @@ def example_at(base):
 
 
 EXAMPLE = example_at(DEPOSIT.utzero)
+
+
+def random_row(r, table, perm):
+    """Low flag bits for a permission: under another table than document 01's mostly a row that has it, else one not refused."""
+    if table == BUILT_IN:
+        return FLAGS[perm]
+    if r.random() < 0.03:
+        return r.randrange(8)
+    fit = [row for row in range(8) if table[row] == perm] or [row for row in range(8) if table[row] != REFUSED]
+    return r.choice(fit or range(8))
 
 
 def random_image(r, size='plain', setup=DEPOSIT):
@@ -52,7 +64,7 @@ def random_image(r, size='plain', setup=DEPOSIT):
             filesz = min(filesz, memsz)
         if r.random() < 0.02:
             memsz += r.choice([PAGE * 1024, 2**40, 2**63])
-        flags = FLAGS[perm] + 8 * r.choice([0, 0, 0, 1, r.getrandbits(29)])
+        flags = random_row(r, setup.flags, perm) + 8 * r.choice([0, 0, 0, 1, r.getrandbits(29)])
         table_bytes += program(flags, offset, vaddr, filesz, memsz)
         if perm == TEXT:
             texts.append((vaddr, filesz))

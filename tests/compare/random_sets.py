@@ -1,5 +1,6 @@
-"""Random sets of the machine's numbers, from a generator of random numbers."""
-from papers.machine import MAX, PAGE, down
+"""Random sets of the machine's numbers, and flag tables, from a generator of random numbers."""
+from papers.flags import REFUSED
+from papers.machine import DATA, MAX, PAGE, RODATA, TEXT, down
 from papers.setup import Setup
 
 
@@ -15,7 +16,20 @@ def random_set(r):
 
 def near_set(r, setup):
     """The set with one number changed, mostly by little: it may keep the conditions or break one."""
-    numbers = list(setup)
+    numbers = list(setup.numbers)
     i = r.randrange(4)
     numbers[i] = r.choice([numbers[i] + 1, numbers[i] - 1, numbers[i] + PAGE, numbers[i] - PAGE, 0, 2**47, 2**47 + PAGE, MAX])
     return Setup(*numbers)
+
+
+def random_table(r, row5=(TEXT, RODATA, REFUSED)):
+    """A table that keeps the rules. Without text in row 5 no image has an entry."""
+    rows = r.choice([RODATA, RODATA, REFUSED]), r.choice(row5), r.choice([RODATA, RODATA, DATA, REFUSED])
+    return REFUSED, REFUSED, REFUSED, REFUSED, *rows, REFUSED
+
+
+def near_table(r, table):
+    """The table with one row changed: it may keep the rules or break one."""
+    rows = list(table)
+    rows[r.choice([4, 5, 6, 7, r.randrange(8)])] = r.choice([REFUSED, TEXT, RODATA, DATA, 4, 255, r.randrange(256)])
+    return tuple(rows)

@@ -2,6 +2,7 @@
 import zlib
 
 from papers.calls import World
+from papers.flags import read_table
 from papers.machine import KINDS, MAX, PAGE, Ended, Refused, down, up
 from papers.names import kstrcpy
 from papers.segments import rule
@@ -59,11 +60,19 @@ def shown(b):
     return b.hex() or '-'
 
 
-def buffer_length(word):
+def at_most(most, word):
     n = number(word)
-    if n > BUFFER_MAX:
+    if n > most:
         raise BadLine
     return n
+
+
+def buffer_length(word):
+    return at_most(BUFFER_MAX, word)
+
+
+def byte(word):
+    return at_most(255, word)
 
 
 def take(words, *kinds):
@@ -142,17 +151,20 @@ class Script:
             return 'ended %d' % e.args
 
     def frames(self, words):
-        n, fill = take(words, number, [number])
-        if n > FRAMES_MAX or len(fill) > 1 or any(f > 255 for f in fill):
+        n, fill = take(words, number, [byte])
+        if n > FRAMES_MAX or len(fill) > 1:
             raise BadLine
         self.w = World(n, *fill)
         return 'ok'
 
     def numbers(self, words):
-        if len(words) == 4:
-            self.w.setup = Setup(*map(number, words))
-        else:
-            self.w.setup = read(*take(words, bytes_of))
+        setup = Setup(*map(number, words)) if len(words) == 4 else read(*take(words, bytes_of))
+        self.w.setup = setup._replace(flags=self.w.setup.flags)
+        return 'ok'
+
+    def flags(self, words):
+        table = tuple(map(byte, words)) if len(words) == 8 else read_table(*take(words, bytes_of))
+        self.w.setup = self.w.setup._replace(flags=table)
         return 'ok'
 
     def lend(self, words):
@@ -235,6 +247,6 @@ class Script:
     def map(self, words):
         return held(self.w, *take(words, number))
 
-    CALLS = {b'frames': frames, b'numbers': numbers, b'lend': lend, b'word': word, b'start': start, b'replace': replace,
-             b'push': push, b'break': brk, b'fork': fork, b'end': end, b'range': range, b'from': copy_from, b'to': copy_to,
-             b'string': string, b'rule': rule, b'name': name, b'sum': sum, b'map': map}
+    CALLS = {b'frames': frames, b'numbers': numbers, b'flags': flags, b'lend': lend, b'word': word, b'start': start,
+             b'replace': replace, b'push': push, b'break': brk, b'fork': fork, b'end': end, b'range': range, b'from': copy_from,
+             b'to': copy_to, b'string': string, b'rule': rule, b'name': name, b'sum': sum, b'map': map}

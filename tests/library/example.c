@@ -14,7 +14,7 @@ static uint8_t frames[FRAMES * HOLTHRIMI_PAGE];
 static uint64_t book[WORDS];
 static struct holthrimi_procs procs;
 
-static struct holthrimi_setup setup = {65536, (uint64_t)1 << 47, 16384, (uint64_t)1 << 47};
+static struct holthrimi_setup setup = {65536, (uint64_t)1 << 47, 16384, (uint64_t)1 << 47, HOLTHRIMI_BUILT_IN};
 
 #define LENT setup, frames, sizeof frames, book, WORDS, &procs
 
@@ -156,12 +156,15 @@ static void fork_lists(void) {
     }
     CHECK(unchanged());
 
-    /* 1, 38, the book's 2, then the list's 2, which only a number from 1 to 16 has, 3 and 4. */
+    /* 1, 38, 39, the book's 2, then the list's 2, which only a number from 1 to 16 has, 3 and 4. */
     setup.uaddrtop += 4096;
+    setup.flags[7] = HOLTHRIMI_DATA;
+    *holders(0) = 1;
     CHECK(refused(holthrimi_fork_list(setup, frames, sizeof frames - 1, book, WORDS, &procs, 1, 2, list, 2), HOLTHRIMI_SIZES));
     CHECK(refused(holthrimi_fork_list(LENT, 1, 2, list, 2), HOLTHRIMI_SETUP));
     setup.uaddrtop -= 4096;
-    *holders(0) = 1;
+    CHECK(refused(holthrimi_fork_list(LENT, 1, 2, list, 2), HOLTHRIMI_FLAGS));
+    setup.flags[7] = 0;
     CHECK(refused(holthrimi_fork_list(LENT, 17, 17, list, 3), HOLTHRIMI_TORN));
     *holders(0) = 0;
     CHECK(refused(holthrimi_fork_list(LENT, 1, 17, list, 2), HOLTHRIMI_TORN));
@@ -187,6 +190,102 @@ static void fork_lists(void) {
     CHECK(refused(holthrimi_fork_list(LENT, 1, 5, list, 2), HOLTHRIMI_TORN) && unchanged());
     CHECK(same(&procs.all[0], &procs.all[3]) && *holders(FRAMES - 1) == 4 && free_frames() == FRAMES - 8 - 3 * 7);
     CHECK(accepted(holthrimi_end(LENT, 2)) && accepted(holthrimi_end(LENT, 3)) && accepted(holthrimi_end(LENT, 4)));
+}
+
+/* The flag table in eight lines, written and read. */
+static void flag_lines(void) {
+    const uint8_t built_in[8] = HOLTHRIMI_BUILT_IN;
+    const char *lines = "flags0=refused\nflags1=refused\nflags2=refused\nflags3=refused\n"
+                        "flags4=rodata\nflags5=text\nflags6=data\nflags7=refused\n";
+    uint8_t written[HOLTHRIMI_FLAGS_TEXT + 1] = {0};
+    CHECK(memcmp(setup.flags, built_in, 8) == 0 && memcmp(HOLTHRIMI_DEPOSIT.flags, built_in, 8) == 0);
+    size_t n = holthrimi_write_flags(built_in, written, HOLTHRIMI_FLAGS_TEXT);
+    CHECK(n == strlen(lines) && memcmp(written, lines, n) == 0);
+    struct holthrimi_flags_read read = holthrimi_read_flags(written, n);
+    CHECK(read.number == 0 && memcmp(read.flags, built_in, 8) == 0);
+
+    /* Without the last line feed, with a byte behind it, and with another first row. A refusal gives zeros. */
+    CHECK(holthrimi_read_flags(written, n - 1).number == HOLTHRIMI_FLAGS);
+    CHECK(holthrimi_read_flags(written, n + 1).number == HOLTHRIMI_FLAGS);
+    written[5] = '1';
+    read = holthrimi_read_flags(written, n);
+    CHECK(read.number == HOLTHRIMI_FLAGS && read.flags[4] == 0 && read.flags[5] == 0 && read.flags[6] == 0);
+
+    /* Nothing is written of a table against the rules, or into a buffer that is too short for the longest. */
+    const uint8_t text_in_4[8] = {0, 0, 0, 0, HOLTHRIMI_TEXT, HOLTHRIMI_TEXT, HOLTHRIMI_DATA, 0};
+    const uint8_t none[8] = {0};
+    memset(written, '.', sizeof written);
+    CHECK(holthrimi_write_flags(text_in_4, written, sizeof written) == 0 && written[0] == '.');
+    CHECK(holthrimi_write_flags(built_in, written, HOLTHRIMI_FLAGS_TEXT - 1) == 0 && written[0] == '.');
+    CHECK(holthrimi_write_flags(none, written, sizeof written) == HOLTHRIMI_FLAGS_TEXT && written[HOLTHRIMI_FLAGS_TEXT] == '.');
+    CHECK(holthrimi_read_flags(written, HOLTHRIMI_FLAGS_TEXT).number == 0);
+}
+
+/* A table against the rules is 39 from every call, after 1 and 38 and before 2, whatever rows an image uses. */
+static void flag_table(uint8_t row, uint8_t code) {
+    uint8_t was = setup.flags[row], byte = 7;
+    uint64_t count = *holders(0);
+    setup.flags[row] = code;
+    *holders(0) = 17;
+    note();
+    setup.uaddrtop += 4096;
+    CHECK(holthrimi_check(LENT) == HOLTHRIMI_SETUP && refused(holthrimi_end(LENT, 17), HOLTHRIMI_SETUP));
+    CHECK(holthrimi_plan(setup, image, IMAGE).number == HOLTHRIMI_SETUP);
+    CHECK(holthrimi_ibrk(setup, false, 0, 0, 0, 0).error == HOLTHRIMI_SETUP);
+    CHECK(holthrimi_args_error(setup, &byte, 1, (const uint64_t[]){1}, 1) == HOLTHRIMI_SETUP);
+    setup.uaddrtop -= 4096;
+    CHECK(refused(holthrimi_end(setup, frames, sizeof frames - 1, book, WORDS, &procs, 17), HOLTHRIMI_SIZES));
+    CHECK(refused(holthrimi_start(LENT, 17, image, 63, &byte, 1, &byte, 1, (const uint64_t[]){2}, 1), HOLTHRIMI_SIZES));
+    CHECK(refused(holthrimi_start(LENT, 17, image, 63, &byte, 1, &byte, 0, (const uint64_t[]){0}, 0), HOLTHRIMI_FLAGS));
+    CHECK(refused(holthrimi_replace(LENT, 17, image, 63, &byte, 1, 0), HOLTHRIMI_FLAGS));
+    CHECK(refused(holthrimi_push(LENT, 17, 0, 8, &byte, 1, (const uint64_t[]){1}, 1), HOLTHRIMI_FLAGS));
+    CHECK(refused(holthrimi_break(LENT, 17, 0), HOLTHRIMI_FLAGS) && refused(holthrimi_fork(LENT, 17, 17), HOLTHRIMI_FLAGS));
+    CHECK(refused(holthrimi_end(LENT, 17), HOLTHRIMI_FLAGS));
+    CHECK(refused(holthrimi_user_range_ok(LENT, 17, 0, 0, false), HOLTHRIMI_FLAGS));
+    CHECK(refused(holthrimi_copy_from_user(LENT, 17, &byte, 1, 0), HOLTHRIMI_FLAGS));
+    CHECK(refused(holthrimi_copy_to_user(LENT, 17, 0, &byte, 1), HOLTHRIMI_FLAGS));
+    CHECK(refused(holthrimi_try_copy_str_from_user(LENT, 17, &byte, 1, 0), HOLTHRIMI_FLAGS) && byte == 7);
+    CHECK(holthrimi_check(LENT) == HOLTHRIMI_FLAGS && holthrimi_plan(setup, image, IMAGE).number == HOLTHRIMI_FLAGS);
+    CHECK(holthrimi_plan(setup, image, 63).number == HOLTHRIMI_FLAGS && holthrimi_plan(setup, image, 63).elf == 0);
+    CHECK(holthrimi_ibrk(setup, false, 0, 0, 0, 0).error == HOLTHRIMI_FLAGS);
+    CHECK(holthrimi_args_error(setup, &byte, 1, (const uint64_t[]){2}, 1) == HOLTHRIMI_SIZES);
+    CHECK(holthrimi_args_error(setup, (const uint8_t *)"", 1, (const uint64_t[]){1}, 1) == HOLTHRIMI_FLAGS);
+    CHECK(holthrimi_parse_with(setup.flags, image, 63) == HOLTHRIMI_FLAGS && holthrimi_parse(image, 63) == 11);
+    CHECK(unchanged());
+    setup.flags[row] = was;
+    CHECK(holthrimi_check(LENT) == HOLTHRIMI_TORN);
+    *holders(0) = count;
+    CHECK(holthrimi_check(LENT) == 0);
+}
+
+/* Under a table whose row 6 is rodata the image's data can be read and not written, a fork shares it, and the bss behind it is empty.
+ * No process lives before and afterwards. */
+static void rodata_in_row_6(void) {
+    const uint8_t *name = (const uint8_t *)"lex";
+    const uint64_t lengths[1] = {3};
+    setup.flags[6] = HOLTHRIMI_RODATA;
+    struct holthrimi_planned plan = holthrimi_plan(setup, image, IMAGE);
+    CHECK(plan.number == 0 && plan.segments[1].perm == HOLTHRIMI_RODATA && plan.pages == 7);
+    CHECK(plan.bss.start == 77824 && plan.bss.end == 77824);
+    CHECK(accepted(holthrimi_start(LENT, 1, image, IMAGE, name, 3, name, 3, lengths, 1)) && free_frames() == FRAMES - 7);
+    CHECK(peek(1, 69812) == 'd' && peek(1, 77823) == 0 && peek(1, 77824) == -1);
+    CHECK(holthrimi_user_range_ok(LENT, 1, 69812, 4, false).value == 1 && holthrimi_user_range_ok(LENT, 1, 69812, 4, true).value == 0);
+    CHECK(accepted(holthrimi_fork(LENT, 1, 2)) && free_frames() == FRAMES - 7 - 4 && *holders(FRAMES - 2) == 2);
+    CHECK(ended(holthrimi_copy_to_user(LENT, 2, 69812, name, 1), HOLTHRIMI_EFAULT) && peek(1, 69812) == 'd');
+    CHECK(accepted(holthrimi_end(LENT, 1)) && free_frames() == FRAMES);
+
+    /* Row 6 refused: 25, which a start answers with 30. Row 5 rodata: the entry is in no text. Row 4 the image does not use. */
+    setup.flags[6] = 0;
+    CHECK(holthrimi_parse_with(setup.flags, image, IMAGE) == 25 && holthrimi_parse(image, IMAGE) == 0);
+    CHECK(refused(holthrimi_start(LENT, 1, image, IMAGE, name, 3, name, 3, lengths, 1), HOLTHRIMI_EBADEXEC));
+    setup.flags[6] = HOLTHRIMI_DATA;
+    setup.flags[5] = HOLTHRIMI_RODATA;
+    CHECK(holthrimi_parse_with(setup.flags, image, IMAGE) == 27);
+    setup.flags[5] = HOLTHRIMI_TEXT;
+    setup.flags[4] = 0;
+    CHECK(holthrimi_parse_with(setup.flags, image, IMAGE) == 0 && holthrimi_plan(setup, image, IMAGE).number == 0);
+    setup.flags[4] = HOLTHRIMI_RODATA;
+    CHECK(memcmp(&setup, &HOLTHRIMI_DEPOSIT, sizeof setup) == 0);
 }
 
 int main(void) {
@@ -218,6 +317,10 @@ int main(void) {
     CHECK(holthrimi_read_setup(written, n - 1).number == HOLTHRIMI_SETUP_LINES);
     written[7] = '5';
     CHECK(holthrimi_read_setup(written, n).number == HOLTHRIMI_SETUP);
+
+    /* The flag table: its lines, and a start under another one. */
+    flag_lines();
+    rodata_in_row_6();
 
     /* Start: two arguments, which end at the top of the stack. */
     const uint8_t *name = (const uint8_t *)"/bin/lex";
@@ -251,6 +354,12 @@ int main(void) {
     CHECK(holthrimi_args_error(setup, bytes, 6, lengths, 1) == HOLTHRIMI_SIZES);
     CHECK(holthrimi_args_error(setup, bytes, 6, lengths, 2) == HOLTHRIMI_SETUP);
     setup.uaddrtop -= 4096;
+    flag_table(7, HOLTHRIMI_TEXT);
+    flag_table(4, HOLTHRIMI_TEXT);
+    flag_table(5, HOLTHRIMI_DATA);
+    flag_table(6, HOLTHRIMI_TEXT);
+    flag_table(6, 4);
+    flag_table(0, 255);
     CHECK(holthrimi_check(LENT) == 0);
     CHECK(refused(holthrimi_push(LENT, 1, 65712, top - 8, bytes, 6, lengths, 2), HOLTHRIMI_TOP));
     CHECK(free_frames() == FRAMES - 7 && peek(1, 69812) == 'd');

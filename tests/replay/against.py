@@ -17,6 +17,7 @@ HERE = os.path.dirname(os.path.abspath(__file__))
 ROOT = os.path.dirname(os.path.dirname(HERE))
 sys.path.insert(0, os.path.join(ROOT, 'tests', 'compare'))
 import feed  # noqa: E402
+from papers.flags import BUILT_IN, table_lines  # noqa: E402
 from papers.setup import Setup, written  # noqa: E402
 from script import FILE_MAX, LINE_MAX, Script  # noqa: E402
 
@@ -87,6 +88,14 @@ def made(folder):
         b'numbers ' + file('long', school + bytes(FILE_MAX - len(school))), b'numbers ' + over, b'numbers ' + empty, b'numbers ' + elf,
         b'numbers ' + file('broken', school.replace(b'8192', b'8193')), b'rule 0 53248 99 53249', b'numbers 0 0 0 0', b'rule 0 0 0 0',
         b'start 1 - -', b'frames 7', b'rule 0 53248 99 53249', b'start 1 - ' + elf, b'sum'])
+    partner = table_lines(BUILT_IN).replace(b'6=data', b'6=rodata')
+    yield 'flags', b'\n'.join([
+        b'rule 0 0 0 0', b'frames 9', b'flags ' + file('partner', partner), b'start 1 - ' + elf, b'map 1', b'fork 1 2', b'end 1',
+        b'end 2', b'flags ' + file('long-table', partner + bytes(FILE_MAX - len(partner))), b'flags ' + over, b'flags ' + empty,
+        b'flags ' + elf, b'flags ' + file('no-end', partner[:-1]), b'flags ' + file('row-7', partner.replace(b'7=refused', b'7=text')),
+        b'start 1 - ' + elf, b'range 1 69632 1 w', b'flags' + b' 0' * 8, b'start 2 - ' + elf, b'flags' + b' 0' * 30000,
+        b'flags' + b' 255' * 8, b'start 1 - -', b'rule 0 0 0 0', b'numbers 0 0 0 0', b'rule 0 0 0 0', b'frames 7', b'rule 0 0 0 0',
+        b'start 1 - ' + elf, b'map 1', b'sum'])
     yield 'tails', b'frames 1\n\n\n#\nsum\nend 1\r\nsum\0\nname \'\xff\xfe\nmap 1'
     yield 'nothing', b''
     yield 'a line feed', b'\n'

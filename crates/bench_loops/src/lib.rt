@@ -9,6 +9,7 @@ ghost use Rattle.spec.specs.Tests.{_is_, _⇒_else_};
 ghost use Rattle.spec.specs.Numbers.{deposit};
 ghost use Rattle.spec.specs.Book.{free};
 ghost use Rattle.spec.specs.Sound.{soundBook};
+ghost use Rattle.spec.specs.Flags.{builtIn};
 ghost use Rattle.spec.specs.Elf.{elfError};
 use spec::Procs;
 
@@ -62,10 +63,10 @@ pub extern "C" fn measured_sound(book: &[u64], procs: Procs) -> bool
         == 0
 }
 
-// The number that an image is refused with by the ELF reader, or 0.
+// The number that an image is refused with by the ELF reader under the built-in flag table, or 0.
 #[no_mangle]
 pub extern "C" fn measured_parse(image: &[u8]) -> u64
-    ensures { λ r. ⌜ r ≡ elfError (now (image .entry)) ⌝ }
+    ensures { λ r. ⌜ r ≡ elfError builtIn (now (image .entry)) ⌝ }
 {
-    elf::number_of(image)
+    elf::number_of(setup::BUILT_IN, image)
 }

@@ -8,7 +8,7 @@ use spec::Setup;
 
 // Copies the NUL-terminated string of process `number` at `src` into `dst`, without its NUL, and answers its length, or the length
 // of `dst` if there's no NUL within that many bytes. Refused with 35 at a bad page, it leaves the bytes before the page copied, and
-// the process lives. Refused with 1, 38 or 2 to 4, it changes nothing.
+// the process lives. Refused with 1, 38, 39 or 2 to 4, it changes nothing.
 pub fn try_copy_str_from_user(
     setup: Setup,
     frames: &[u8],

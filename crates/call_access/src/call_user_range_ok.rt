@@ -7,7 +7,7 @@ use spec::Procs;
 use spec::Setup;
 
 // Whether process `number` could read, or write, `len` bytes from `addr` on: 1 for yes and 0 for no. It ends nothing and changes
-// nothing. Refused with 1, 38 or 2 to 4.
+// nothing. Refused with 1, 38, 39 or 2 to 4.
 pub fn user_range_ok(
     setup: Setup,
     frames: &[u8],

@@ -47,7 +47,7 @@ fn move_break(frames: &mut [u8], book: &mut [u64], procs: Procs, number: u64, to
 }
 
 // Moves the end of the bss of process `number` to `addr`, rounded up to a page. Growing places zeroed pages, and shrinking frees
-// them. An `addr` of 0 answers the bss's start. Refused with 1, 38, 2 to 4 or by `ibrk`'s rule, it changes nothing.
+// them. An `addr` of 0 answers the bss's start. Refused with 1, 38, 39, 2 to 4 or by `ibrk`'s rule, it changes nothing.
 pub fn brk(
     setup: Setup,
     frames: &mut [u8],

@@ -9,7 +9,7 @@ use spec::Left;
 use spec::Procs;
 use spec::Setup;
 
-// Ends process `number`: its frames are free and keep their bytes, and its record is zero. Refused with 1, 38 or 2 to 4, it changes nothing.
+// Ends process `number`: its frames are free and keep their bytes, and its record is zero. Refused with 1, 38, 39 or 2 to 4, it changes nothing.
 pub fn end(setup: Setup, frames: &mut [u8], book: &mut [u64], procs: Procs, number: u64) -> Left
     ensures { λ r. ⌜ Does (stateOf setup (now (frames .entry)) (now (book .entry)) procs) (call number end) (stateOf setup (now (frames .exit)) (now (book .exit)) (r .procs)) (plainly (r .answer)) ⌝ }
 {

@@ -3,11 +3,12 @@ use Prim.Native.Nat.{ℕ, _≤_}
 use mathlib.Core.Path.{_≡_, refl, sym, ap, subst, _∙_}
 use mathlib.Core.Bool.{Bool, true, false, not, _&&_, _||_}
 use mathlib.Core.List.{List}
-use lib.Dec.{eqb}
+use lib.Dec.{eqb, ltb}
 use native.Mathlib.Omega.{arith}
 use borrow.Author.Tests.{eqb-true, ltb-false}
-use Rattle.spec.specs.Tests.{_isnt_, _above_, _⇒_else_, _orElse_, same}
-use Rattle.spec.specs.Numbers.{setupOk}
+use Rattle.spec.specs.Tests.{_isnt_, _below_, _above_, _⇒_else_, _orElse_, same}
+use Rattle.spec.specs.Flags.{flagsOk}
+use Rattle.spec.specs.Numbers.{setupOk, setupError}
 use Rattle.spec.specs.Book.{valid, free, sameSegment, used, procAt, zeroProc}
 use Rattle.spec.specs.Frames.{sized}
 use Rattle.spec.specs.Machine.{Ask, fork, Reply, plainly, refuse, judge, weigh, copied, call}
@@ -25,16 +26,16 @@ use Rattle.call_front.proofs.FirstNumbers.{fork-none}
 use Rattle.call_fork.specs.ByList.{recordOf, listError, forkNumber}
 
 -- the numbers that come first, over the tests' outcomes
-abbrev first-of : (z u d v w t f : Bool) → ℕ
-first-of z u d v w t f = (not (z && true) ⇒ 1 else not u ⇒ 38 else not d ⇒ 2 else not v ⇒ 3 else 0) orElse (not w ⇒ 3 else not t ⇒ 4 else not (not f) ⇒ 5 else 0)
+abbrev first-of : (z u g d v w t f : Bool) → ℕ
+first-of z u g d v w t f = (not (z && true) ⇒ 1 else (not u ⇒ 38 else not g ⇒ 39 else 0) orElse not d ⇒ 2 else not v ⇒ 3 else 0) orElse (not w ⇒ 3 else not t ⇒ 4 else not (not f) ⇒ 5 else 0)
 
 abbrev list-of : (a v : Bool) → ℕ → ℕ
-list-of a v e = ((not a && e isnt 1) && e isnt 38) && v ⇒ 2 else e
+list-of a v e = ((not a && e isnt 1) && e below 38) && v ⇒ 2 else e
 
-abbrev chain : (z u d v w t f a : Bool) → Ask → Reply → Reply
-chain z u d v w t f a q x =
+abbrev chain : (z u g d v w t f a : Bool) → Ask → Reply → Reply
+chain z u g d v w t f a q x =
     not (z && true) ⇒ refuse 1 q else
-    not u ⇒ refuse 38 q else
+    (not u ⇒ 38 else not g ⇒ 39 else 0) isnt 0 ⇒ refuse (not u ⇒ 38 else not g ⇒ 39 else 0) q else
     not d ⇒ refuse 2 q else
     not (not v || a) ⇒ refuse 2 q else
     not (v && w) ⇒ refuse 3 q else
@@ -42,34 +43,36 @@ chain z u d v w t f a q x =
     not (not f) ⇒ refuse 5 q else
     x
 
-chain-is : (z u d v w t f a : Bool) (q : Ask) (x : Reply) → chain z u d v w t f a q x ≡ orRefuse (list-of a v (first-of z u d v w t f)) q x
-chain-is false u d v w t f true q x = refl
-chain-is false u d v w t f false q x = refl
-chain-is true false d v w t f true q x = refl
-chain-is true false d v w t f false q x = refl
-chain-is true true false true w t f true q x = refl
-chain-is true true false true w t f false q x = refl
-chain-is true true false false w t f true q x = refl
-chain-is true true false false w t f false q x = refl
-chain-is true true true false w t f true q x = refl
-chain-is true true true false w t f false q x = refl
-chain-is true true true true false t f true q x = refl
-chain-is true true true true false t f false q x = refl
-chain-is true true true true true false f true q x = refl
-chain-is true true true true true false f false q x = refl
-chain-is true true true true true true true true q x = refl
-chain-is true true true true true true true false q x = refl
-chain-is true true true true true true false true q x = refl
-chain-is true true true true true true false false q x = refl
+chain-is : (z u g d v w t f a : Bool) (q : Ask) (x : Reply) → chain z u g d v w t f a q x ≡ orRefuse (list-of a v (first-of z u g d v w t f)) q x
+chain-is false u g d v w t f true q x = refl
+chain-is false u g d v w t f false q x = refl
+chain-is true false g d v w t f true q x = refl
+chain-is true false g d v w t f false q x = refl
+chain-is true true false d v w t f true q x = refl
+chain-is true true false d v w t f false q x = refl
+chain-is true true true false true w t f true q x = refl
+chain-is true true true false true w t f false q x = refl
+chain-is true true true false false w t f true q x = refl
+chain-is true true true false false w t f false q x = refl
+chain-is true true true true false w t f true q x = refl
+chain-is true true true true false w t f false q x = refl
+chain-is true true true true true false t f true q x = refl
+chain-is true true true true true false t f false q x = refl
+chain-is true true true true true true false f true q x = refl
+chain-is true true true true true true false f false q x = refl
+chain-is true true true true true true true true true q x = refl
+chain-is true true true true true true true true false q x = refl
+chain-is true true true true true true true false true q x = refl
+chain-is true true true true true true true false false q x = refl
 
 list-zero : (a v : Bool) (e : ℕ) → list-of a v e ≡ 0 → (e ≡ 0) × (v ≡ true → a ≡ true)
 list-zero true v e h = (h, λ t. refl)
 list-zero false v e h =
     split (eqb e 1)
     (λ q. let z : e ≡ 0 = rw q at h in absurd (let w = eqb-true e 1 q in omega arith))
-    (λ q. split (eqb e 38)
-    (λ r. let z : e ≡ 0 = rw (q, r) at h in absurd (let w = eqb-true e 38 r in omega arith))
-    (λ r. behind v (rw (q, r) at h)))
+    (λ q. split (ltb e 38)
+    (λ r. behind v (rw (q, r) at h))
+    (λ r. let z : e ≡ 0 = rw (q, r) at h in absurd (let w = ltb-false e 38 r in omega arith)))
   where
     behind : (v : Bool) → (v ⇒ 2 else e) ≡ 0 → (e ≡ 0) × (v ≡ true → false ≡ true)
     behind true z = absurd (omega (arith, z))
@@ -108,13 +111,13 @@ module _ (s : State) (n child : ℕ) (gs : List UserSegment) where
   alikeOf = same sameSegment gs (used (recordOf (s .procs) n .segments))
 
   answer-chain : answer s (call n asked) ≡ orRefuse (listError s n child alikeAt) asked (weigh (view s n) (free (s .store .book)) (aloneFor s (call n asked)) asked)
-  unfolding answer judge numberError forkError listError
-  answer-chain = chain-is (sized (s .store)) (setupOk (s .setup)) (sound s) (valid n) (valid child) (taken s n) (taken s child) alikeAt asked _
+  unfolding setupError answer judge numberError forkError listError
+  answer-chain = chain-is (sized (s .store)) (setupOk (s .setup)) (flagsOk (s .setup .flags)) (sound s) (valid n) (valid child) (taken s n) (taken s child) alikeAt asked _
 
   -- where the number is outside 1 to 16, the list isn't asked for
   list-either : listError s n child alikeAt ≡ listError s n child alikeOf
   unfolding listError
-  list-either = split (valid n) (λ v. rw v) (λ v. rw v (unasked (not alikeAt) (not (same sameSegment gs (used (zeroProc .segments)))) (forkError s n child isnt 1) (forkError s n child isnt 38) (forkError s n child)))
+  list-either = split (valid n) (λ v. rw v) (λ v. rw v (unasked (not alikeAt) (not (same sameSegment gs (used (zeroProc .segments)))) (forkError s n child isnt 1) (forkError s n child below 38) (forkError s n child)))
 
   weighed : (c : Bool) → plainly (c ⇒ Refused 33 else Done) ≡ orRefuse (c ⇒ 33 else 0) asked (plainly Done)
   weighed true = refl

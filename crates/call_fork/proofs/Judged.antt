@@ -2,9 +2,9 @@
 use Prim.Native.Nat.{ℕ, _≤_, _<_}
 use mathlib.Core.Path.{_≡_, sym, _∙_}
 use mathlib.Core.Bool.{Bool, true, false, not, _&&_}
-use lib.Dec.{eqb}
+use lib.Dec.{eqb, ltb}
 use borrow.Author.Tests.{lt-ltb, le-ltb}
-use Rattle.spec.specs.Tests.{_isnt_}
+use Rattle.spec.specs.Tests.{_isnt_, _below_}
 use Rattle.spec.specs.Book.{valid, free, zeroProc, procAt}
 use Rattle.spec.specs.Machine.{copied}
 use Rattle.spec.specs.World.{State, view}
@@ -27,9 +27,9 @@ record-some ps n v p e t h = let f : valid n ≡ true = sym e ∙ un-not v t in 
 
 module _ (s : State) (n child : ℕ) (alike : Bool) (e : ℕ) (v : Bool) (first : e ≡ forkError s n child) (number : v ≡ valid n) where
   abbrev test : Bool
-  test = ((not alike && not (eqb e 1)) && not (eqb e 38)) && v
+  test = ((not alike && not (eqb e 1)) && ltb e 38) && v
 
-  test-is : (((not alike && forkError s n child isnt 1) && forkError s n child isnt 38) && valid n) ≡ test
+  test-is : (((not alike && forkError s n child isnt 1) && forkError s n child below 38) && valid n) ≡ test
   test-is = rw (← first, ← number)
 
   pub torn : test ≡ true → 2 ≡ forkNumber s n child alike

@@ -3,7 +3,7 @@
 -- Assumes nothing.
 use Prim.Native.Nat.{ℕ}
 use mathlib.Core.Bool.{Bool, not, _&&_}
-use Rattle.spec.specs.Tests.{_is_, _isnt_, _above_, _⇒_else_, _orElse_}
+use Rattle.spec.specs.Tests.{_is_, _isnt_, _below_, _above_, _⇒_else_, _orElse_}
 use Rattle.spec.specs.Book.{valid, free, zeroProc, procAt}
 use Rattle.spec.specs.Frames.{Store, share}
 use Rattle.spec.specs.Machine.{copied}
@@ -16,9 +16,9 @@ use Rattle.call_front.specs.Numbers.{forkError}
 abbrev pub recordOf : Procs → ℕ → Proc
 recordOf ps n = valid n ⇒ procAt ps n else zeroProc
 
--- 1, 38 and 2 to 5 in their order; `alike`: the list is the record's segments. A list that is not is 2, behind 1 and 38
+-- 1, 38, 39 and 2 to 5 in their order; `alike`: the list is the record's segments. A list that is not is 2, behind 1, 38 and 39
 unfoldable pub listError : State → ℕ → ℕ → Bool → ℕ
-listError s n child alike = ((not alike && forkError s n child isnt 1) && forkError s n child isnt 38) && valid n ⇒ 2 else forkError s n child
+listError s n child alike = ((not alike && forkError s n child isnt 1) && forkError s n child below 38) && valid n ⇒ 2 else forkError s n child
 
 -- then 33, if the free frames don't hold a copy
 unfoldable pub forkNumber : State → ℕ → ℕ → Bool → ℕ

@@ -36,7 +36,7 @@ pub(crate) fn recorded(procs: Procs, number: u64) -> Proc
     call_front::record::proc_at(procs, number)
 }
 
-// What a fork is refused with: 1, 38, 2 to 5 and 33, or 0. `alike`: its list is the parent's record's segments.
+// What a fork is refused with: 1, 38, 39, 2 to 5 and 33, or 0. `alike`: its list is the parent's record's segments.
 pub(crate) fn fork_number(
     setup: Setup,
     frames: &[u8],
@@ -49,7 +49,7 @@ pub(crate) fn fork_number(
     ensures { λ r. ⌜ r ≡ forkNumber (stateOf setup (now (frames .entry)) (now (book .entry)) procs) number child alike ⌝ }
 {
     let e = call_front::numbers::fork_error(setup, frames, book, procs, number, child);
-    if !alike & (e != spec::SIZES) & (e != spec::SETUP) & call_front::record::is_number(number) {
+    if !alike & (e != spec::SIZES) & (e < spec::SETUP) & call_front::record::is_number(number) {
         return spec::TORN;
     }
     if e != 0 {
@@ -133,7 +133,7 @@ pub(crate) fn forked(
 }
 
 // Forks process `number` as `child`, whose record is its parent's from now on its own, and which sees what its parent sees: text and
-// rodata in its parent's frames, data in frames of its own. `segments` lists the parent's recorded segments. Refused with 1, 38 or 2
+// rodata in its parent's frames, data in frames of its own. `segments` lists the parent's recorded segments. Refused with 1, 38, 39 or 2
 // to 5, a list unlike the record with 2, or, if the free frames don't hold a copy of the data, with 33, it changes nothing.
 pub fn fork_list(
     setup: Setup,

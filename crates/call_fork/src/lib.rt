@@ -52,7 +52,7 @@ fn copy_segments(
 }
 
 // Forks process `number` as `child`, whose record is its parent's from now on its own, and which sees what its parent sees: text and
-// rodata in its parent's frames, data in frames of its own. Refused with 1 to 5 or 38 or, if the free frames don't hold a copy of the
+// rodata in its parent's frames, data in frames of its own. Refused with 1 to 5, 38, 39 or, if the free frames don't hold a copy of the
 // data, with 33, it changes nothing. The call's list of segments is the parent's record's.
 pub fn fork(
     setup: Setup,

@@ -5,7 +5,7 @@ use mathlib.Core.Bool.{Bool, true, false, not, _&&_, _||_}
 use mathlib.Core.List.{List}
 use lib.Dec.{eqb}
 use Rattle.spec.specs.Tests.{_isnt_, _⇒_else_, _orElse_, same}
-use Rattle.spec.specs.Numbers.{setupOk}
+use Rattle.spec.specs.Numbers.{setupError}
 use Rattle.spec.specs.Book.{valid, free, sameSegment, used, procAt}
 use Rattle.spec.specs.Frames.{sized}
 use Rattle.spec.specs.Machine.{Ask, start, fork, plain, kind, Reply, outcome, refuse, lengthsFit, judge, weigh, call}
@@ -46,6 +46,10 @@ in-order a b q r = go (eqb a 0) refl
     go true e = refl
     go false e = sym (rw e)
 
+-- a number, and what is refused behind it
+behind : (k e : ℕ) (q : Ask) (x r : Reply) → x ≡ orRefuse e q r → orRefuse k q x ≡ orRefuse (k orElse e) q r
+behind k e q x r h = ap (orRefuse k q) h ∙ in-order k e q r
+
 pub answer-plain : (s : State) (n : ℕ) (q : Ask) → kind q ≡ plain
     → answer s (call n q) ≡ orRefuse (plainError s n (lengthsFit q)) q (weigh (view s n) (free (s .store .book)) (aloneFor s (call n q)) q)
 unfolding answer judge numberError plainError
@@ -53,7 +57,7 @@ answer-plain s n q k =
     let w : Reply = weigh (view s n) (free (s .store .book)) (aloneFor s (call n q)) q in
     let x : Reply = not (taken s n) ⇒ refuse 4 q else w in
     again (sized (s .store)) (lengthsFit q) _ q _ x
-    (λ f. step (setupOk (s .setup)) 38 _ q _ x refl (step (sound s) 2 _ q _ x refl (skip (lengthsFit q) _ (refuse 1 q) f ∙ rw k (step (valid n) 3 0 q _ x refl refl))))
+    (λ f. behind (setupError (s .setup)) _ q _ x (step (sound s) 2 _ q _ x refl (skip (lengthsFit q) _ (refuse 1 q) f ∙ rw k (step (valid n) 3 0 q _ x refl refl))))
     ∙ ap (orRefuse (numberError s n (lengthsFit q)) q) (step (taken s n) 4 0 q w w refl refl)
     ∙ in-order (numberError s n (lengthsFit q)) (not (taken s n) ⇒ 4 else 0) q w
 
@@ -66,7 +70,7 @@ answer-start s n image name bytes lengths =
     let w : Reply = weigh (view s n) (free (s .store .book)) (aloneFor s (call n q)) q in
     let x : Reply = not (not (taken s n)) ⇒ refuse 5 q else w in
     again (sized (s .store)) (lengthsFit q) _ q _ x
-    (λ f. step (setupOk (s .setup)) 38 _ q _ x refl (step (sound s) 2 _ q _ x refl (skip (lengthsFit q) _ (refuse 1 q) f ∙ step (valid n) 3 0 q _ x refl refl)))
+    (λ f. behind (setupError (s .setup)) _ q _ x (step (sound s) 2 _ q _ x refl (skip (lengthsFit q) _ (refuse 1 q) f ∙ step (valid n) 3 0 q _ x refl refl)))
     ∙ ap (orRefuse (numberError s n (lengthsFit q)) q) (step (not (taken s n)) 5 0 q w w refl refl)
     ∙ in-order (numberError s n (lengthsFit q)) (not (not (taken s n)) ⇒ 5 else 0) q w
 
@@ -87,7 +91,7 @@ answer-fork s n child =
     let x₄ : Reply = not (taken s n) ⇒ refuse 4 q else x₅ in
     let x₃ : Reply = not (valid child) ⇒ refuse 3 q else x₄ in
     again (sized (s .store)) true _ q _ x₃
-    (λ f. step (setupOk (s .setup)) 38 _ q _ x₃ refl (step (sound s) 2 _ q _ x₃ refl
+    (λ f. behind (setupError (s .setup)) _ q _ x₃ (step (sound s) 2 _ q _ x₃ refl
     (skip (not (valid n) || same sameSegment gs gs) _ (refuse 2 q) (or-test (not (valid n)) _ (λ _. same-self sameSegment is-same gs)) ∙ two (valid n) (valid child) q x₄ ∙ step (valid n) 3 0 q _ x₃ refl refl)))
     ∙ ap (orRefuse (numberError s n true) q) (step (valid child) 3 _ q _ w refl (step (taken s n) 4 _ q _ w refl (step (not (taken s child)) 5 0 q w w refl refl)))
     ∙ in-order (numberError s n true) _ q w

@@ -5,9 +5,9 @@ use mathlib.Core.Path.{_≡_, refl, sym, ap, _∙_}
 use mathlib.Core.Bool.{Bool, true, false, not, _&&_}
 use mathlib.Core.List.{List}
 use lib.ListN.{length}
-use borrow.Author.Tests.{eqb-true, le-ltb}
-use Rattle.spec.specs.Tests.{_is_, _below_, within, _⇒_else_}
-use Rattle.spec.specs.Numbers.{setupOk}
+use borrow.Author.Tests.{eqb-true, eqb-false, le-ltb}
+use Rattle.spec.specs.Tests.{_is_, _below_, within, _⇒_else_, _orElse_}
+use Rattle.spec.specs.Numbers.{setupError}
 use Rattle.spec.specs.Book.{valid, frameCount}
 use Rattle.spec.specs.Frames.{sized, store}
 use Rattle.spec.specs.World.{State, sound, taken}
@@ -25,23 +25,23 @@ given b b′ k e h t = here (not b′) k e k (not-holds b b′ h t) refl
 pub further : (b b′ : Bool) (k e r : ℕ) → b ≡ b′ → not b ≡ false → r ≡ e → r ≡ (not b′ ⇒ k else e)
 further b b′ k e r h t g = past (not b′) k e r (not-fails b b′ h t) g
 
--- the same of the two numbers that the check of the book gives; e is what it gave
-two-given : (a b : Bool) (e next : ℕ) → e ≡ (not a ⇒ 38 else not b ⇒ 2 else 0) → (e ≡ 0 → ⊥) → e ≡ (not a ⇒ 38 else not b ⇒ 2 else next)
-two-given true true e next h ne = absurd (ne h)
-two-given true false e next h ne = h
-two-given false b e next h ne = h
+-- the same of what the check of the book gives: k, the setup's number, if it is not 0, or 2; e is what it gave
+two-given : (a b : Bool) (k e next : ℕ) → e ≡ (a ⇒ (not b ⇒ 2 else 0) else k) → (e ≡ 0 → ⊥) → e ≡ (a ⇒ (not b ⇒ 2 else next) else k)
+two-given true true k e next h ne = absurd (ne h)
+two-given true false k e next h ne = h
+two-given false b k e next h ne = h
 
-two-further : (a b : Bool) (e next r : ℕ) → e ≡ (not a ⇒ 38 else not b ⇒ 2 else 0) → e ≡ 0 → r ≡ next → r ≡ (not a ⇒ 38 else not b ⇒ 2 else next)
-two-further true true e next r h z g = g
-two-further true false e next r h z g = absurd (let q : _≡_ {A = ℕ} 2 0 = sym h ∙ z in omega arith)
-two-further false b e next r h z g = absurd (let q : _≡_ {A = ℕ} 38 0 = sym h ∙ z in omega arith)
+two-further : (a b : Bool) (k e next r : ℕ) → (a ≡ false → k ≡ 0 → ⊥) → e ≡ (a ⇒ (not b ⇒ 2 else 0) else k) → e ≡ 0 → r ≡ next → r ≡ (a ⇒ (not b ⇒ 2 else next) else k)
+two-further true true k e next r ne h z g = g
+two-further true false k e next r ne h z g = absurd (let q : _≡_ {A = ℕ} 2 0 = sym h ∙ z in omega arith)
+two-further false b k e next r ne h z g = absurd (ne refl (sym h ∙ z))
 
 module _ (s : State) (e : ℕ) (next : ℕ) (found : e ≡ soundError (s .setup) (s .store .book) (s .procs)) where
-  pub sound-given : (e ≡ 0 → ⊥) → e ≡ (not (setupOk (s .setup)) ⇒ 38 else not (sound s) ⇒ 2 else next)
-  sound-given = two-given (setupOk (s .setup)) (sound s) e next found
+  pub sound-given : (e ≡ 0 → ⊥) → e ≡ (setupError (s .setup) orElse not (sound s) ⇒ 2 else next)
+  sound-given = two-given (setupError (s .setup) is 0) (sound s) (setupError (s .setup)) e next found
 
-  pub sound-further : (r : ℕ) → e ≡ 0 → r ≡ next → r ≡ (not (setupOk (s .setup)) ⇒ 38 else not (sound s) ⇒ 2 else next)
-  sound-further r = two-further (setupOk (s .setup)) (sound s) e next r found
+  pub sound-further : (r : ℕ) → e ≡ 0 → r ≡ next → r ≡ (setupError (s .setup) orElse not (sound s) ⇒ 2 else next)
+  sound-further r = two-further (setupError (s .setup) is 0) (sound s) (setupError (s .setup)) e next r (eqb-false (setupError (s .setup)) 0) found
 
 -- ---- sizes
 
@@ -67,11 +67,11 @@ none-here : (b : Bool) (k e : ℕ) → (k is 0) ≡ false → (not b ⇒ k else 
 none-here true k e z h = (refl, h)
 none-here false k e z h = absurd (let w : (k is 0) ≡ true = rw h in let v : false ≡ true = sym z ∙ w in let u : _≡_ {A = ℕ} 0 1 = cc in omega arith)
 
--- sizes, the book and the number are as they should be
+-- sizes, the setup, the book and the number are as they should be
 pub record Passed (s : State) (n : ℕ) (fits : Bool) : Type 0 where
   pub sizes : sized (s .store) ≡ true
   pub lengths : fits ≡ true
-  pub setup : setupOk (s .setup) ≡ true
+  pub setup : setupError (s .setup) ≡ 0
   pub book : sound s ≡ true
   pub number : valid n ≡ true
 
@@ -79,11 +79,11 @@ pub number-none : (s : State) (n : ℕ) (fits : Bool) → numberError s n fits �
 unfolding numberError
 number-none s n fits e =
     let p1 = none-here (sized (s .store) && fits) 1 _ refl e in
-    let p38 = none-here (setupOk (s .setup)) 38 _ refl (p1 .1) in
-    let p2 = none-here (sound s) 2 _ refl (p38 .1) in
+    let p = or-else (setupError (s .setup)) _ (p1 .1) in
+    let p2 = none-here (sound s) 2 _ refl (p .1) in
     let p3 = none-here (valid n) 3 0 refl (p2 .1) in
     let b = both (sized (s .store)) fits (p1 .0) in
-    record { sizes = b .0; lengths = b .1; setup = p38 .0; book = p2 .0; number = p3 .0 }
+    record { sizes = b .0; lengths = b .1; setup = p .0; book = p2 .0; number = p3 .0 }
 
 -- and the process lives
 pub plain-none : (s : State) (n : ℕ) (fits : Bool) → plainError s n fits ≡ 0 → Passed s n fits × (taken s n ≡ true)

@@ -1,19 +1,19 @@
--- Numbers 1, 38 and 2 to 5, which come first in every call, in this order: the first that is given, or 0. The specification gives them in
+-- Numbers 1, 38, 39 and 2 to 5, which come first in every call, in this order: the first that is given, or 0. The specification gives them in
 -- `answer` and `judge`, call by call; here they stand once for each kind of call, as the functions look them up.
 -- Assumes nothing.
 use Prim.Native.Nat.{ℕ}
 use mathlib.Core.Bool.{Bool, true, not, _&&_}
 use Rattle.spec.specs.Tests.{_⇒_else_, _orElse_}
-use Rattle.spec.specs.Numbers.{setupOk}
+use Rattle.spec.specs.Numbers.{setupError}
 use Rattle.spec.specs.Book.{valid}
 use Rattle.spec.specs.Frames.{sized}
 use Rattle.spec.specs.World.{State, sound, taken}
 
--- 1, 38, 2 and 3; `fits`: the call's argument lengths sum to their bytes
+-- 1, 38, 39, 2 and 3; `fits`: the call's argument lengths sum to their bytes
 unfoldable pub numberError : State → ℕ → Bool → ℕ
 numberError s n fits =
     not (sized (s .store) && fits) ⇒ 1 else
-    not (setupOk (s .setup)) ⇒ 38 else
+    setupError (s .setup) orElse
     not (sound s) ⇒ 2 else
     not (valid n) ⇒ 3 else
     0

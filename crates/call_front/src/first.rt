@@ -1,4 +1,4 @@
-// Numbers 1, 38, 2 and 3, which come first in every call, in that order: sizes, the setup, the book, the process's number. The check of the book is
+// Numbers 1, 38, 39, 2 and 3, which come first in every call, in that order: sizes, the setup, the book, the process's number. The check of the book is
 // made here, once a call.
 
 ghost use mathlib.Core.Path.{_≡_};
@@ -22,7 +22,7 @@ pub fn sizes_ok(frames: &[u8], book: &[u64]) -> bool
     ((frames.len() == 4096 * count) & (words == 17 * count)) & (!(count < 1) & (count < 1025))
 }
 
-// 1, 38, 2 and 3 of a call: the first that is given, or 0. `fits`: its argument lengths sum to their bytes. The three lists come in as
+// 1, 38, 39, 2 and 3 of a call: the first that is given, or 0. `fits`: its argument lengths sum to their bytes. The three lists come in as
 // zeros; where the book was found sound, they are ready for the call's lookups, and else zeros again.
 pub fn number_ready(
     setup: Setup,

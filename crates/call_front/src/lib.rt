@@ -4,10 +4,10 @@
 // The records of processes, by value.
 pub mod record;
 
-// 1, 38, 2 and 3, with the check of the book.
+// 1, 38, 39, 2 and 3, with the check of the book.
 mod first;
 
-// 1, 38 and 2 to 5, for each kind of call.
+// 1, 38, 39 and 2 to 5, for each kind of call.
 pub mod numbers;
 
 // A process that ends.

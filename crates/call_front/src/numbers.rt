@@ -1,4 +1,4 @@
-// Numbers 1, 38 and 2 to 5, which come first in every call, in that order; those up to 3 stand in module first.
+// Numbers 1, 38, 39 and 2 to 5, which come first in every call, in that order; those up to 3 stand in module first.
 
 ghost use mathlib.Core.Path.{_≡_};
 ghost use mathlib.Core.Bool.{not, _&&_};

@@ -10,7 +10,7 @@ use spec::Left;
 use spec::Procs;
 use spec::Setup;
 
-// Pushes arguments below `top` in the memory of process `number`, and answers the registers to start at `pc` with. Refused with 1, 38,
+// Pushes arguments below `top` in the memory of process `number`, and answers the registers to start at `pc` with. Refused with 1, 38, 39,
 // 2 to 4, with 36 for a top that isn't 16-byte aligned, and with 32 or 33 for the arguments, it changes nothing. A push below address 0,
 // or to memory that the process may not write, ends the process with 35, and no byte is written.
 pub fn push(

@@ -40,7 +40,7 @@ fn install_with(
 }
 
 // Starts process `number` from an image, with the last element of `name` as its name and with arguments, which are bytes and
-// lengths. Refused with 1, 38, 2, 3 or 5, then with 32 or 33 for its arguments, 30 or 31 for its image, or 33 if the free frames don't
+// lengths. Refused with 1, 38, 39, 2, 3 or 5, then with 32 or 33 for its arguments, 30 or 31 for its image, or 33 if the free frames don't
 // hold its pages, it changes nothing.
 pub fn start(
     setup: Setup,

@@ -1,31 +1,44 @@
 -- What checks 21 to 26 show of a header that passed them, for a loader.
 -- Assumes nothing.
-use mathlib.Core.Path.{_≡_, refl, sym, _∙_}
-use mathlib.Core.Bool.{Bool, true, false, not}
+use mathlib.Core.Path.{_≡_, ap}
+use mathlib.Core.Bool.{true}
 use mathlib.Core.List.{List, [], _∷_}
-use Prim.Native.Nat.{ℕ, _+_, _-_, _%_, _^_, _<_, _≤_}
+use Prim.Native.Nat.{ℕ, _+_, _≤_}
 use native.Mathlib.Omega.{arith}
-use lib.Dec.{eqb, ltb}
-use lib.ListN.{length, take, drop, length-take, length-drop}
-use lib.Seq.{length-take-le}
-use borrow.Author.Tests.{eqb-true, eqb-false, ltb-false, not-false}
-use Rattle.spec.specs.Tests.{_is_, _isnt_, _below_, _above_, _⇒_else_}
-use Rattle.spec.specs.Numbers.{pageUp, pageDown}
-use Rattle.spec.specs.Elf.{Phdr, flagPerm, phdrError, segmentOf}
-use Rattle.elf.specs.Reader.{segmentFrom, Checked}
+use lib.ListN.{length}
+use Rattle.spec.specs.Flags.{flagsOk}
+use Rattle.spec.specs.Numbers.{pageUp}
+use Rattle.spec.specs.Elf.{Phdr, loads, phdrError}
+use Rattle.spec.proofs.Bools.{split}
+use Rattle.spec.proofs.Flags.{flag-most}
+use Rattle.elf.specs.Reader.{segmentFrom, loadOf, Checked}
+use Rattle.elf.specs.declared.Segment.{Segment as Held}
+use Rattle.elf.specs.declared.Load.{Load}
+use Rattle.elf.specs.declared.Load.the-variants.{Skip, Segment}
 use Rattle.spec_laws.proofs.Headers.{Header, header-means}
 
 -- its segment
-pub checked : (image : List ℕ) (end : ℕ) (p : Phdr) → Header image end p → Checked (length image) (segmentFrom p)
-checked image end p h = record { file = h .file; within = h .inside; aligned = h .congruent; end = h .fits; perm = h .perm }
+pub checked : (flags image : List ℕ) (end : ℕ) (p : Phdr) → Header flags image end p → Checked (length image) (segmentFrom flags p)
+checked flags image end p h = record { file = h .file; within = h .inside; aligned = h .congruent; end = h .fits }
 
 -- every segment of headers that pass has passed
-abbrev pub AllChecked : ℕ → List Phdr → Type 0
-AllChecked n [] = Unit {0}
-AllChecked n (p ∷ ps) = Checked n (segmentFrom p) × AllChecked n ps
+abbrev pub AllChecked : List ℕ → ℕ → List Phdr → Type 0
+AllChecked flags n [] = Unit {0}
+AllChecked flags n (p ∷ ps) = Checked n (segmentFrom flags p) × AllChecked flags n ps
 
-pub all-checked : (image : List ℕ) (end : ℕ) (ps : List Phdr) → phdrError image end ps ≡ 0 → AllChecked (length image) ps
-all-checked image end [] e = tt
-all-checked image end (p ∷ ps) e =
-    let h = header-means image end p ps e in
-    (checked image end p (h .0), all-checked image (pageUp (p .vaddr + p .memsz)) ps (h .1))
+pub all-checked : (flags image : List ℕ) (end : ℕ) (ps : List Phdr) → phdrError flags image end ps ≡ 0 → AllChecked flags (length image) ps
+all-checked flags image end [] e = tt
+all-checked flags image end (p ∷ ps) e =
+    let h = header-means flags image end p ps e in
+    (checked flags image end p (h .0), all-checked flags image (pageUp (p .vaddr + p .memsz)) ps (h .1))
+
+-- under an accepted table a permission is at most 3
+abbrev permOf : Load → ℕ
+permOf Skip = 0
+permOf (Segment g) = g .perm
+
+pub perm-most : (flags : List ℕ) (p : Phdr) (g : Held) → flagsOk flags ≡ true → loadOf flags p ≡ Segment g → g .perm ≤ 3
+perm-most flags p g t e =
+    let q : permOf (loadOf flags p) ≡ g .perm = ap permOf e in
+    let r : permOf (loadOf flags p) ≤ 3 = split (loads p) (λ l. rw l (flag-most flags p t)) (λ l. rw l (omega arith)) in
+    omega (arith, q, r)

@@ -35,28 +35,28 @@ table n h e = ltb-false _ _ (failed (tests n h) (passes (tests n h) 0 refl e .0)
 
 -- ---- the whole image
 
-module _ (image : List ℕ) where
+module _ (flags image : List ℕ) where
   -- by its length and its first four bytes, and then by its fields and headers
-  pub truncated : length image < 64 → 11 ≡ elfError image
+  pub truncated : length image < 64 → 11 ≡ elfError flags image
   unfolding elfError ehdrError
   truncated h = rw (lt-ltb (length image) 64 h)
 
-  pub bad-magic : 64 ≤ length image → same _is_ (take 4 image) magic ≡ false → 12 ≡ elfError image
+  pub bad-magic : 64 ≤ length image → same _is_ (take 4 image) magic ≡ false → 12 ≡ elfError flags image
   unfolding elfError ehdrError
   bad-magic h m = rw (le-ltb (length image) 64 h, m)
 
-  pub by-fields : 64 ≤ length image → same _is_ (take 4 image) magic ≡ true → imageError image (ehdrOf image) ≡ elfError image
+  pub by-fields : 64 ≤ length image → same _is_ (take 4 image) magic ≡ true → imageError flags image (ehdrOf image) ≡ elfError flags image
   unfolding elfError ehdrError fieldsError scanError phdrs segmentsOf
   by-fields h m = rw (le-ltb (length image) 64 h, m)
 
 -- ---- what a caller learns from it
 
 -- of an accepted image: its headers lie in it and pass, and its entry is in text
-pub record Accepted (image : List ℕ) : Type 0 where
+pub record Accepted (flags image : List ℕ) : Type 0 where
   pub head : 64 ≤ length image
   pub table : phoff image + 56 * phnum image ≤ length image
-  pub headers : phdrError image 0 (phdrs image) ≡ 0
-  pub text : entryInText image ≡ true
+  pub headers : phdrError flags image 0 (phdrs image) ≡ 0
+  pub text : entryInText flags image ≡ true
 
 abbrev all-tests : List ℕ → List (Bool × ℕ)
 all-tests image = (length image below 64, 11) ∷ (not (same _is_ (take 4 image) magic), 12) ∷ tests (length image) (ehdrOf image)
@@ -65,15 +65,15 @@ found : (b : Bool) → _≡_ {A = ℕ} (b ⇒ 0 else 27) 0 → b ≡ true
 found true e = refl
 found false e = absurd (omega arith)
 
-pub accepted : (image : List ℕ) → elfError image ≡ 0 → Accepted image
+pub accepted : (flags image : List ℕ) → elfError flags image ≡ 0 → Accepted flags image
 unfolding elfError ehdrError
-accepted image e =
-    let parts = or-else (ehdrError image) (phdrError image 0 (phdrs image) orElse (entryInText image ⇒ 0 else 27)) e in
-    let rest = or-else (phdrError image 0 (phdrs image)) (entryInText image ⇒ 0 else 27) (parts .1) in
+accepted flags image e =
+    let parts = or-else (ehdrError image) (phdrError flags image 0 (phdrs image) orElse (entryInText flags image ⇒ 0 else 27)) e in
+    let rest = or-else (phdrError flags image 0 (phdrs image)) (entryInText flags image ⇒ 0 else 27) (parts .1) in
     let no = failed (all-tests image) (passes (all-tests image) 0 refl (parts .0) .0) in
     record {
       head = ltb-false _ _ (no 0 (omega arith));
       table = ltb-false _ _ (no 9 (omega arith));
       headers = rest .0;
-      text = found (entryInText image) (rest .1);
+      text = found (entryInText flags image) (rest .1);
     }

@@ -5,3 +5,4 @@ pub mod Checked
 pub mod HeaderAt
 pub mod Indexed
 pub mod Tables
+pub mod FlagTable

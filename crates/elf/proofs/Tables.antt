@@ -7,7 +7,7 @@ use lib.ListN.{length, take, drop, length-drop}
 use lib.Seq.{getD-take, getD-drop, length-take-le}
 use Rattle.spec.specs.Numbers.{le}
 use borrow.Author.Tests.{ne-eqb, le-ltb}
-use Rattle.spec.specs.Elf.{phoff, phnum, entry, phdrAt, elfError}
+use Rattle.spec.specs.Elf.{phoff, phnum, phdrAt, elfError}
 use Rattle.elf.specs.Reader.{tableOf, entryOf, partOf, loadOf, loadIn}
 use Rattle.elf.proofs.Image.{accepted}
 
@@ -45,32 +45,21 @@ header-within i count h = omega (arith, h)
 pub part-in : (image : List ℕ) (o n : ℕ) → o + n ≤ length image → partOf image o n ≡ take n (drop o image)
 part-in image o n h = rw (le-ltb (length image) (o + n) h)
 
--- ---- what the reader of an accepted image holds
+-- ---- what the reader of an image holds
 
-module _ (image : List ℕ) (e : elfError image ≡ 0) where
-  pub table-is : tableOf image ≡ take (56 * phnum image) (drop (phoff image) image)
-  unfolding tableOf
-  table-is = rw e
-
-  pub entry-is : entryOf image ≡ entry image
-  unfolding entryOf
-  entry-is = rw e
-
-  -- header i of its table is the header read from the image
-  pub load-in : (i : ℕ) → i < phnum image → loadIn (tableOf image) i ≡ loadOf (phdrAt image (phoff image + 56 * i))
-  load-in i k =
-      let o = phoff image in
-      let n = 56 * phnum image in
-      let table = take n (drop o image) in
-      let within : 56 * i + 56 ≤ length table = omega (arith, table-length n o image (accepted image e .table), header-within i (phnum image) k) in
-      ap (λ (t : List ℕ). loadIn t i) table-is ∙ rw (le-ltb (length table) (56 * i + 56) within) (ap loadOf (header-part n o image (56 * i) (header-within i (phnum image) k)))
+-- of an accepted one header i of its table is the header read from the image
+pub load-in : (flags image : List ℕ) → elfError flags image ≡ 0 → (i : ℕ) → i < phnum image → loadIn flags (tableOf 0 image) i ≡ loadOf flags (phdrAt image (phoff image + 56 * i))
+load-in flags image e i k =
+    let o = phoff image in
+    let n = 56 * phnum image in
+    let table = take n (drop o image) in
+    let within : 56 * i + 56 ≤ length table = omega (arith, table-length n o image (accepted flags image e .table), header-within i (phnum image) k) in
+    rw (le-ltb (length table) (56 * i + 56) within) (ap (loadOf flags) (header-part n o image (56 * i) (header-within i (phnum image) k)))
 
 -- a refused one holds no header, and is entered nowhere
-module _ (image : List ℕ) (e : elfError image ≡ 0 → ⊥) where
-  pub no-table : tableOf image ≡ []
-  unfolding tableOf
-  no-table = rw (ne-eqb (elfError image) 0 e)
+module _ (number : ℕ) (image : List ℕ) (e : number ≡ 0 → ⊥) where
+  pub no-table : tableOf number image ≡ []
+  no-table = rw (ne-eqb number 0 e)
 
-  pub no-entry : entryOf image ≡ 0
-  unfolding entryOf
-  no-entry = rw (ne-eqb (elfError image) 0 e)
+  pub no-entry : entryOf number image ≡ 0
+  no-entry = rw (ne-eqb number 0 e)

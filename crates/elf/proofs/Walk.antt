@@ -48,66 +48,66 @@ front image Skip gs = gs
 front image (Taken g) gs = segmentIn image g ∷ gs
 
 -- the segments of the headers that are left
-abbrev pub segs : List ℕ → ℕ → ℕ → List Segment
-segs image at k = map (segmentOf image) (left image at k)
+abbrev pub segs : List ℕ → List ℕ → ℕ → ℕ → List Segment
+segs flags image at k = map (segmentOf flags image) (left image at k)
 
-pub segs-none : (image : List ℕ) (at k : ℕ) → k ≤ 0 → segs image at k ≡ []
-segs-none image at k h = rw (left-none image at k h)
+pub segs-none : (flags image : List ℕ) (at k : ℕ) → k ≤ 0 → segs flags image at k ≡ []
+segs-none flags image at k h = rw (left-none image at k h)
 
-pub segs-some : (image : List ℕ) (at k : ℕ) (l : Load) → 0 < k → l ≡ loadOf (phdrAt image at) → segs image at k ≡ front image l (segs image (at + 56) (k - 1))
-segs-some image at k l h e =
-    ap (map (segmentOf image)) (left-some image at k h) ∙ step (phdrAt image at) (left image (at + 56) (k - 1))
-    ∙ ap (λ (x : Load). front image x (segs image (at + 56) (k - 1))) (sym e)
+pub segs-some : (flags image : List ℕ) (at k : ℕ) (l : Load) → 0 < k → l ≡ loadOf flags (phdrAt image at) → segs flags image at k ≡ front image l (segs flags image (at + 56) (k - 1))
+segs-some flags image at k l h e =
+    ap (map (segmentOf flags image)) (left-some image at k h) ∙ step (phdrAt image at) (left image (at + 56) (k - 1))
+    ∙ ap (λ (x : Load). front image x (segs flags image (at + 56) (k - 1))) (sym e)
   where
-    step : (p : Phdr) (ps : List Phdr) → map (segmentOf image) (keep p ps) ≡ front image (loadOf p) (map (segmentOf image) ps)
+    step : (p : Phdr) (ps : List Phdr) → map (segmentOf flags image) (keep p ps) ≡ front image (loadOf flags p) (map (segmentOf flags image) ps)
     step p ps = split (loads p) (λ q. rw q) (λ q. rw q)
 
-pub segs-all : (image : List ℕ) → segs image (phoff image) (phnum image) ≡ segmentsOf image
+pub segs-all : (flags image : List ℕ) → segs flags image (phoff image) (phnum image) ≡ segmentsOf flags image
 unfolding phdrs segmentsOf
-segs-all image = refl
+segs-all flags image = refl
 
 -- in an accepted image what is read has passed, and so has what is left
-pub checked-some : (image : List ℕ) (at k : ℕ) (l : Load) → 0 < k → l ≡ loadOf (phdrAt image at) → AllChecked (length image) (left image at k)
-    → CheckedLoad (length image) l × AllChecked (length image) (left image (at + 56) (k - 1))
-checked-some image at k l h e f = rw e (step (phdrAt image at) (left image (at + 56) (k - 1)) (rw (left-some image at k h) at f))
+pub checked-some : (flags image : List ℕ) (at k : ℕ) (l : Load) → 0 < k → l ≡ loadOf flags (phdrAt image at) → AllChecked flags (length image) (left image at k)
+    → CheckedLoad (length image) l × AllChecked flags (length image) (left image (at + 56) (k - 1))
+checked-some flags image at k l h e f = rw e (step (phdrAt image at) (left image (at + 56) (k - 1)) (rw (left-some image at k h) at f))
   where
-    step : (p : Phdr) (ps : List Phdr) → AllChecked (length image) (keep p ps) → CheckedLoad (length image) (loadOf p) × AllChecked (length image) ps
+    step : (p : Phdr) (ps : List Phdr) → AllChecked flags (length image) (keep p ps) → CheckedLoad (length image) (loadOf flags p) × AllChecked flags (length image) ps
     step p ps f = split (loads p) (λ q. rw q (rw q at f)) (λ q. rw q (tt, rw q at f))
 
 -- ---- one header of the scan
 
-no-headers : (image : List ℕ) (end : ℕ) → phdrError image end [] ≡ 0
+no-headers : (flags image : List ℕ) (end : ℕ) → phdrError flags image end [] ≡ 0
 unfolding phdrError
-no-headers image end = refl
+no-headers flags image end = refl
 
-module _ (image : List ℕ) (a end : ℕ) (found : Bool) (p : Phdr) (ps : List Phdr) where
+module _ (flags image : List ℕ) (a end : ℕ) (found : Bool) (p : Phdr) (ps : List Phdr) where
   -- it is skipped
-  pub skips : loads p ≡ false → scanError image a end found (keep p ps) ≡ scanError image a end found ps
+  pub skips : loads p ≡ false → scanError flags image a end found (keep p ps) ≡ scanError flags image a end found ps
   skips e = rw e
 
   -- it is refused
-  pub refuses : (n : ℕ) → loads p ≡ true → phdrError image end (p ∷ []) ≡ n → (n ≡ 0 → ⊥) → scanError image a end found (keep p ps) ≡ n
+  pub refuses : (n : ℕ) → loads p ≡ true → phdrError flags image end (p ∷ []) ≡ n → (n ≡ 0 → ⊥) → scanError flags image a end found (keep p ps) ≡ n
   unfolding scanError
   refuses n l e nz =
-      let same : phdrError image end (p ∷ ps) ≡ phdrError image end (p ∷ []) = one-header image end p ps ∙ stops (tests image end p) (phdrError image (pageUp (p .vaddr + p .memsz)) []) (phdrError image (pageUp (p .vaddr + p .memsz)) ps) (λ z. nz (sym e ∙ one-header image end p [] ∙ z ∙ no-headers image (pageUp (p .vaddr + p .memsz)))) ∙ sym (one-header image end p []) in
+      let same : phdrError flags image end (p ∷ ps) ≡ phdrError flags image end (p ∷ []) = one-header flags image end p ps ∙ stops (tests flags image end p) (phdrError flags image (pageUp (p .vaddr + p .memsz)) []) (phdrError flags image (pageUp (p .vaddr + p .memsz)) ps) (λ z. nz (sym e ∙ one-header flags image end p [] ∙ z ∙ no-headers flags image (pageUp (p .vaddr + p .memsz)))) ∙ sym (one-header flags image end p []) in
       rw (l, same, e, ne-eqb n 0 nz)
 
   -- it passes: the scan goes on from its page end, and the entry may have been found in it
-  pub goes-on : loads p ≡ true → phdrError image end (p ∷ []) ≡ 0
-      → scanError image a end found (keep p ps) ≡ scanError image a (pageUp (p .vaddr + p .memsz)) (found || (flagPerm p is 1 && within (p .vaddr) (p .vaddr + p .filesz) a)) ps
+  pub goes-on : loads p ≡ true → phdrError flags image end (p ∷ []) ≡ 0
+      → scanError flags image a end found (keep p ps) ≡ scanError flags image a (pageUp (p .vaddr + p .memsz)) (found || (flagPerm flags p is 1 && within (p .vaddr) (p .vaddr + p .filesz) a)) ps
   unfolding scanError
   goes-on l e =
-      let on : phdrError image end (p ∷ ps) ≡ phdrError image (pageUp (p .vaddr + p .memsz)) ps = one-header image end p ps ∙ through (tests image end p) _ (passes (tests image end p) _ refl (sym (one-header image end p []) ∙ e) .0) in
-      rw (l, on, file-length image p (header-means image end p [] e .0 .inside), ← or-assoc found (flagPerm p is 1 && within (p .vaddr) (p .vaddr + p .filesz) a) (any (inText a) (map (segmentOf image) ps)))
+      let on : phdrError flags image end (p ∷ ps) ≡ phdrError flags image (pageUp (p .vaddr + p .memsz)) ps = one-header flags image end p ps ∙ through (tests flags image end p) _ (passes (tests flags image end p) _ refl (sym (one-header flags image end p []) ∙ e) .0) in
+      rw (l, on, file-length flags image p (header-means flags image end p [] e .0 .inside), ← or-assoc found (flagPerm flags p is 1 && within (p .vaddr) (p .vaddr + p .filesz) a) (any (inText a) (map (segmentOf flags image) ps)))
 
 -- one turn of the scan: a step over the header at its place
-pub turn : (image : List ℕ) (a : ℕ) (seen : Seen) (at k : ℕ) (p : Phdr) (r : Step) → 0 < k → p ≡ phdrAt image at → Steps image a seen p r
-    → scanError image a (seen .end) (seen .found) (left image at k) ≡ stepError image a r (left image (at + 56) (k - 1))
-turn image a seen at k p r h e s =
+pub turn : (flags image : List ℕ) (a : ℕ) (seen : Seen) (at k : ℕ) (p : Phdr) (r : Step) → 0 < k → p ≡ phdrAt image at → Steps flags image a seen p r
+    → scanError flags image a (seen .end) (seen .found) (left image at k) ≡ stepError flags image a r (left image (at + 56) (k - 1))
+turn flags image a seen at k p r h e s =
     let ps = left image (at + 56) (k - 1) in
-    ap (scanError image a (seen .end) (seen .found)) (left-some image at k h ∙ ap (λ (q : Phdr). keep q ps) (sym e)) ∙ s ps
+    ap (scanError flags image a (seen .end) (seen .found)) (left-some image at k h ∙ ap (λ (q : Phdr). keep q ps) (sym e)) ∙ s ps
 
 -- its end: 27 unless the entry was found
-pub ends : (image : List ℕ) (a end : ℕ) (found : Bool) (at k : ℕ) → k ≤ 0 → scanError image a end found (left image at k) ≡ (found ⇒ 0 else 27)
+pub ends : (flags image : List ℕ) (a end : ℕ) (found : Bool) (at k : ℕ) → k ≤ 0 → scanError flags image a end found (left image at k) ≡ (found ⇒ 0 else 27)
 unfolding scanError phdrError
-ends image a end found at k h = rw (left-none image at k h, or-false found)
+ends flags image a end found at k h = rw (left-none image at k h, or-false found)

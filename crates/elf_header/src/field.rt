@@ -1,19 +1,16 @@
 // The fields of an ELF-64 image, as r9's elf.rs reads them: numbers of one to eight bytes, the magic, the permission that flags
-// stand for, and the number of each refusal. They are the only functions that read an image's bytes by place.
+// stand for under a flag table, and the number of each refusal. They are the only functions that read an image's bytes by place.
 
 ghost use mathlib.Core.Path.{_≡_};
 ghost use Prim.Native.Nat.{_+_, _%_, _≤_};
 ghost use lib.ListN.{length, take, getD};
 ghost use Rattle.spec.specs.Tests.{same, _is_};
 ghost use Rattle.spec.specs.Numbers.{le};
-ghost use Rattle.spec.specs.Elf.{errorNumber, magic, flagTable};
+ghost use Rattle.spec.specs.Elf.{errorNumber, magic};
 use spec::ElfError;
 
 // The first four bytes of an ELF file.
 pub const MAGIC: [u8; 4] = [127, 69, 76, 70];
-
-// The permission that the low three flag bits (PF_X 1, PF_W 2, PF_R 4) stand for, or 0 where they are refused.
-pub const PERMS: [u64; 8] = [0, 0, 0, 0, 2, 1, 3, 0];
 
 // The byte at a place.
 pub fn u8_at(b: &[u8], off: usize) -> u8
@@ -66,11 +63,13 @@ pub fn has_magic(image: &[u8]) -> bool
     true
 }
 
-// The permission of flags. Of the flags only the low three bits count.
-pub fn perm(flags: u32) -> u64
-    ensures { λ r. ⌜ r ≡ getD flagTable (flags % 8) 0 ⌝ }
+// The permission that a header's flags stand for, or 0 where they are refused: the row of the flag table that their low three bits
+// (PF_X 1, PF_W 2, PF_R 4) name. Higher bits don't count.
+pub fn perm(flags: [u8; 8], bits: u32) -> u64
+    ensures { λ r. ⌜ r ≡ getD flags (bits % 8) 0 ⌝ }
 {
-    PERMS[(flags % 8) as usize]
+    let row = (bits % 8) as usize;
+    flags[row] as u64
 }
 
 // The number of an error in the table of refusals.

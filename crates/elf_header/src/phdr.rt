@@ -43,11 +43,12 @@ pub fn read_phdr(image: &[u8], at: usize) -> Phdr
     }
 }
 
-// The checks of a program header that isn't skipped, in the order of r9's segment, then parse. `end` is the page end of the segment before it.
-pub fn judge_phdr(image: &[u8], end: u64, p: Phdr) -> Verdict
-    ensures { λ r. ⌜ verdictNumber r ≡ phdrError (now (image .entry)) end (phdrOf p ∷ []) ⌝ }
+// The checks of a program header that isn't skipped, under a flag table, in the order of r9's segment, then parse. `end` is the page end
+// of the segment before it.
+pub fn judge_phdr(flags: [u8; 8], image: &[u8], end: u64, p: Phdr) -> Verdict
+    ensures { λ r. ⌜ verdictNumber r ≡ phdrError flags (now (image .entry)) end (phdrOf p ∷ []) ⌝ }
 {
-    let flags = p.flags;
+    let bits = p.flags;
     let offset = p.offset;
     let vaddr = p.vaddr;
     let filesz = p.filesz;
@@ -71,7 +72,7 @@ pub fn judge_phdr(image: &[u8], end: u64, p: Phdr) -> Verdict
     if memsz > LAST_PAGE - vaddr {
         return Verdict::Refused(ElfError::Overflow);
     }
-    let perm = crate::field::perm(flags);
+    let perm = crate::field::perm(flags, bits);
     if perm == 0 {
         return Verdict::Refused(ElfError::BadFlags);
     }
@@ -89,10 +90,10 @@ pub fn is_load(p: Phdr) -> bool
 }
 
 // Whether an entry point lies in the file bytes of a text segment.
-pub fn in_text(entry: u64, p: Phdr) -> bool
+pub fn in_text(flags: [u8; 8], entry: u64, p: Phdr) -> bool
     requires { ⌜ p .vaddr + p .filesz < 18446744073709551616 ⌝ }
-    ensures { λ r. ⌜ r ≡ (flagPerm (phdrOf p) is 1 && within (p .vaddr) (p .vaddr + p .filesz) entry) ⌝ }
+    ensures { λ r. ⌜ r ≡ (flagPerm flags (phdrOf p) is 1 && within (p .vaddr) (p .vaddr + p .filesz) entry) ⌝ }
 {
-    let perm = crate::field::perm(p.flags);
+    let perm = crate::field::perm(flags, p.flags);
     (perm == spec::TEXT) & (!(entry < p.vaddr) & (entry < p.vaddr + p.filesz))
 }

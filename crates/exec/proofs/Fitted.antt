@@ -58,16 +58,16 @@ module _ (setup : Setup) where
   fits-load image before (Taken g) gs c = fits-one image before g gs c
 
   -- one header of a layout
-  pub fits-some : (image : List ℕ) (at k : ℕ) (before : Laid) (f : Fit) → 0 < k → CheckedLoad (length image) (loadOf (phdrAt image at)) → f ≡ fitOf setup before (loadOf (phdrAt image at))
-      → fits setup before (segs image at k) ≡ then setup f (segs image (at + 56) (k - 1))
-  fits-some image at k before f h a e =
-      let l = loadOf (phdrAt image at) in
-      ap (fits setup before) (segs-some image at k l h refl) ∙ fits-load image before l (segs image (at + 56) (k - 1)) a
-      ∙ ap (λ (x : Fit). then setup x (segs image (at + 56) (k - 1))) (sym e)
+  pub fits-some : (flags image : List ℕ) (at k : ℕ) (before : Laid) (f : Fit) → 0 < k → CheckedLoad (length image) (loadOf flags (phdrAt image at)) → f ≡ fitOf setup before (loadOf flags (phdrAt image at))
+      → fits setup before (segs flags image at k) ≡ then setup f (segs flags image (at + 56) (k - 1))
+  fits-some flags image at k before f h a e =
+      let l = loadOf flags (phdrAt image at) in
+      ap (fits setup before) (segs-some flags image at k l h refl) ∙ fits-load image before l (segs flags image (at + 56) (k - 1)) a
+      ∙ ap (λ (x : Fit). then setup x (segs flags image (at + 56) (k - 1))) (sym e)
 
   -- no more headers
-  pub fits-end : (image : List ℕ) (at k : ℕ) (before : Laid) → k ≤ 0 → fits setup before (segs image at k) ≡ Fits before
-  fits-end image at k before h = ap (fits setup before) (segs-none image at k h) ∙ split (before .closed) (λ q. rw q) (λ q. rw q)
+  pub fits-end : (flags image : List ℕ) (at k : ℕ) (before : Laid) → k ≤ 0 → fits setup before (segs flags image at k) ≡ Fits before
+  fits-end flags image at k before h = ap (fits setup before) (segs-none flags image at k h) ∙ split (before .closed) (λ q. rw q) (λ q. rw q)
 
 -- ---- the whole layout
 

@@ -28,35 +28,35 @@ module _ (setup : Setup) where
   module _ (image : List ℕ) where
     -- ---- the four cases
 
-    pub plan-elf : (n : ℕ) → n ≡ elfError image → (n ≡ 0 → ⊥) → refusedPlan 30 n ≡ planOf setup image
+    pub plan-elf : (n : ℕ) → n ≡ elfError (setup .flags) image → (n ≡ 0 → ⊥) → refusedPlan 30 n ≡ planOf setup image
     unfolding planOf
     plan-elf n e nz = rw (← e, ne-eqb n 0 nz)
 
-    pub plan-layout : elfError image ≡ 0 → layoutOk setup (segmentsOf image) ≡ false → refusedPlan 30 0 ≡ planOf setup image
+    pub plan-layout : elfError (setup .flags) image ≡ 0 → layoutOk setup (segmentsOf (setup .flags) image) ≡ false → refusedPlan 30 0 ≡ planOf setup image
     unfolding planOf
     plan-layout e l = rw (e, l)
 
-    pub plan-many : elfError image ≡ 0 → layoutOk setup (segmentsOf image) ≡ true → 15 < length (imageSegments image) → refusedPlan 31 0 ≡ planOf setup image
+    pub plan-many : elfError (setup .flags) image ≡ 0 → layoutOk setup (segmentsOf (setup .flags) image) ≡ true → 15 < length (imageSegments setup image) → refusedPlan 31 0 ≡ planOf setup image
     unfolding planOf
-    plan-many e l m = rw (e, l, lt-ltb 15 (length (imageSegments image)) m)
+    plan-many e l m = rw (e, l, lt-ltb 15 (length (imageSegments setup image)) m)
 
-    pub plan-yes : elfError image ≡ 0 → layoutOk setup (segmentsOf image) ≡ true → length (imageSegments image) ≤ 15 → planOf setup image ≡ acceptedPlan setup image
+    pub plan-yes : elfError (setup .flags) image ≡ 0 → layoutOk setup (segmentsOf (setup .flags) image) ≡ true → length (imageSegments setup image) ≤ 15 → planOf setup image ≡ acceptedPlan setup image
     unfolding planOf
-    plan-yes e l m = rw (e, l, le-ltb 15 (length (imageSegments image)) m)
+    plan-yes e l m = rw (e, l, le-ltb 15 (length (imageSegments setup image)) m)
 
     -- ---- its bss and its pages
 
     -- the bss starts at most at limit
-    pub bss-low : SetupOk setup → elfError image ≡ 0 → layoutOk setup (segmentsOf image) ≡ true → imageBss image .start ≤ limit setup
-    bss-low ok e l = go (segmentsOf image) (elf-loads image e) l
+    pub bss-low : SetupOk setup → elfError (setup .flags) image ≡ 0 → layoutOk setup (segmentsOf (setup .flags) image) ≡ true → imageBss setup image .start ≤ limit setup
+    bss-low ok e l = go (segmentsOf (setup .flags) image) (elf-loads (setup .flags) image (ok .table) e) l
       where
         go : (gs : List Segment) → AllLoad 0 gs → layoutOk setup gs ≡ true → bssOf gs .start ≤ limit setup
         go [] a l = omega arith
         go (g ∷ gs) a l = let b = recorded-all setup ok 0 g gs a l .bss-ok in omega (arith, b .order, b .low)
 
     -- pages are those of the segments, of the bss behind them, and of the stack
-    pub all-pages : SetupOk setup → pageCount (startPieces setup image) ≡ pageCount (imageSegments image) + (imageBss image .end - pageUp (imageBss image .start)) / 4096 + setup .ustksize / 4096
-    all-pages ok = count-append (imageSegments image) (bssSegment (imageBss image) ∷ stack setup ∷ []) ∙ omega arith
+    pub all-pages : SetupOk setup → pageCount (startPieces setup image) ≡ pageCount (imageSegments setup image) + (imageBss setup image .end - pageUp (imageBss setup image .start)) / 4096 + setup .ustksize / 4096
+    all-pages ok = count-append (imageSegments setup image) (bssSegment (imageBss setup image) ∷ stack setup ∷ []) ∙ omega arith
 
   -- ---- its recorded segments
 
@@ -86,7 +86,7 @@ module _ (setup : Setup) where
     unfolding planOf
     plan-number = split (imageError setup image is 0) (λ q. rw (ap not q) (sym (eqb-true (imageError setup image) 0 q))) (λ q. rw (ap not q))
 
-    pub plan-elf-number : planOf setup image .elf ≡ elfError image
+    pub plan-elf-number : planOf setup image .elf ≡ elfError (setup .flags) image
     unfolding planOf
     plan-elf-number =
         split (imageError setup image is 0) (λ q. rw (ap not q) (sym (accepted-means setup image (eqb-true (imageError setup image) 0 q) .elf))) (λ q. rw (ap not q))

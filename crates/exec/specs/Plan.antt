@@ -21,12 +21,12 @@ acceptedPlan setup image = record {
   number = 0;
   elf = 0;
   entry = entry image;
-  segments = imageSegments image ++ stack setup ∷ replicate (15 - length (imageSegments image)) zeroSegment;
-  count = length (imageSegments image);
-  bss = imageBss image;
+  segments = imageSegments setup image ++ stack setup ∷ replicate (15 - length (imageSegments setup image)) zeroSegment;
+  count = length (imageSegments setup image);
+  bss = imageBss setup image;
   pages = pageCount (startPieces setup image);
 }
 
 -- what a start needs of an image
 unfoldable pub planOf : Setup → List ℕ → Plan
-planOf setup image = imageError setup image isnt 0 ⇒ refusedPlan (imageError setup image) (elfError image) else acceptedPlan setup image
+planOf setup image = imageError setup image isnt 0 ⇒ refusedPlan (imageError setup image) (elfError (setup .flags) image) else acceptedPlan setup image

@@ -54,10 +54,11 @@ fn lay(setup: Setup, before: Laid, g: Segment) -> Fit
 
 // The layout with the segment of one more program header, if it has one.
 fn lay_header(setup: Setup, image: &[u8], i: usize, before: Laid) -> Fit
-    requires { ⌜ (elfError (now image) ≡ 0) × (i < phnum (now image)) ⌝ }
-    ensures { λ r. ⌜ r ≡ fitOf setup before (loadOf (phdrAt (now (image .entry)) (phoff (now (image .entry)) + 56 * i))) ⌝ }
+    requires { ⌜ (elfError (setup .flags) (now image) ≡ 0) × (i < phnum (now image)) ⌝ }
+    ensures { λ r. ⌜ r ≡ fitOf setup before (loadOf (setup .flags) (phdrAt (now (image .entry)) (phoff (now (image .entry)) + 56 * i))) ⌝ }
 {
-    let l = elf::segment_of(image, i);
+    let flags = setup.flags;
+    let l = elf::segment_of(flags, image, i);
     match l {
         Load::Skip => Fit::Fits(before),
         Load::Segment(g) => lay(setup, before, g),
@@ -66,8 +67,8 @@ fn lay_header(setup: Setup, image: &[u8], i: usize, before: Laid) -> Fit
 
 // Checks that an accepted image fits the user address space, as text and rodata, then at most one data segment, which the bss follows.
 pub fn layout(setup: Setup, image: &[u8]) -> Fit
-    requires { ⌜ elfError (now image) ≡ 0 ⌝ }
-    ensures { λ r. ⌜ r ≡ fits setup nothing (segmentsOf (now (image .entry))) ⌝ }
+    requires { ⌜ elfError (setup .flags) (now image) ≡ 0 ⌝ }
+    ensures { λ r. ⌜ r ≡ fits setup nothing (segmentsOf (setup .flags) (now (image .entry))) ⌝ }
 {
     let mut seen = Laid {
         closed: false,

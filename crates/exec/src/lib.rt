@@ -50,14 +50,15 @@ fn refused(number: u64, elf: u64) -> Plan
 
 // The plan of an accepted image whose layout is right, given its bss: its segments, which may be too many, then the stack, and its pages.
 fn fill(setup: Setup, image: &[u8], bss: VirtRange) -> Plan
-    requires { ⌜ elfError (now image) ≡ 0 ⌝ }
-    requires { ⌜ layoutOk setup (segmentsOf (now image)) ≡ true ⌝ }
-    requires { ⌜ bss ≡ imageBss (now image) ⌝ }
+    requires { ⌜ elfError (setup .flags) (now image) ≡ 0 ⌝ }
+    requires { ⌜ layoutOk setup (segmentsOf (setup .flags) (now image)) ≡ true ⌝ }
+    requires { ⌜ bss ≡ imageBss setup (now image) ⌝ }
     requires { ⌜ SetupOk setup ⌝ }
     ensures { λ r. ⌜ r ≡ planOf setup (now (image .entry)) ⌝ }
 {
     let size = setup.ustksize;
-    let r = crate::recorded::segments(image, bss);
+    let flags = setup.flags;
+    let r = crate::recorded::segments(flags, image, bss);
     let count = r.count;
     let mut segments = r.segments;
     if count > 15 {
@@ -84,7 +85,7 @@ fn fill(setup: Setup, image: &[u8], bss: VirtRange) -> Plan
 
 // The plan of an accepted image: its layout, then the rest.
 fn plan_parsed(setup: Setup, image: &[u8]) -> Plan
-    requires { ⌜ elfError (now image) ≡ 0 ⌝ }
+    requires { ⌜ elfError (setup .flags) (now image) ≡ 0 ⌝ }
     requires { ⌜ SetupOk setup ⌝ }
     ensures { λ r. ⌜ r ≡ planOf setup (now (image .entry)) ⌝ }
 {
@@ -103,7 +104,8 @@ pub fn plan_of(setup: Setup, image: &[u8]) -> Plan
     requires { ⌜ SetupOk setup ⌝ }
     ensures { λ r. ⌜ r ≡ planOf setup (now (image .entry)) ⌝ }
 {
-    let number = elf::number_of(image);
+    let flags = setup.flags;
+    let number = elf::number_of(flags, image);
     if number != 0 {
         return refused(spec::EBADEXEC, number);
     }

@@ -64,23 +64,23 @@ fn push(before: Recorded, u: UserSegment) -> Recorded
 }
 
 // The recorded segments with that of one more program header, if it has one.
-fn push_header(image: &[u8], i: usize, bss: VirtRange, before: Recorded) -> Recorded
-    requires { ⌜ (elfError (now image) ≡ 0) × (i < phnum (now image)) ⌝ }
+fn push_header(flags: [u8; 8], image: &[u8], i: usize, bss: VirtRange, before: Recorded) -> Recorded
+    requires { ⌜ (elfError flags (now image) ≡ 0) × (i < phnum (now image)) ⌝ }
     requires { ⌜ (bss .start ≤ 2 ^ 64 - 4096) × (before .count < 2 ^ 63) ⌝ }
-    ensures { λ r. ⌜ r ≡ recordedWith bss before (loadOf (phdrAt (now (image .entry)) (phoff (now (image .entry)) + 56 * i))) ⌝ }
+    ensures { λ r. ⌜ r ≡ recordedWith bss before (loadOf flags (phdrAt (now (image .entry)) (phoff (now (image .entry)) + 56 * i))) ⌝ }
 {
-    let l = elf::segment_of(image, i);
+    let l = elf::segment_of(flags, image, i);
     match l {
         Load::Skip => before,
         Load::Segment(g) => push(before, user_segment(bss, g)),
     }
 }
 
-// The segments that an accepted image's pages make, given its bss, as Plan 9's TSEG and DSEG.
-pub fn segments(image: &[u8], bss: VirtRange) -> Recorded
-    requires { ⌜ elfError (now image) ≡ 0 ⌝ }
+// The segments that an accepted image's pages make under a flag table, given its bss, as Plan 9's TSEG and DSEG.
+pub fn segments(flags: [u8; 8], image: &[u8], bss: VirtRange) -> Recorded
+    requires { ⌜ elfError flags (now image) ≡ 0 ⌝ }
     requires { ⌜ bss .start ≤ 2 ^ 64 - 4096 ⌝ }
-    ensures { λ r. ⌜ r ≡ recorded (kept bss (segmentsOf (now (image .entry)))) ⌝ }
+    ensures { λ r. ⌜ r ≡ recorded (kept bss (segmentsOf flags (now (image .entry)))) ⌝ }
 {
     let zero = UserSegment {
         range: VirtRange { start: 0, end: 0 },
@@ -91,7 +91,7 @@ pub fn segments(image: &[u8], bss: VirtRange) -> Recorded
     let n = elf::count_of(image);
     let mut k = 0;
     while k < n {
-        seen = push_header(image, k, bss, seen);
+        seen = push_header(flags, image, k, bss, seen);
         k += 1;
     }
     seen

@@ -32,17 +32,17 @@ last-there (x ∷ gs) b g a h = split (inSegment a x) (λ s. (x .perm, rw s)) (�
 
 module _ {setup : Setup} (m : Store) (n : ℕ) (image : List ℕ) (plan : Plan) (i : Installable setup m n image plan) where
   abbrev page : ℕ → List ℕ
-  page = pageBytes (fileByte (segmentsOf image))
+  page = pageBytes (fileByte (segmentsOf (setup .flags) image))
 
   whole : Whole setup n page (startPieces setup image)
   whole = record {
     owner = i .number;
     pieces = start-apart setup (i .setup-ok) image (i .accepted);
     proper = λ a q s.
-        let x = start-perm setup image (i .accepted) a q s in
+        let x = start-perm setup (i .setup-ok) image (i .accepted) a q s in
         let y = start-between setup (i .setup-ok) image (i .accepted) a q s in
         (x .0, x .1, y .0, y .1);
-    bytes = λ a q z s. length-page (fileByte (segmentsOf image)) a;
+    bytes = λ a q z s. length-page (fileByte (segmentsOf (setup .flags) image)) a;
   }
 
   room : Room setup m n (startPieces setup image)
@@ -57,14 +57,14 @@ module _ {setup : Setup} (m : Store) (n : ℕ) (image : List ℕ) (plan : Plan) 
 
   pub stack-mapped : Mapped (placed .book) n (setup .ustktop - setup .ustksize) (setup .ustktop)
   stack-mapped a z l u =
-      let r = last-there (imageSegments image) (bssSegment (imageBss image)) (stack setup) a (within-test (setup .ustktop - setup .ustksize) (setup .ustktop) a l u) in
+      let r = last-there (imageSegments setup image) (bssSegment (imageBss setup image)) (stack setup) a (within-test (setup .ustktop - setup .ustksize) (setup .ustktop) a l u) in
       frame-perm (placed .book) n a (r .0) (perm-placed m n page (startPieces setup image) (record { bytes = i .sizes; words = i .words }) whole room a z ∙ ap (λ (o : Option ℕ). orPerm o (bookPerm (m .book) n a)) (r .1))
 
   -- the plan is the image's
   plan-is : plan ≡ acceptedPlan setup image
   plan-is = i .planned ∙ plan-accepted setup image (i .accepted)
 
-  pub plan-bss : plan .bss ≡ imageBss image
+  pub plan-bss : plan .bss ≡ imageBss setup image
   plan-bss = ap (λ (p : Plan). p .bss) plan-is
 
   pub plan-entry : plan .entry ≡ entry image

@@ -110,16 +110,16 @@ image-pages setup bss e (g ∷ k ∷ gs) l y =
 -- ---- the whole of a start
 
 pub start-pages : (setup : Setup) (ok : SetupOk setup) (image : List ℕ) → imageError setup image ≡ 0
-    → pagesOf (pageBytes (fileByte (segmentsOf image))) (startPieces setup image)
-    ≡ segmentPages (imageBss image) (segmentsOf image) ++ (pagesOf zeroPage (bssSegment (imageBss image) ∷ []) ++ pagesOf zeroPage (stack setup ∷ []))
+    → pagesOf (pageBytes (fileByte (segmentsOf (setup .flags) image))) (startPieces setup image)
+    ≡ segmentPages (imageBss setup image) (segmentsOf (setup .flags) image) ++ (pagesOf zeroPage (bssSegment (imageBss setup image) ∷ []) ++ pagesOf zeroPage (stack setup ∷ []))
 start-pages setup ok image z =
     let a = accepted-means setup image z in
-    let l = elf-loads image (a .elf) in
-    let f : ℕ → List ℕ = pageBytes (fileByte (segmentsOf image)) in
-    let bound : ℕ = pageUp (imageBss image .start) in
+    let l = elf-loads (setup .flags) image (ok .table) (a .elf) in
+    let f : ℕ → List ℕ = pageBytes (fileByte (segmentsOf (setup .flags) image)) in
+    let bound : ℕ = pageUp (imageBss setup image .start) in
     let b = image-recorded setup ok image z .bss-ok in
-    pages-append f (imageSegments image) (bssSegment (imageBss image) ∷ stack setup ∷ [])
-    ∙ ap₂ _++_ (image-pages setup (imageBss image) 0 (segmentsOf image) l (a .layout))
-    (pages-above f zeroPage bound (bssSegment (imageBss image) ∷ stack setup ∷ []) (omega arith, (omega (arith, b .order, b .aligned, b .low), tt))
-    (λ p h. page-same (fileByte (segmentsOf image)) (λ x. 0) p (λ x u v. file-high 0 (segmentsOf image) l x (omega arith)) ∙ page-zero p)
-    ∙ pages-append zeroPage (bssSegment (imageBss image) ∷ []) (stack setup ∷ []))
+    pages-append f (imageSegments setup image) (bssSegment (imageBss setup image) ∷ stack setup ∷ [])
+    ∙ ap₂ _++_ (image-pages setup (imageBss setup image) 0 (segmentsOf (setup .flags) image) l (a .layout))
+    (pages-above f zeroPage bound (bssSegment (imageBss setup image) ∷ stack setup ∷ []) (omega arith, (omega (arith, b .order, b .aligned, b .low), tt))
+    (λ p h. page-same (fileByte (segmentsOf (setup .flags) image)) (λ x. 0) p (λ x u v. file-high 0 (segmentsOf (setup .flags) image) l x (omega arith)) ∙ page-zero p)
+    ∙ pages-append zeroPage (bssSegment (imageBss setup image) ∷ []) (stack setup ∷ []))

@@ -21,7 +21,7 @@ pub record Fits (bss : VirtRange) : Type 0 where
   pub aligned : bss .end % 4096 ≡ 0
   pub end : bss .end ≤ maxTop
 
-pub bss-fits : (setup : Setup) (ok : SetupOk setup) (image : List ℕ) (bss : VirtRange) → imageError setup image ≡ 0 → bss ≡ imageBss image → Fits bss
+pub bss-fits : (setup : Setup) (ok : SetupOk setup) (image : List ℕ) (bss : VirtRange) → imageError setup image ≡ 0 → bss ≡ imageBss setup image → Fits bss
 bss-fits setup ok image bss z e =
     let b = image-recorded setup ok image z .bss-ok in
     rw e (record {
@@ -31,15 +31,15 @@ bss-fits setup ok image bss z e =
       end = omega (arith, b .low);
     })
 
-pub all-placed : (setup : Setup) (ok : SetupOk setup) (m m₁ m₂ m₃ : Store) (n : ℕ) (image : List ℕ) (bss : VirtRange) → imageError setup image ≡ 0 → bss ≡ imageBss image
-    → m₁ ≡ place m n (segmentPages bss (segmentsOf image)) → m₂ ≡ place m₁ n (pagesOf zeroPage (bssSegment bss ∷ [])) → m₃ ≡ place m₂ n (pagesOf zeroPage (stack setup ∷ []))
-    → m₃ ≡ place m n (pagesOf (pageBytes (fileByte (segmentsOf image))) (startPieces setup image))
+pub all-placed : (setup : Setup) (ok : SetupOk setup) (m m₁ m₂ m₃ : Store) (n : ℕ) (image : List ℕ) (bss : VirtRange) → imageError setup image ≡ 0 → bss ≡ imageBss setup image
+    → m₁ ≡ place m n (segmentPages bss (segmentsOf (setup .flags) image)) → m₂ ≡ place m₁ n (pagesOf zeroPage (bssSegment bss ∷ [])) → m₃ ≡ place m₂ n (pagesOf zeroPage (stack setup ∷ []))
+    → m₃ ≡ place m n (pagesOf (pageBytes (fileByte (segmentsOf (setup .flags) image))) (startPieces setup image))
 all-placed setup ok m m₁ m₂ m₃ n image bss z b e₁ e₂ e₃ =
-    let xs : List Page = segmentPages (imageBss image) (segmentsOf image) in
-    let ys : List Page = pagesOf zeroPage (bssSegment (imageBss image) ∷ []) in
+    let xs : List Page = segmentPages (imageBss setup image) (segmentsOf (setup .flags) image) in
+    let ys : List Page = pagesOf zeroPage (bssSegment (imageBss setup image) ∷ []) in
     let zs : List Page = pagesOf zeroPage (stack setup ∷ []) in
     e₃
-    ∙ ap (λ (x : Store). place x n zs) (e₂ ∙ ap (λ (x : Store). place x n (pagesOf zeroPage (bssSegment bss ∷ []))) e₁ ∙ ap (λ (r : VirtRange). place (place m n (segmentPages r (segmentsOf image))) n (pagesOf zeroPage (bssSegment r ∷ []))) b)
+    ∙ ap (λ (x : Store). place x n zs) (e₂ ∙ ap (λ (x : Store). place x n (pagesOf zeroPage (bssSegment bss ∷ []))) e₁ ∙ ap (λ (r : VirtRange). place (place m n (segmentPages r (segmentsOf (setup .flags) image))) n (pagesOf zeroPage (bssSegment r ∷ []))) b)
     ∙ sym (place-append (place m n xs) n ys zs)
     ∙ sym (place-append m n xs (ys ++ zs))
     ∙ ap (place m n) (sym (start-pages setup ok image z))

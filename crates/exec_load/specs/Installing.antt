@@ -42,7 +42,7 @@ pub record Fitting (setup : Setup) (args : List (List ℕ)) (buf : List ℕ) (si
 
 -- frames and book of World's `load`: an image's pages, ascending, then its arguments
 abbrev pub installed : Setup → Store → ℕ → List ℕ → List (List ℕ) → Store
-installed setup m n image args = pushIn (place m n (pagesOf (pageBytes (fileByte (segmentsOf image))) (startPieces setup image))) n (setup .ustktop) args
+installed setup m n image args = pushIn (place m n (pagesOf (pageBytes (fileByte (segmentsOf (setup .flags) image))) (startPieces setup image))) n (setup .ustktop) args
 
 -- the record of a plan: its segments, the last element of a name, and its bss
 abbrev pub recordOf : Plan → List ℕ → Proc

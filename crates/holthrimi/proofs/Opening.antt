@@ -18,8 +18,8 @@ use Rattle.spec.specs.World.{State, stateOf}
 use Rattle.spec.specs.declared.Procs.{Procs}
 use Rattle.spec.proofs.Procs as P
 use Rattle.spec.proofs.Setup as S
-use Rattle.holthrimi.proofs.Params.{Par, slots, rows, spells}
-use Rattle.holthrimi.proofs.Telling.{Given-to, of-setup, of-procs, Setting}
+use Rattle.holthrimi.proofs.Params.{Par, of-setup, slots, rows, spells}
+use Rattle.holthrimi.proofs.Telling.{Given-to, of-procs, Setting}
 
 pub record Opening {M : Type 1} (𝓤 : URA M) : Type 2 where
   -- frames, book and records, and the state that they are

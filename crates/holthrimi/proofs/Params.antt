@@ -2,16 +2,20 @@
 -- and that the value is of the type.
 -- Assumes nothing.
 use Prim.Native.Nat.{ℕ}
+use mathlib.Core.Path.{sym, subst}
+use mathlib.Core.Bool.{true}
 use mathlib.Core.List.{List, [], _∷_}
 use lib.Dec.{T}
 use lib.ListN.{length}
-use mir.Syntax.{w64}
+use mir.Syntax.{w64, tyArray}
 use mir.Val.{Val, vint, vbool, vptr, WT, hasTy}
+use prog.Align.{both}
 use contract.Lifetimes.{Lfts, Within}
 use denote.RattleType.{RattleType, Denots}
 use denote.Memory.{lone}
-use denote.Laws.{Is, Ises, Are, Tells, Tellss, Spells, valss}
+use denote.Laws.{Is, Ises, Are, Tells, Tellss, Spells, Typed, valss}
 use denote.Signature.{Slot, plain, nameOf, meetAt, typesAt}
+use denote.Array.{array-typed}
 use denote.Plain.{uint-tells, bool-tells}
 use denote.Builtin.{u8, u64, bool, Ref, RefMut, SliceRef, SliceRefMut}
 use denote.Ref.{mut-tells, shr-tells}
@@ -19,6 +23,7 @@ use denote.Slice.{sliceVal, mut-slice-tells, shr-slice-tells}
 use denote.Struct.Laws as LL
 use Rattle.spec.proofs.Procs as P
 use Rattle.spec.proofs.UserSegment as G
+use Rattle.spec.specs.declared.Setup.{Setup}
 use Rattle.spec.proofs.Setup as S
 use Rattle.spec.proofs.Setup.Laws as S′
 
@@ -28,6 +33,21 @@ pub record Par (n : ℕ) : Type 2 where
   pub tells : (κs : Lfts n) → Tells (slot .row κs) (Is (slot .row κs)) (λ x. val κs x ∷ [])
   pub typed : (κs : Lfts n) (x : slot .row κs .Denot) → Is (slot .row κs) x (val κs x ∷ [])
       → T (hasTy (lone (slot .row κs .mir)) (val κs x)) × WT (val κs x)
+
+-- the machine value of a setup, whose flag table is an array, is of its type
+byte-typed : (x : ℕ) (vs : List Val) → Is u8 x vs → Typed (u8 .mir) vs
+byte-typed x vs is = subst (Typed (u8 .mir)) (sym (is .0)) ((tt, record { fits = is .1 }), tt)
+
+abbrev pub of-setup : Setup → Val
+of-setup x = LL.val S.the-type S′.the-laws x
+
+pub setup-typed : (x : Setup) → Is S.the-row x (of-setup x ∷ []) → T (hasTy (lone (S.the-row .mir)) (of-setup x)) × WT (of-setup x)
+setup-typed x is =
+    let o = LL.owed S.the-type S′.the-laws x _ is in
+    let table : List ℕ = S.the-type .to x .1 .1 .1 .1 .0 in
+    let v : Val = S′.the-laws .1 .1 .1 .1 .0 .val table in
+    let t = array-typed u8 byte-typed 8 table (v ∷ []) (o .1 .1 .1 .1 .0) .0 in
+    (both (hasTy (tyArray (lone (u8 .mir)) 8) v) true (t .0) tt, (record { fits = o .0 .1 }, (record { fits = o .1 .0 .1 }, (record { fits = o .1 .1 .0 .1 }, (record { fits = o .1 .1 .1 .0 .1 }, (t .1, tt))))))
 
 module _ {n : ℕ} where
   -- a number, and a bool
@@ -46,11 +66,9 @@ module _ {n : ℕ} where
   abbrev pub setup : Par n
   setup = record {
     slot = plain (λ _. S.the-row);
-    val = λ κs x. LL.val S.the-type S′.the-laws x;
+    val = λ κs x. of-setup x;
     tells = λ κs. LL.tells S.the-type S′.the-laws;
-    typed = λ κs x is.
-        let o = LL.owed S.the-type S′.the-laws x _ is in
-        (tt, (record { fits = o .0 .1 }, (record { fits = o .1 .0 .1 }, (record { fits = o .1 .1 .0 .1 }, (record { fits = o .1 .1 .1 .0 .1 }, tt)))));
+    typed = λ κs x is. setup-typed x is;
   }
 
   module _ (j : ℕ) (ok : Within n j) where

@@ -52,8 +52,6 @@ use Rattle.spec.specs.declared.Procs.{Procs}
 use Rattle.spec.proofs.Procs as P
 use Rattle.spec.proofs.Procs.Laws as P′
 use Rattle.spec.specs.declared.Setup.{Setup}
-use Rattle.spec.proofs.Setup as S
-use Rattle.spec.proofs.Setup.Laws as S′
 use Rattle.holthrimi.specs.declared.told.Told.{Told}
 use Rattle.holthrimi.specs.Tells.{toldOf, Tells}
 use Rattle.holthrimi.proofs.told.Told as O
@@ -62,13 +60,10 @@ use Rattle.holthrimi.proofs.told.tell as tell
 use Rattle.holthrimi.proofs.told.tell.Symbol as tell-def
 use Rattle.holthrimi.proofs.told.tell.Symbol.{name as #tell}
 use Rattle.holthrimi.proofs.told.tell.Met as tell-thm
-use Rattle.holthrimi.proofs.Params.{Par, rows, spells}
+use Rattle.holthrimi.proofs.Params.{Par, of-setup, rows, spells}
 use Rattle.holthrimi.proofs.Locals.{Cell, empty, holds, with, At, Whole, locals, dead, peek, peek-in, fill, leaves}
 
--- ---- the machine values of a setup, of records, of an answer, and of what is told
-abbrev pub of-setup : Setup → Val
-of-setup u = LL.val S.the-type S′.the-laws u
-
+-- ---- the machine values of records, of an answer, and of what is told
 abbrev pub of-procs : Procs → Val
 of-procs h = LL.val P.the-type P′.the-laws h
 

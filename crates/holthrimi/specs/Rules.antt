@@ -1,16 +1,18 @@
 -- What the exported functions that are no calls answer. C has no options, so that an optional bss is a mark and a range. Those that
--- use machine numbers judge the setup, after their own 1 (02, 5/13); beyond that they answer what the specification's `ibrk`,
--- `argsError` and the plan say.
+-- are handed a setup judge it, 38 and 39, after their own 1 (02, 5/13 and 7/13); beyond that they answer what the specification's
+-- `ibrk`, `argsError` and the plan say.
 -- Assumes nothing.
 use Prim.Native.Nat.{ℕ, _+_, _*_}
 use mathlib.Core.Bool.{Bool, not}
 use mathlib.Core.List.{List}
 use mathlib.Core.Option.{Option, none, some}
 use lib.ListN.{length}
-use Rattle.spec.specs.Tests.{_isnt_, within, _⇒_else_, sum}
-use Rattle.spec.specs.Numbers.{maxFrames, setupOk}
+use Rattle.spec.specs.Tests.{_isnt_, within, _⇒_else_, _orElse_, sum}
+use Rattle.spec.specs.Flags.{flagsOk}
+use Rattle.spec.specs.Numbers.{maxFrames, setupError}
 use Rattle.spec.specs.Book.{range}
 use Rattle.spec.specs.Frames.{sized}
+use Rattle.spec.specs.Elf.{elfError}
 use Rattle.spec.specs.Exec.{argsOf, argsError}
 use Rattle.spec.specs.Segment.{Break, ibrk}
 use Rattle.spec.specs.World.{State, sound}
@@ -30,9 +32,9 @@ abbrev pub orZeros : Option VirtRange → VirtRange
 orZeros none = range 0 0
 orZeros (some bss) = bss
 
--- the break's rule under a setup, or 38 for one that breaks a condition, with the bss as it was
+-- the break's rule under a setup, or 38 or 39 for one that is not accepted, with the bss as it was
 abbrev pub ibrkIn : Setup → Option VirtRange → ℕ → ℕ → Break
-ibrkIn setup bss addr free = not (setupOk setup) ⇒ record { error = 38; value = 0; bss = bss } else ibrk setup bss addr free
+ibrkIn setup bss addr free = setupError setup isnt 0 ⇒ record { error = setupError setup; value = 0; bss = bss } else ibrk setup bss addr free
 
 -- what a break comes to, in C
 abbrev pub ruleOf : Break → Rule
@@ -42,12 +44,16 @@ ruleOf b = record { error = b .error; value = b .value; bss = orZeros (b .bss) }
 abbrev pub argsIn : Setup → List ℕ → List ℕ → ℕ
 argsIn setup bytes lengths =
     sum lengths isnt length bytes ⇒ 1 else
-    not (setupOk setup) ⇒ 38 else
+    setupError setup orElse
     argsError setup (argsOf bytes lengths)
 
--- the plan of an image under a setup, or 38 for a setup that breaks a condition
+-- the ELF reader's number under a flag table, or 39 for one that is refused
+abbrev pub parseIn : List ℕ → List ℕ → ℕ
+parseIn flags image = not (flagsOk flags) ⇒ 39 else elfError flags image
+
+-- the plan of an image under a setup, or 38 or 39 for a setup that is not accepted
 abbrev pub planIn : Setup → List ℕ → Plan
-planIn setup image = not (setupOk setup) ⇒ refusedPlan 38 0 else planOf setup image
+planIn setup image = setupError setup isnt 0 ⇒ refusedPlan (setupError setup) 0 else planOf setup image
 
 -- a plan, field by field
 abbrev pub plannedOf : Plan → Planned
@@ -57,10 +63,10 @@ plannedOf p = record { number = p .number; elf = p .elf; entry = p .entry; segme
 abbrev pub bookWords : ℕ → ℕ
 bookWords frames = within 1 (maxFrames + 1) frames ⇒ 17 * frames else 0
 
--- 1, 38 and 2 of every call: frames and book by their sizes, the setup, and the book sound; or 0
+-- 1, 38, 39 and 2 of every call: frames and book by their sizes, the setup, and the book sound; or 0
 unfoldable pub bookError : State → ℕ
 bookError s =
     not (sized (s .store)) ⇒ 1 else
-    not (setupOk (s .setup)) ⇒ 38 else
+    setupError (s .setup) orElse
     not (sound s) ⇒ 2 else
     0

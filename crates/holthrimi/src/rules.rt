@@ -3,21 +3,26 @@
 ghost use mathlib.Core.Path.{_≡_};
 ghost use lib.ListN.{length};
 ghost use Rattle.spec.specs.Book.{range};
+ghost use Rattle.spec.specs.Flags.{builtIn};
 ghost use Rattle.spec.specs.Elf.{elfError};
 ghost use Rattle.spec.specs.Exec.{stackSize};
 ghost use Rattle.spec.specs.Name.{kstrcpy};
 ghost use Rattle.spec.specs.SetupText.{readSetup};
+ghost use Rattle.spec.specs.FlagsText.{readFlags};
 ghost use Rattle.spec.specs.World.{stateOf};
 ghost use Rattle.segment.specs.Rule.{optOf, breakOf};
 ghost use Rattle.text.specs.Text.{Puts};
 ghost use Rattle.setup.specs.Said.{told};
 ghost use Rattle.setup.specs.Text.{setupIn};
+ghost use Rattle.setup_flags.specs.Rows.{told as toldFlags};
+ghost use Rattle.setup_flags.specs.Texts.{flagsIn};
 ghost use Rattle.exec_args.specs.Sizes.{saturated};
-ghost use Rattle.holthrimi.specs.Rules.{bssOf, ruleOf, ibrkIn, argsIn, planIn, plannedOf, bookWords, bookError};
+ghost use Rattle.holthrimi.specs.Rules.{bssOf, ruleOf, ibrkIn, argsIn, planIn, plannedOf, parseIn, bookWords, bookError};
 use exec::Plan;
 use segment::Break;
 use segment::Bss;
 use setup::SetupRead;
+use setup_flags::FlagsRead;
 use spec::Procs;
 use spec::Setup;
 use spec::UserSegment;
@@ -31,9 +36,9 @@ pub struct Rule {
     pub bss: VirtRange,
 }
 
-// What a start needs of an image: the number that it is refused with, 38 for its setup, 30 or 31, or 0, and with 30 the image's own
-// number, 11 to 27, or 0 for the layout; its entry point; its record's segments, `count` of the image, then the stack; its bss; and
-// the pages that it takes with the stack. A refused image's are zeros.
+// What a start needs of an image: the number that it is refused with, 38 or 39 for its setup, 30 or 31, or 0, and with 30 the image's
+// own number, 11 to 27, or 0 for the layout; its entry point; its record's segments, `count` of the image, then the stack; its bss;
+// and the pages that it takes with the stack. A refused image's are zeros.
 #[repr(C)]
 pub struct Planned {
     pub number: u64,
@@ -65,13 +70,14 @@ fn ruled(b: Break) -> Rule
     }
 }
 
-// The break's rule, or 38 for a setup that breaks a condition, with the bss as it was.
+// The break's rule, or 38 or 39 for a setup that is not accepted, with the bss as it was.
 fn ibrk_in(setup: Setup, bss: Bss, addr: u64, free: u64) -> Break
     ensures { λ r. ⌜ breakOf r ≡ ibrkIn setup (optOf bss) addr free ⌝ }
 {
-    if !setup::setup_ok(setup) {
+    let e = setup::setup_error(setup);
+    if e != 0 {
         return Break {
-            error: spec::SETUP,
+            error: e,
             value: 0,
             bss,
         };
@@ -106,8 +112,8 @@ pub extern "C" fn holthrimi_stack_size(strings: u64, nargs: u64) -> u64
     exec_args::stack_size(strings, nargs)
 }
 
-// The number that arguments are refused with: 1 for lengths that don't sum to their bytes, 38 for a setup that breaks a condition, 32
-// for a NUL, 33 if they take too much of a stack; or 0.
+// The number that arguments are refused with: 1 for lengths that don't sum to their bytes, 38 or 39 for a setup that is not
+// accepted, 32 for a NUL, 33 if they take too much of a stack; or 0.
 #[no_mangle]
 pub extern "C" fn holthrimi_args_error(setup: Setup, bytes: &[u8], lengths: &[u64]) -> u64
     ensures { λ r. ⌜ r ≡ argsIn setup (now (bytes .entry)) (now (lengths .entry)) ⌝ }
@@ -115,8 +121,9 @@ pub extern "C" fn holthrimi_args_error(setup: Setup, bytes: &[u8], lengths: &[u6
     if !exec_args::lengths_fit(bytes, lengths) {
         return spec::SIZES;
     }
-    if !setup::setup_ok(setup) {
-        return spec::SETUP;
+    let e = setup::setup_error(setup);
+    if e != 0 {
+        return e;
     }
     let a = exec_args::args_size(setup, bytes, lengths);
     a.error
@@ -139,6 +146,23 @@ pub extern "C" fn holthrimi_write_setup(setup: Setup, out: &mut [u8]) -> usize
     setup::setup_into(out, setup)
 }
 
+// The flag table that eight lines give, or 39.
+#[no_mangle]
+pub extern "C" fn holthrimi_read_flags(bytes: &[u8]) -> FlagsRead
+    ensures { λ r. ⌜ toldFlags r ≡ readFlags (now (bytes .entry)) ⌝ }
+{
+    setup_flags::read_flags(bytes)
+}
+
+// Puts the eight lines of a flag table into a buffer, and answers their length. For a table that is refused, and without room for the
+// longest, the buffer is left as it is, and the answer is 0.
+#[no_mangle]
+pub extern "C" fn holthrimi_write_flags(flags: &[u8; 8], out: &mut [u8]) -> usize
+    ensures { λ r. ⌜ Puts (now (out .entry)) 0 (flagsIn (length (now (out .entry))) (now (flags .entry))) (now (out .exit)) r ⌝ }
+{
+    setup_flags::flags_into(out, *flags)
+}
+
 // Copies a name into 28 bytes, as Plan 9's kstrcpy.
 #[no_mangle]
 pub extern "C" fn holthrimi_kstrcpy(dst: &mut [u8; 28], src: &[u8])
@@ -147,26 +171,39 @@ pub extern "C" fn holthrimi_kstrcpy(dst: &mut [u8; 28], src: &[u8])
     kstr::kstrcpy(dst, src);
 }
 
-// The number that the ELF reader refuses an image with, 11 to 27, or 0.
+// The number that the ELF reader refuses an image with under the built-in flag table, 11 to 27, or 0.
 #[no_mangle]
 pub extern "C" fn holthrimi_parse(image: &[u8]) -> u64
-    ensures { λ r. ⌜ r ≡ elfError (now (image .entry)) ⌝ }
+    ensures { λ r. ⌜ r ≡ elfError builtIn (now (image .entry)) ⌝ }
 {
-    elf::number_of(image)
+    elf::number_of(setup::BUILT_IN, image)
 }
 
-// The plan of an image, or 38 for a setup that breaks a condition.
+// The same under a flag table of one's own, or 39 for one that is refused.
+#[no_mangle]
+pub extern "C" fn holthrimi_parse_with(flags: &[u8; 8], image: &[u8]) -> u64
+    ensures { λ r. ⌜ r ≡ parseIn (now (flags .entry)) (now (image .entry)) ⌝ }
+{
+    let table = *flags;
+    if !setup::flags_ok(table) {
+        return spec::FLAGS;
+    }
+    elf::number_of(table, image)
+}
+
+// The plan of an image, or 38 or 39 for a setup that is not accepted.
 fn plan_in(setup: Setup, image: &[u8]) -> Plan
     ensures { λ r. ⌜ r ≡ planIn setup (now (image .entry)) ⌝ }
 {
-    if !setup::setup_ok(setup) {
+    let e = setup::setup_error(setup);
+    if e != 0 {
         let zero = UserSegment {
             range: VirtRange { start: 0, end: 0 },
             perm: 0,
         };
         let segments = [zero; 16];
         return Plan {
-            number: spec::SETUP,
+            number: e,
             elf: 0,
             entry: 0,
             segments,
@@ -210,7 +247,7 @@ pub extern "C" fn holthrimi_book_words(frames: u64) -> u64
     17 * frames
 }
 
-// The number that frames, book and records are refused with by every call, 1, 38 or 2, or 0.
+// The number that frames, book and records are refused with by every call, 1, 38, 39 or 2, or 0.
 fn book_error(setup: Setup, frames: &[u8], book: &[u64], procs: Procs) -> u64
     ensures { λ r. ⌜ r ≡ bookError (stateOf setup (now (frames .entry)) (now (book .entry)) procs) ⌝ }
 {

@@ -9,6 +9,7 @@ use lib.ListN.{length, take, replicate}
 use lib.Seq.{take-append-seam}
 use borrow.Author.Tests.{lt-ltb, le-ltb, eq-eqb, ne-eqb}
 use Rattle.spec.specs.Tests.{_isnt_, _above_, _⇒_else_, ascii}
+use Rattle.spec.specs.Flags.{builtIn}
 use Rattle.spec.specs.Numbers.{deposit}
 use Rattle.spec.specs.Book.{zeroSegment, stack, pageCount}
 use Rattle.spec.specs.Elf.{entry, elfError}
@@ -29,13 +30,13 @@ module _ (image : List ℕ) where
   unfolding listError
   error-long h = rw (lt-ltb 32768 (length image) h)
 
-  pub error-elf : length image ≤ 32768 → (elfError image ≡ 0 → ⊥) → elfError image ≡ listError image
+  pub error-elf : length image ≤ 32768 → (elfError builtIn image ≡ 0 → ⊥) → elfError builtIn image ≡ listError image
   unfolding listError
-  error-elf h n = rw (le-ltb 32768 (length image) h, ne-eqb (elfError image) 0 n)
+  error-elf h n = rw (le-ltb 32768 (length image) h, ne-eqb (elfError builtIn image) 0 n)
 
-  pub error-image : length image ≤ 32768 → elfError image ≡ 0 → imageError deposit image ≡ listError image
+  pub error-image : length image ≤ 32768 → elfError builtIn image ≡ 0 → imageError deposit image ≡ listError image
   unfolding listError
-  error-image h e = rw (le-ltb 32768 (length image) h, eq-eqb (elfError image) 0 e)
+  error-image h e = rw (le-ltb 32768 (length image) h, eq-eqb (elfError builtIn image) 0 e)
 
   -- ---- its text
 
@@ -57,19 +58,19 @@ otherwise : (t : Bool) (x y : List ℕ) → t ≡ false → (t ⇒ x else y) ≡
 otherwise true x y e = let z : _≡_ {A = Bool} true false = e in cc
 otherwise false x y e = refl
 
-accepted-lines : (image : List ℕ) → 0 ≡ listError image → listing image ≡ lines (decimal (entry image)) (segmentLines (imageSegments image)) (rangeText (imageBss image)) (decimal (pageCount (startPieces deposit image)))
+accepted-lines : (image : List ℕ) → 0 ≡ listError image → listing image ≡ lines (decimal (entry image)) (segmentLines (imageSegments deposit image)) (rangeText (imageBss deposit image)) (decimal (pageCount (startPieces deposit image)))
 unfolding listing
 accepted-lines image z = otherwise (listError image isnt 0) _ _ (ap (λ (n : ℕ). n isnt 0) (sym z))
 
-shut : (image : List ℕ) → lines (numberText (entry image)) (linesText (imageSegments image)) (spanText (imageBss image)) (numberText (pageCount (startPieces deposit image)))
-    ≡ lines (decimal (entry image)) (segmentLines (imageSegments image)) (rangeText (imageBss image)) (decimal (pageCount (startPieces deposit image)))
+shut : (image : List ℕ) → lines (numberText (entry image)) (linesText (imageSegments deposit image)) (spanText (imageBss deposit image)) (numberText (pageCount (startPieces deposit image)))
+    ≡ lines (decimal (entry image)) (segmentLines (imageSegments deposit image)) (rangeText (imageBss deposit image)) (decimal (pageCount (startPieces deposit image)))
 unfolding numberText linesText spanText
 shut image = refl
 
 pub plan-text : (image : List ℕ) → 0 ≡ listError image → imageError deposit image ≡ 0 → planText (planOf deposit image) ≡ listing image
 plan-text image z e =
-    let us = imageSegments image in
+    let us = imageSegments deposit image in
     ap planText (plan-accepted deposit image e)
-    ∙ ap (λ (vs : List UserSegment). fieldText (ascii "entry=") (entry image) ++ linesText vs ++ ascii "bss=" ++ spanText (imageBss image) ++ fieldText (ascii "pages=") (pageCount (startPieces deposit image))) (take-append-seam us (stack deposit ∷ replicate (15 - length us) zeroSegment))
-    ∙ as-put (numberText (entry image)) (linesText us) (spanText (imageBss image)) (numberText (pageCount (startPieces deposit image)))
+    ∙ ap (λ (vs : List UserSegment). fieldText (ascii "entry=") (entry image) ++ linesText vs ++ ascii "bss=" ++ spanText (imageBss deposit image) ++ fieldText (ascii "pages=") (pageCount (startPieces deposit image))) (take-append-seam us (stack deposit ∷ replicate (15 - length us) zeroSegment))
+    ∙ as-put (numberText (entry image)) (linesText us) (spanText (imageBss deposit image)) (numberText (pageCount (startPieces deposit image)))
     ∙ shut image ∙ sym (accepted-lines image z)

@@ -31,7 +31,7 @@ fn put_plan(out: &mut [u8], p: Plan) -> usize
 }
 
 // Puts the whole listing of an image, as the listing program prints it: a refusal's number, or its entry point, segments, bss and pages,
-// by the deposit machine's numbers. Images of over 32,768 bytes aren't listed.
+// by the deposit machine's numbers and the built-in flag table. Images of over 32,768 bytes aren't listed.
 fn put_listing(image: &[u8], out: &mut [u8]) -> usize
     requires { ⌜ 1024 ≤ length (now out) ⌝ }
     ensures { λ r. ⌜ Puts (now (out .entry)) 0 (listing (now (image .entry))) (now (out .exit)) r ⌝ }

@@ -19,17 +19,12 @@ pub(crate) fn behind(s: Session, end: usize) -> Session {
     next
 }
 
-// Reads input behind the first `kept` bytes, and answers where it ends.
-fn read_behind(input: &mut [u8], kept: usize) -> usize {
-    let rest = room::lent(input, kept, INPUT_SIZE);
-    let got = libc::read(libc::STDIN_FILENO, rest);
-    std::num::wrapping_add_usize(kept, io::count(got, rest))
-}
-
 // Reads more of a line, behind what there is of it. Of one that is too long no more is kept than shows it.
 pub(crate) fn read(input: &mut [u8], s: Session) -> Session {
     let kept = room::least(room::shift(input, s.at, s.end), LINE_MAX + 1);
-    let end = read_behind(input, kept);
+    let rest = room::lent(input, kept, INPUT_SIZE);
+    let got = libc::read(libc::STDIN_FILENO, rest);
+    let end = std::num::wrapping_add_usize(kept, io::count(got, rest));
     let mut next = s;
     next.at = 0;
     next.end = end;

@@ -8,7 +8,7 @@ use replay_script::asked::Kind;
 use replay_script::taken;
 use replay_session::Session;
 
-// So many frames and no process, under the deposit machine's numbers.
+// So many frames and no process, under the deposit machine's numbers and the built-in flag table.
 fn fresh(frames: u64, at: usize, end: usize, ended: bool) -> Session {
     let n = room::least(frames as usize, replay_script::asked::FRAMES_MAX);
     let p = call_front::zero_proc();
@@ -38,12 +38,16 @@ fn after(s: Session, a: Asked) -> Session {
             next
         }
         Kind::Numbers => {
-            let setup = spec::Setup {
-                utzero: a.number,
-                ustktop: a.second,
-                ustksize: a.third,
-                uaddrtop: a.fourth,
-            };
+            next.setup.utzero = a.number;
+            next.setup.ustktop = a.second;
+            next.setup.ustksize = a.third;
+            next.setup.uaddrtop = a.fourth;
+            next
+        }
+        Kind::Flags | Kind::FlagsFile => {
+            let flags = a.flags;
+            let mut setup = s.setup;
+            setup.flags = flags;
             next.setup = setup;
             next
         }
@@ -51,34 +55,7 @@ fn after(s: Session, a: Asked) -> Session {
     }
 }
 
-// Runs what a line asks, and answers it.
-fn answer(
-    frames: &mut [u8; replay_session::FRAMES_SIZE],
-    book: &mut [u64; replay_session::BOOK_SIZE],
-    space: &mut [u8; taken::SPACE_MAX],
-    list: &taken::List,
-    s: Session,
-    a: Asked,
-) -> Session {
-    replay_session::run::set(book, a);
-    let left = replay_session::run::run(frames, book, space, list, s, a);
-    let procs = left.procs;
-    let answer = left.answer;
-    let mut next = s;
-    next.procs = procs;
-    replay_replies::put_reply(
-        s.setup,
-        room::part(frames, 0, s.bytes),
-        room::first_words(book, s.words),
-        room::part(space, taken::BYTES_AT, a.bytes),
-        procs,
-        a,
-        answer,
-    );
-    next
-}
-
-// Takes a turn: answers the next line, or reads more of it if it isn't whole. The last line may lack its line feed.
+// Takes a turn: runs and answers the next line, or reads more of it if it isn't whole. The last line may lack its line feed.
 fn turn(
     frames: &mut [u8; replay_session::FRAMES_SIZE],
     book: &mut [u64; replay_session::BOOK_SIZE],
@@ -93,8 +70,22 @@ fn turn(
     }
     let line = room::part(input, s.at, end);
     let a = taken::read(space, list, line, s.bytes, s.words);
-    let next = after(input::behind(s, end), a);
-    answer(frames, book, space, list, next, a)
+    let mut next = after(input::behind(s, end), a);
+    replay_session::run::set(book, a);
+    let left = replay_session::run::run(frames, book, space, list, next, a);
+    let procs = left.procs;
+    let answer = left.answer;
+    next.procs = procs;
+    replay_replies::put_reply(
+        next.setup,
+        room::part(frames, 0, next.bytes),
+        room::first_words(book, next.words),
+        room::part(space, taken::BYTES_AT, a.bytes),
+        procs,
+        a,
+        answer,
+    );
+    next
 }
 
 fn main() {

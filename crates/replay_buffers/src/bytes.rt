@@ -100,14 +100,12 @@ pub fn take(dst: &mut [u8], word: &[u8]) -> Taken {
     }
     let first = word[0];
     let behind = &word[1..];
-    if first == b'\'' {
-        return put(dst, behind);
-    }
-    if first == b'@' {
-        return file(dst, behind);
-    }
     if (first == b'-') & (word.len() == 1) {
         return Taken::Size(0);
     }
-    pairs(dst, word)
+    match first {
+        b'\'' => put(dst, behind),
+        b'@' => file(dst, behind),
+        _ => pairs(dst, word),
+    }
 }

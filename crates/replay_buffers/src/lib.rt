@@ -1,5 +1,4 @@
-// Lent buffers: parts of them, the words of a line, and the bytes that a word gives, put into one. Every function takes any bytes and
-// numbers.
+// Lent buffers: parts of them, the words of a line, and the bytes that a word gives. Every function takes any bytes and numbers.
 pub mod bytes;
 pub mod room;
 pub mod words;

@@ -58,27 +58,20 @@ pub(crate) fn put_string(a: Answer, bytes: &[u8]) {
     }
 }
 
-// Writes the bytes of a name.
-fn put_name(name: &[u8; 28]) {
-    put_copied(Answer::Done, name);
-}
-
 // Writes a name as a record keeps it.
 pub(crate) fn put_kept(bytes: &[u8]) {
     let mut name = [0u8; 28];
     kstr::kstrcpy(&mut name, bytes);
-    put_name(&name);
+    put_copied(Answer::Done, &name);
 }
 
 // Writes the answer of the break's rule: its value, and the bss's start and end.
 pub(crate) fn put_rule(setup: spec::Setup, bss: segment::Bss, free: u64, addr: u64) {
-    if !setup::setup_ok(setup) {
-        put_answer(Answer::Refused(spec::SETUP));
-        return;
-    }
+    let e = setup::setup_error(setup);
     let b = segment::ibrk(setup, bss, addr, free);
-    if b.error != 0 {
-        put_answer(Answer::Refused(b.error));
+    let error = if e != 0 { e } else { b.error };
+    if error != 0 {
+        put_answer(Answer::Refused(error));
         return;
     }
     put_named(b"ok ", b.value);

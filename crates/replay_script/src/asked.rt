@@ -17,6 +17,8 @@ pub enum Kind {
     Frames,
     Numbers,
     NumbersFile,
+    Flags,
+    FlagsFile,
     Lend,
     Word,
     Start,
@@ -37,14 +39,14 @@ pub enum Kind {
     Map,
 }
 
-// A line's numbers, in order; where in the space the name, the arguments and other bytes end (taken.rt); and how many words the list
-// has.
+// A line's numbers, in order; its flag table; where in the space name, arguments and other bytes end (taken.rt); the list's length.
 pub struct Asked {
     pub kind: Kind,
     pub number: u64,
     pub second: u64,
     pub third: u64,
     pub fourth: u64,
+    pub flags: [u8; 8],
     pub name: usize,
     pub args: usize,
     pub bytes: usize,
@@ -59,6 +61,7 @@ pub(crate) fn with(kind: Kind, numbers: [u64; 4]) -> Asked {
         second: numbers[1],
         third: numbers[2],
         fourth: numbers[3],
+        flags: [0; 8],
         name: 0,
         args: 0,
         bytes: 0,

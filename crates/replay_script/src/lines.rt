@@ -20,8 +20,8 @@ fn form(a: Asked, line: &[u8], key: &[u8], min: usize, max: usize, kind: Kind, n
     a
 }
 
-// Lines of calls that change processes.
-fn call(line: &[u8]) -> Asked {
+// The lines of a script: calls, rules by themselves, and what calls are handed and lent.
+fn known(line: &[u8]) -> Asked {
     let mut a = asked::wrong(replay_buffers::bytes::Why::Bad);
     a = form(a, line, b"start", 3, asked::LINE_MAX, Kind::Start, 1);
     a = form(a, line, b"replace", 4, 4, Kind::Replace, 1);
@@ -29,29 +29,21 @@ fn call(line: &[u8]) -> Asked {
     a = form(a, line, b"break", 2, 2, Kind::Break, 2);
     a = form(a, line, b"fork", 2, 2, Kind::Fork, 2);
     a = form(a, line, b"fork", 3, asked::LINE_MAX, Kind::ForkList, 2);
-    form(a, line, b"end", 1, 1, Kind::End, 1)
-}
-
-// Lines of access to user memory, and of rules by themselves.
-fn access(line: &[u8], called: Asked) -> Asked {
-    let mut a = called;
+    a = form(a, line, b"end", 1, 1, Kind::End, 1);
     a = form(a, line, b"range", 4, 4, Kind::Range, 3);
     a = form(a, line, b"from", 3, 3, Kind::From, 3);
     a = form(a, line, b"to", 3, 3, Kind::To, 2);
     a = form(a, line, b"string", 3, 3, Kind::Text, 3);
     a = form(a, line, b"rule", 4, 4, Kind::Rule, 0);
-    form(a, line, b"name", 1, 1, Kind::Name, 0)
-}
-
-// Lines of what is held, and of what calls are handed and lent.
-fn held(line: &[u8], called: Asked) -> Asked {
-    let mut a = called;
+    a = form(a, line, b"name", 1, 1, Kind::Name, 0);
     a = form(a, line, b"frames", 1, 1, Kind::Frames, 1);
     a = form(a, line, b"frames", 2, 2, Kind::Frames, 2);
     a = form(a, line, b"lend", 2, 2, Kind::Lend, 2);
     a = form(a, line, b"word", 2, 2, Kind::Word, 2);
     a = form(a, line, b"numbers", 4, 4, Kind::Numbers, 4);
     a = form(a, line, b"numbers", 1, 1, Kind::NumbersFile, 0);
+    a = form(a, line, b"flags", 8, 8, Kind::Flags, 0);
+    a = form(a, line, b"flags", 1, 1, Kind::FlagsFile, 0);
     a = form(a, line, b"sum", 0, 0, Kind::Sum, 0);
     form(a, line, b"map", 1, 1, Kind::Map, 1)
 }
@@ -83,5 +75,5 @@ pub(crate) fn asks(line: &[u8], bytes: usize, words: usize) -> Asked {
     if asked::LINE_MAX < line.len() {
         return asked::wrong(replay_buffers::bytes::Why::LargeLine);
     }
-    within(held(line, access(line, call(line))), bytes, words)
+    within(known(line), bytes, words)
 }

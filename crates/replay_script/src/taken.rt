@@ -69,7 +69,7 @@ fn add(space: &mut [u8], list: &mut List, a: Asked, word: &[u8]) -> Asked {
     next
 }
 
-// With the words behind the first four as arguments, up to the first that gives no bytes.
+// With the words behind the first four as arguments.
 fn args(space: &mut [u8], list: &mut List, line: &[u8], a: Asked) -> Asked {
     *list = [0u64; ARGS];
     let mut next = a;
@@ -77,9 +77,6 @@ fn args(space: &mut [u8], list: &mut List, line: &[u8], a: Asked) -> Asked {
     let mut at = words::place(line, 4);
     let mut left = words::spaces(line);
     while 3 < left {
-        if asked::fails(next) {
-            return next;
-        }
         next = add(space, list, next, words::word_at(line, at));
         at = words::next(line, at);
         left -= 1;
@@ -141,6 +138,40 @@ fn numbers(space: &mut [u8], line: &[u8], a: Asked) -> Asked {
     asked::with(Kind::Numbers, [s.utzero, s.ustktop, s.ustksize, s.uaddrtop])
 }
 
+// flags C0 .. C7: each a byte.
+fn codes(line: &[u8], a: Asked) -> Asked {
+    let mut next = a;
+    let mut at = 0;
+    let mut i = 0;
+    while i < 8 {
+        at = words::next(line, at);
+        let words::Number::Is(x) = words::decimal(words::word_at(line, at)) else {
+            return asked::wrong(bytes::Why::Bad);
+        };
+        if 255 < x {
+            return asked::wrong(bytes::Why::Bad);
+        }
+        next.flags[i] = x as u8;
+        i += 1;
+    }
+    next
+}
+
+// flags BYTES: the lines of a file.
+fn flags(space: &mut [u8], line: &[u8], a: Asked) -> Asked {
+    let mut b = take_at(space, BYTES_AT, words::word(line, 1), a);
+    if asked::fails(b) {
+        return b;
+    }
+    let read = setup_flags::read_flags(room::part(space, BYTES_AT, b.bytes));
+    if read.number != 0 {
+        return asked::with(Kind::Refused, [read.number, 0, 0, 0]);
+    }
+    let flags = read.flags;
+    b.flags = flags;
+    b
+}
+
 // range NUMBER ADDRESS LENGTH r|w: the fourth number is 1 for w.
 fn range(line: &[u8], a: Asked) -> Asked {
     let mut next = a;
@@ -172,6 +203,8 @@ pub fn read(space: &mut [u8], list: &mut List, line: &[u8], bytes: usize, words:
         Kind::To => take_at(space, BYTES_AT, words::word(line, 3), a),
         Kind::Name => take_at(space, BYTES_AT, words::word(line, 1), a),
         Kind::NumbersFile => numbers(space, line, a),
+        Kind::Flags => codes(line, a),
+        Kind::FlagsFile => flags(space, line, a),
         Kind::Range => range(line, a),
         Kind::Rule => rule(line),
         _ => a,

@@ -1,5 +1,4 @@
-// What the program replay holds by value: the records, the machine's numbers and sizes that the script has made, and how far its input
-// is taken; and the calls that lines ask for, over its frames and book.
+// What the program replay holds by value: records, setup and sizes, and how far its input is taken; and the calls that lines ask for.
 mod listed;
 pub mod run;
 

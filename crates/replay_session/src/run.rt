@@ -99,15 +99,6 @@ pub fn set(book: &mut [u64; BOOK_SIZE], a: Asked)
     }
 }
 
-// Whether a call takes an image, arguments or a list.
-fn enters(a: Asked) -> bool {
-    let kind = a.kind;
-    match kind {
-        Kind::Start | Kind::Replace | Kind::Push | Kind::ForkList => true,
-        _ => false,
-    }
-}
-
 // Runs what a line asks, over as much of frames and book as is lent.
 pub fn run(
     frames: &mut [u8],
@@ -120,8 +111,11 @@ pub fn run(
     let bytes = room::lent(frames, 0, s.lent_bytes);
     let words = room::lent_words(book, s.lent_words);
     let numbers = room::first_words(list, a.count);
-    if enters(a) {
-        return enter(bytes, words, space, numbers, s, a);
+    let kind = a.kind;
+    match kind {
+        Kind::Start | Kind::Replace | Kind::Push | Kind::ForkList => {
+            enter(bytes, words, space, numbers, s, a)
+        }
+        _ => plain(bytes, words, room::lent(space, BYTES_AT, a.bytes), s, a),
     }
-    plain(bytes, words, room::lent(space, BYTES_AT, a.bytes), s, a)
 }

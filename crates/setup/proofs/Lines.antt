@@ -1,7 +1,7 @@
 -- A line of the machine numbers, byte by byte.
 -- Assumes nothing.
 use mathlib.Core.Path.{_≡_, refl, sym, ap, _∙_}
-use mathlib.Core.Bool.{Bool, true, false, and-false}
+use mathlib.Core.Bool.{true, false}
 use mathlib.Core.Option.{Option, none, some}
 use mathlib.Core.List.{List, [], _∷_}
 use Prim.Native.Nat.{ℕ, zero, suc, _+_, _*_, _-_, _^_, _≤_, _<_}
@@ -11,34 +11,15 @@ use native.Mathlib.Omega.{arith}
 use lib.ListN.{length, getD, take, drop, length-drop, drop-of-length-le}
 use lib.Seq.{drop-cons, drop-drop, take-all}
 use borrow.Author.Tests.{eq-eqb, ne-eqb}
-use Rattle.spec.specs.Tests.{_is_, within, same, ascii}
+use Rattle.spec.specs.Tests.{within, ascii}
 use Rattle.spec.specs.SetupText.{Line as Lined, Read, digits, decimalFrom, digitsLine, unread, onLine, readSetup}
 use Rattle.spec.specs.Numbers.{setupOk}
 use Rattle.spec.specs.declared.Setup.{Setup}
+use Rattle.text.proofs.Starts.{starts}
 use Rattle.setup.specs.Said.{said, endOf, lineNamed, judgedAs, onSecond}
 use Rattle.setup.specs.declared.setup_read.Line.{Line}
 use Rattle.setup.specs.declared.setup_read.Line.the-variants.{Is, Bad}
 use Rattle.spec.proofs.Bools.{split, within-test, within-not}
-
--- ---- a name
-
-abbrev pub starts : List ℕ → List ℕ → Bool
-starts name s = same _is_ (take (length name) s) name
-
-pub starts-short : (s name : List ℕ) → length s < length name → starts name s ≡ false
-starts-short s [] h = absurd (omega arith)
-starts-short [] (y ∷ ys) h = refl
-starts-short (x ∷ xs) (y ∷ ys) h = rw (starts-short xs ys (omega arith)) (and-false (x is y))
-
-module _ (s name : List ℕ) (i : ℕ) where
-  pub starts-more : i < length s → i < length name → getD s i 0 ≡ getD name i 0 → starts (drop i name) (drop i s) ≡ starts (drop (i + 1) name) (drop (i + 1) s)
-  starts-more h g e = rw (add-one i, drop-cons s i 0, drop-cons name i 0, eq-eqb (getD s i 0) (getD name i 0) e)
-
-  pub starts-other : i < length s → i < length name → (getD s i 0 ≡ getD name i 0 → ⊥) → starts (drop i name) (drop i s) ≡ false
-  starts-other h g e = rw (drop-cons s i 0, drop-cons name i 0, ne-eqb (getD s i 0) (getD name i 0) e)
-
-  pub starts-end : length name ≤ i → starts (drop i name) (drop i s) ≡ true
-  starts-end h = rw (drop-of-length-le name h)
 
 -- ---- digits
 

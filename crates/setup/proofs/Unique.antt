@@ -13,6 +13,7 @@ use lib.Seq.{drop-cons}
 use borrow.Author.Tests.{ltb-true, ltb-false, lt-ltb, le-ltb, eqb-true, eqb-false, ne-eqb}
 use Rattle.spec.specs.Tests.{_is_, _below_, within, all, same, ascii}
 use Rattle.spec.specs.Listing.{decimalOf, decimal}
+use Rattle.spec.specs.Flags.{builtIn}
 use Rattle.spec.specs.Numbers.{setupOk}
 use Rattle.spec.specs.SetupText.{Line as Lined, Read, digits, decimalFrom, digitsLine, setupText, readSetup, onLine}
 use Rattle.spec.specs.declared.Setup.{Setup}
@@ -137,17 +138,18 @@ nothing-left : (s : Setup) (rest : List ℕ) → (judgedAs s (length rest) .erro
 nothing-left s [] h = refl
 nothing-left s (x ∷ rest) h = absurd (h (rw (ne-eqb (suc (length rest)) 0 (λ z. omega arith))))
 
--- the text of a setup whose numbers have one to 15 digits
+-- the text of a setup with the built-in flag table whose numbers have one to 15 digits
 pub record TextOf (bytes : List ℕ) (s : Setup) : Type 0 where
   pub utzero-short : short (s .utzero)
   pub ustktop-short : short (s .ustktop)
   pub ustksize-short : short (s .ustksize)
   pub uaddrtop-short : short (s .uaddrtop)
+  pub built-in : s .flags ≡ builtIn
   pub text-is : bytes ≡ setupText s
 
 -- four lines that are read, and nothing behind them
 abbrev setupOf : Lined → Lined → Lined → Lined → Setup
-setupOf a b c d = record { utzero = a .number; ustktop = b .number; ustksize = c .number; uaddrtop = d .number }
+setupOf a b c d = record { utzero = a .number; ustktop = b .number; ustksize = c .number; uaddrtop = d .number; flags = builtIn }
 
 module _ (name s : List ℕ) (a : Lined) (x : List ℕ) where
   line-before : lineNamed name s ≡ some a → a .rest ≡ x → short (a .number) × (s ≡ name ++ (decimal (a .number) ++ 10 ∷ x))
@@ -165,6 +167,7 @@ four-lines bytes a b c d ea eb ec ed z =
       ustktop-short = pb .0;
       ustksize-short = pc .0;
       uaddrtop-short = pd .0;
+      built-in = refl;
       text-is = pa .1 ∙ sym (text-lines (setupOf a b c d));
     }
 
@@ -196,7 +199,7 @@ module _ (bytes : List ℕ) where
 
 -- what such a text is read as
 pub text-judged : (bytes : List ℕ) (s : Setup) → TextOf bytes s → readSetup bytes ≡ judgedAs s 0
-text-judged bytes s t = ap readSetup (t .text-is) ∙ round-trip s (t .utzero-short) (t .ustktop-short) (t .ustksize-short) (t .uaddrtop-short)
+text-judged bytes s t = ap readSetup (t .text-is) ∙ round-trip s (t .built-in) (t .utzero-short) (t .ustktop-short) (t .ustksize-short) (t .uaddrtop-short)
 
 -- bytes that are read as a set are the text of that set, so that no other bytes are read as it
 pub read-text : (bytes : List ℕ) → readSetup bytes .error ≡ 0 → bytes ≡ setupText (readSetup bytes .setup)

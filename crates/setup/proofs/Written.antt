@@ -1,5 +1,5 @@
--- The round trip: the four lines that a setup is written as are read back as it. It holds of every setup whose numbers have 1 to 15
--- digits, that is, lie from 1 to 10^15 − 1.
+-- The round trip: the four lines that a setup is written as are read back as it. It holds of every setup with the built-in flag table
+-- whose numbers have 1 to 15 digits, that is, lie from 1 to 10^15 − 1.
 -- Assumes nothing.
 use mathlib.Core.Path.{_≡_, refl, sym, ap, _∙_}
 use mathlib.Core.Bool.{Bool, true}
@@ -13,10 +13,12 @@ use lib.Seq.{drop-append-add, getD-append-seam}
 use borrow.Author.Tests.{ltb-true, ltb-false, lt-ltb, ne-eqb}
 use Rattle.spec.specs.Tests.{_is_, _below_, within, all, ascii}
 use Rattle.spec.specs.Listing.{decimalOf, decimal}
-use Rattle.spec.specs.Numbers.{setupOk}
+use Rattle.spec.specs.Flags.{builtIn}
+use Rattle.spec.specs.Numbers.{setupOk, setupError}
 use Rattle.spec.specs.SetupText.{Line as Lined, Read, digits, decimalFrom, digitsLine, setupText, readSetup, onLine}
 use Rattle.spec.specs.declared.Setup.{Setup}
 use Rattle.spec.proofs.Bools.{split, both, and-test, within-test}
+use Rattle.spec.proofs.Flags.{built-in-ok}
 use Rattle.spec.proofs.Setups.{setup-means}
 use Rattle.setup.specs.Said.{lineNamed, judgedAs, onSecond, onThird, onFourth}
 use Rattle.setup.proofs.Lines.{on-first}
@@ -131,15 +133,16 @@ flat a b c d = parts (ascii "UTZERO=") (ascii "USTKTOP=") (ascii "USTKSIZE=") (a
         ≡ p ++ (a ++ (n ++ (q ++ (b ++ (n ++ (r ++ (c ++ (n ++ (t ++ (d ++ n))))))))))
     parts p q r t n a b c d = simp append-assoc
 
-pub lines-back : (a b c d : List ℕ) (s : Setup) → Written a (s .utzero) → Written b (s .ustktop) → Written c (s .ustksize) → Written d (s .uaddrtop)
+pub lines-back : (a b c d : List ℕ) (s : Setup) → s .flags ≡ builtIn → Written a (s .utzero) → Written b (s .ustktop) → Written c (s .ustksize) → Written d (s .uaddrtop)
     → readSetup (text a b c d) ≡ judgedAs s 0
-lines-back a b c d s wa wb wc wd =
+lines-back a b c d s e wa wb wc wd =
     ap readSetup (flat a b c d)
     ∙ sym (on-first (line-1 a b c d))
     ∙ on-some (lineNamed (ascii "UTZERO=") (line-1 a b c d)) (λ (l : Lined). onSecond (l .number) (l .rest)) (record { number = s .utzero; rest = line-2 b c d }) (line-back a (line-2 b c d) (s .utzero) wa)
     ∙ on-some (lineNamed (ascii "USTKTOP=") (line-2 b c d)) (λ (l : Lined). onThird (s .utzero) (l .number) (l .rest)) (record { number = s .ustktop; rest = line-3 c d }) (line-back b (line-3 c d) (s .ustktop) wb)
     ∙ on-some (lineNamed (ascii "USTKSIZE=") (line-3 c d)) (λ (l : Lined). onFourth (s .utzero) (s .ustktop) (l .number) (l .rest)) (record { number = s .ustksize; rest = line-4 d }) (line-back c (line-4 d) (s .ustksize) wc)
-    ∙ on-some (lineNamed (ascii "UADDRTOP=") (line-4 d)) (λ (l : Lined). judgedAs (record { utzero = s .utzero; ustktop = s .ustktop; ustksize = s .ustksize; uaddrtop = l .number }) (length (l .rest))) (record { number = s .uaddrtop; rest = [] }) (line-back d [] (s .uaddrtop) wd)
+    ∙ on-some (lineNamed (ascii "UADDRTOP=") (line-4 d)) (λ (l : Lined). judgedAs (record { utzero = s .utzero; ustktop = s .ustktop; ustksize = s .ustksize; uaddrtop = l .number; flags = builtIn }) (length (l .rest))) (record { number = s .uaddrtop; rest = [] }) (line-back d [] (s .uaddrtop) wd)
+    ∙ ap (λ (flags : List ℕ). judgedAs (record { utzero = s .utzero; ustktop = s .ustktop; ustksize = s .ustksize; uaddrtop = s .uaddrtop; flags = flags }) 0) (sym e)
 
 -- ---- the laws
 
@@ -158,15 +161,19 @@ text-lines s = text-is s ∙ flat (decimal (s .utzero)) (decimal (s .ustktop)) (
 decimal-written : (n : ℕ) → short n → Written (decimal n) n
 decimal-written n h = written 20 n (omega arith) (h .0) (h .1) (omega (arith, h .1))
 
--- what is written is read back: the set, or 38
-pub round-trip : (s : Setup) → short (s .utzero) → short (s .ustktop) → short (s .ustksize) → short (s .uaddrtop) → readSetup (setupText s) ≡ judgedAs s 0
-round-trip s a b c d =
+-- what is written of a set with the built-in flag table is read back: the set, or 38
+pub round-trip : (s : Setup) → s .flags ≡ builtIn → short (s .utzero) → short (s .ustktop) → short (s .ustksize) → short (s .uaddrtop) → readSetup (setupText s) ≡ judgedAs s 0
+round-trip s e a b c d =
     ap readSetup (text-is s)
-    ∙ lines-back (decimal (s .utzero)) (decimal (s .ustktop)) (decimal (s .ustksize)) (decimal (s .uaddrtop)) s (decimal-written (s .utzero) a) (decimal-written (s .ustktop) b) (decimal-written (s .ustksize) c) (decimal-written (s .uaddrtop) d)
+    ∙ lines-back (decimal (s .utzero)) (decimal (s .ustktop)) (decimal (s .ustksize)) (decimal (s .uaddrtop)) s e (decimal-written (s .utzero) a) (decimal-written (s .ustktop) b) (decimal-written (s .ustksize) c) (decimal-written (s .uaddrtop) d)
 
 -- and a set that meets the conditions is read back as itself
-pub accepted-trip : (s : Setup) → setupOk s ≡ true → readSetup (setupText s) ≡ record { error = 0; setup = s }
-accepted-trip s ok =
-    let f = setup-means s ok in
-    round-trip s (omega (arith, f .text-least), omega (arith, f .room, f .in-space, f .space-most)) (omega (arith, f .stack-fits), omega (arith, f .in-space, f .space-most)) (omega (arith, f .stack-least), omega (arith, f .stack-most)) (omega (arith, f .stack-fits, f .in-space), omega (arith, f .space-most))
+no-error : (s : Setup) → s .flags ≡ builtIn → setupOk s ≡ true → setupError s ≡ 0
+unfolding setupError
+no-error s e ok = rw (ok, e, built-in-ok)
+
+pub accepted-trip : (s : Setup) → s .flags ≡ builtIn → setupOk s ≡ true → readSetup (setupText s) ≡ record { error = 0; setup = s }
+accepted-trip s e ok =
+    let f = setup-means s (no-error s e ok) in
+    round-trip s e (omega (arith, f .text-least), omega (arith, f .room, f .in-space, f .space-most)) (omega (arith, f .stack-fits), omega (arith, f .in-space, f .space-most)) (omega (arith, f .stack-least), omega (arith, f .stack-most)) (omega (arith, f .stack-fits, f .in-space), omega (arith, f .space-most))
     ∙ rw ok

@@ -6,6 +6,7 @@ use mathlib.Core.Option.{Option, none, some}
 use mathlib.Core.List.{List}
 use lib.ListN.{length, take, drop}
 use Rattle.spec.specs.Tests.{_is_, _isnt_, _⇒_else_, same, ascii}
+use Rattle.spec.specs.Flags.{builtIn}
 use Rattle.spec.specs.Numbers.{setupOk}
 use Rattle.spec.specs.SetupText.{Line as Lined, Read, digitsLine, unread, onLine}
 use Rattle.spec.specs.declared.Setup.{Setup}
@@ -41,7 +42,7 @@ judgedAs setup left =
 -- what the lines that are left come to, after the numbers of those read
 abbrev pub onFourth : ℕ → ℕ → ℕ → List ℕ → Read
 onFourth a b c s =
-    onLine (lineNamed (ascii "UADDRTOP=") s) (λ d. judgedAs (record { utzero = a; ustktop = b; ustksize = c; uaddrtop = d .number }) (length (d .rest)))
+    onLine (lineNamed (ascii "UADDRTOP=") s) (λ d. judgedAs (record { utzero = a; ustktop = b; ustksize = c; uaddrtop = d .number; flags = builtIn }) (length (d .rest)))
 
 abbrev pub onThird : ℕ → ℕ → List ℕ → Read
 onThird a b s = onLine (lineNamed (ascii "USTKSIZE=") s) (λ c. onFourth a b (c .number) (c .rest))

@@ -1,12 +1,13 @@
-// The machine's numbers: the deposit's, what follows from a setup's, and refusal 38. A setup that meets no condition may be handed
-// over, so that none of this asks for one that does.
+// The machine's numbers and the flag table: the deposit's, what follows from a setup's, and refusals 38 and 39. A setup that meets no
+// condition may be handed over, so that none of this asks for one that does.
 
 mod setup_put;
 mod setup_read;
 
 ghost use mathlib.Core.Path.{_≡_};
 ghost use Prim.Native.Nat.{_-_};
-ghost use Rattle.spec.specs.Numbers.{deposit as depositOf, limit as limitOf, argLimit, setupOk};
+ghost use Rattle.spec.specs.Flags.{rowOk, flagsOk};
+ghost use Rattle.spec.specs.Numbers.{deposit as depositOf, limit as limitOf, argLimit, setupOk, setupError};
 ghost use Rattle.spec.specs.Book.{stack as stackOf};
 pub use setup_put::numbers_into;
 pub use setup_put::setup_into;
@@ -18,7 +19,10 @@ use spec::Setup;
 // The largest stack.
 const LARGEST: u64 = 65536;
 
-// The deposit machine's numbers.
+// The built-in flag table: flags 5 are text, 4 rodata, 6 data, and all others refused.
+pub const BUILT_IN: [u8; 8] = [0, 0, 0, 0, 2, 1, 3, 0];
+
+// The deposit machine's numbers, with the built-in flag table.
 pub fn deposit() -> Setup
     ensures { λ r. ⌜ r ≡ depositOf ⌝ }
 {
@@ -27,6 +31,7 @@ pub fn deposit() -> Setup
         ustktop: MAX_TOP,
         ustksize: 16384,
         uaddrtop: MAX_TOP,
+        flags: BUILT_IN,
     }
 }
 
@@ -97,4 +102,45 @@ pub fn setup_ok(setup: Setup) -> bool
         & (utzero <= ustktop - ustksize - 8192)
         & (ustktop <= uaddrtop)
         & (uaddrtop <= MAX_TOP)
+}
+
+// Whether a row of a flag table may hold a code: 0 every row; the others rows 4 to 6 alone, text with the execute bit, data with the
+// write bit.
+fn row_ok(row: u8, code: u8) -> bool
+    ensures { λ r. ⌜ r ≡ rowOk row code ⌝ }
+{
+    let open = !(row < 4) & (row < 7);
+    (code == 0)
+        | (open
+            & (((code == 1) & (row % 2 == 1)) | (code == 2) | ((code == 3) & (row / 2 % 2 == 1))))
+}
+
+// Whether a flag table is accepted.
+pub fn flags_ok(flags: [u8; 8]) -> bool
+    ensures { λ r. ⌜ r ≡ flagsOk flags ⌝ }
+{
+    row_ok(7, flags[7])
+        & row_ok(6, flags[6])
+        & row_ok(5, flags[5])
+        & row_ok(4, flags[4])
+        & row_ok(3, flags[3])
+        & row_ok(2, flags[2])
+        & row_ok(1, flags[1])
+        & row_ok(0, flags[0])
+}
+
+// What a setup is refused with: 38 for its numbers, 39 for its flag table, or 0.
+pub fn setup_error(setup: Setup) -> u64
+    ensures { λ r. ⌜ r ≡ setupError setup ⌝ }
+{
+    let flags = setup.flags;
+    let numbers = setup_ok(setup);
+    let table = flags_ok(flags);
+    if !numbers {
+        return spec::SETUP;
+    }
+    if !table {
+        return spec::FLAGS;
+    }
+    0
 }

@@ -3,11 +3,11 @@
 
 ghost use mathlib.Core.Path.{_≡_};
 ghost use Prim.Native.Nat.{_-_, _≤_};
-ghost use lib.ListN.{length, take};
-ghost use Rattle.spec.specs.Tests.{_is_, same};
+ghost use lib.ListN.{length};
 ghost use Rattle.spec.specs.SetupText.{digits, decimalFrom, digitsLine, unread, readSetup};
 ghost use Rattle.setup.specs.Said.{said, endOf, lineNamed, told, judgedAs, onFourth, onThird, onSecond};
 use spec::Setup;
+use text::begins;
 
 // A line's number and the place behind it, or bytes that are not as described.
 pub enum Line {
@@ -15,7 +15,7 @@ pub enum Line {
     Bad,
 }
 
-// What reading comes to: 37, 38, or 0 with the setup; a refusal has zeros.
+// What reading comes to: 37, 38, or 0 with the setup, whose flag table is the built-in one; a refusal has zeros.
 #[repr(C)]
 pub struct SetupRead {
     pub number: u64,
@@ -92,23 +92,6 @@ fn digits_line(s: &[u8]) -> Line
     }
 }
 
-// Whether bytes begin with others.
-fn begins(s: &[u8], name: &[u8]) -> bool
-    ensures { λ r. ⌜ r ≡ same _is_ (take (length (now (name .entry))) (now (s .entry))) (now (name .entry)) ⌝ }
-{
-    if s.len() < name.len() {
-        return false;
-    }
-    let mut i = 0;
-    while i < name.len() {
-        if s[i] != name[i] {
-            return false;
-        }
-        i += 1;
-    }
-    true
-}
-
 // A name with its `=`, and the digits' line behind it.
 fn read_line(s: &[u8], name: &[u8]) -> Line
     ensures { λ r. ⌜ (endOf r ≤ length (now (s .entry))) × (said (now (s .entry)) r ≡ lineNamed (now (name .entry)) (now (s .entry))) ⌝ }
@@ -141,6 +124,7 @@ fn refused(number: u64) -> SetupRead
             ustktop: 0,
             ustksize: 0,
             uaddrtop: 0,
+            flags: [0u8; 8],
         },
     }
 }
@@ -170,6 +154,7 @@ fn fourth_line(s: &[u8], utzero: u64, ustktop: u64, ustksize: u64) -> SetupRead
         ustktop,
         ustksize,
         uaddrtop: number,
+        flags: crate::BUILT_IN,
     };
     judged(setup, s.len() - next)
 }

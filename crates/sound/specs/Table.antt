@@ -6,7 +6,7 @@ use mathlib.Core.Path.{_≡_}
 use mathlib.Core.Bool.{Bool, true, false, not, _&&_}
 use mathlib.Core.List.{List}
 use lib.ListN.{replicate}
-use Rattle.spec.specs.Tests.{_is_}
+use Rattle.spec.specs.Tests.{_is_, _below_}
 use Rattle.spec.specs.declared.Procs.{Procs}
 use Rattle.sound_plan.specs.Plan.{tagsOf, basesOf}
 use Rattle.sound_table.specs.Table.{tableOf}
@@ -25,9 +25,9 @@ pub record Filled (book : List ℕ) (procs : Procs) (number : ℕ) (tags bases t
   pub table-are : table ≡ tableOf book number tags bases
   pub ready : Ready book number tags bases table
 
--- whether the book was found sound before number r was given, or 0: 1, 38 and 2 judge sizes, the setup and the book
+-- whether the book was found sound before number r was given, or 0: 1, 38, 39 and 2 judge sizes, the setup and the book
 abbrev pub found : ℕ → Bool
-found r = not (r is 1) && (not (r is 38) && not (r is 2))
+found r = r below 38 && (not (r is 1) && not (r is 2))
 
 -- what the three lists hold then
 pub record Leaves (r : ℕ) (book : List ℕ) (procs : Procs) (number : ℕ) (tags bases table : List ℕ) : Type 0 where

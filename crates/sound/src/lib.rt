@@ -53,7 +53,7 @@ fn clear(tags: &mut [u64; 272], bases: &mut [u64; 273], table: &mut [u16; 1024])
     *table = [0u16; 1024];
 }
 
-// 38 for the setup, 2 for a book that is not sound, or 0, with the lists for the rest of the call as above. A refusal leaves zeros in
+// 38 or 39 for the setup, 2 for a book that is not sound, or 0, with the lists for the rest of the call as above. A refusal leaves zeros in
 // them.
 pub fn prepare(
     setup: Setup,
@@ -68,8 +68,9 @@ pub fn prepare(
     ensures { λ r. ⌜ r ≡ soundError setup (now (book .entry)) procs ⌝ }
     ensures { λ r. ⌜ Leaves r (now (book .entry)) procs number (now (tags .exit)) (now (bases .exit)) (now (table .exit)) ⌝ }
 {
-    if !setup::setup_ok(setup) {
-        return spec::SETUP;
+    let e = setup::setup_error(setup);
+    if e != 0 {
+        return e;
     }
     if !is_sound(setup, book, procs, number, tags, bases, table) {
         clear(tags, bases, table);

@@ -6,6 +6,7 @@ use mathlib.Core.List.{List, [], _∷_, _++_, map}
 use Prim.Native.Nat.{ℕ, zero, suc, _+_, _-_, _^_}
 use lib.ListN.{replicate, length, set}
 use Rattle.spec.specs.Tests.{_is_, _⇒_else_, all, same, ascii}
+use Rattle.spec.specs.Flags.{builtIn}
 use Rattle.spec.specs.Numbers.{deposit, limit, leBytes}
 use Rattle.spec.specs.Name.{elem, kstrcpy}
 use Rattle.spec.specs.Book.{range, segment, sameSegment, pageCount}
@@ -14,6 +15,7 @@ use Rattle.spec.specs.Exec.{imageError, imageSegments, imageBss, startPi
 use Rattle.spec.specs.Access.{userRangeOk, copyStr}
 use Rattle.spec.specs.Segment.{ibrk}
 use Rattle.spec.specs.Listing.{listError, listing}
+use Rattle.spec.specs.declared.Setup.{Setup}
 
 -- an ELF header whose unlisted fields are valid or 0, and a program header
 abbrev ehdr : ℕ → ℕ → ℕ → List ℕ
@@ -41,21 +43,25 @@ texts (suc k) vaddr = phdr 5 0 vaddr 120 120 ++ texts k (vaddr + 4096)
 abbrev pub many : ℕ → List ℕ
 many k = ehdr 65652 64 k ++ texts k 65536
 
+-- a table that has constants which a build marks writable as rodata (02, 7/13)
+abbrev partner : Setup
+partner = record { utzero = 65536; ustktop = 2 ^ 47; ustksize = 16384; uaddrtop = 2 ^ 47; flags = set builtIn 6 2 }
+
 abbrev lex-mot : List (List ℕ)
 lex-mot = ascii "lex" ∷ ascii "mot" ∷ []
 
 -- what the definitions give, and what the scope says
 abbrev pub starred : List (ℕ × ℕ)
 starred =
-    (elfError (replicate 63 0), 11)
-    ∷ (elfError (replicate 64 0), 12)
-    ∷ (elfError (ehdr 65652 64 0), 27)
-    ∷ (elfError (ehdr 65652 65 0), 20)
-    ∷ (elfError (one 5 120 65656 0 8), 27)
-    ∷ (elfError (one 5 121 65657 0 8), 22)
-    ∷ (elfError (one 13 0 65536 120 120), 0)
-    ∷ (elfError (one 7 0 65536 120 0), 27)
-    ∷ (elfError (one 5 0 (2 ^ 64 - 8192) 0 4096), 27)
+    (elfError builtIn (replicate 63 0), 11)
+    ∷ (elfError builtIn (replicate 64 0), 12)
+    ∷ (elfError builtIn (ehdr 65652 64 0), 27)
+    ∷ (elfError builtIn (ehdr 65652 65 0), 20)
+    ∷ (elfError builtIn (one 5 120 65656 0 8), 27)
+    ∷ (elfError builtIn (one 5 121 65657 0 8), 22)
+    ∷ (elfError builtIn (one 13 0 65536 120 120), 0)
+    ∷ (elfError builtIn (one 7 0 65536 120 0), 27)
+    ∷ (elfError builtIn (one 5 0 (2 ^ 64 - 8192) 0 4096), 27)
     ∷ (argsError deposit (replicate 453 []), 0)
     ∷ (argsError deposit (replicate 454 []), 33)
     ∷ (registers 0 (deposit .ustktop) lex-mot .argv, deposit .ustktop - 32)
@@ -74,31 +80,31 @@ readsBack args =
 -- the others, and the listing
 abbrev unstarred : List (ℕ × ℕ)
 unstarred =
-    (elfError (one 7 0 65536 120 120), 25)
-    ∷ (elfError (one 5 0 (2 ^ 64 - 8192) 0 4097), 24)
+    (elfError builtIn (one 7 0 65536 120 120), 25)
+    ∷ (elfError builtIn (one 5 0 (2 ^ 64 - 8192) 0 4097), 24)
     ∷ (argsError deposit (replicate 4071 7 ∷ []), 0)
     ∷ (argsError deposit (replicate 4072 7 ∷ []), 33)
     ∷ (ibrk deposit (some (range 69816 77824)) (limit deposit + 1) 9 .error, 34)
     ∷ (userRangeOk deposit (λ a. none) false (2 ^ 47) 0 ⇒ 1 else 0, 1)
     ∷ (userRangeOk deposit (λ a. none) false (2 ^ 47 + 1) 0 ⇒ 1 else 0, 0)
     ∷ (copyStr deposit (λ a. none) [] 7 .size, 0)
-    ∷ (elfError (set image184 0 126), 12)
-    ∷ (elfError (set image184 4 1), 13)
-    ∷ (elfError (set image184 5 2), 14)
-    ∷ (elfError (set image184 6 0), 15)
-    ∷ (elfError (set image184 20 2), 15)
-    ∷ (elfError (set image184 16 3), 16)
-    ∷ (elfError (set image184 18 62), 17)
-    ∷ (elfError (set image184 54 64), 18)
-    ∷ (elfError (set image184 24 177), 19)
-    ∷ (elfError (set image184 57 1), 20)
-    ∷ (elfError (set image184 153 32), 21)
-    ∷ (elfError (set image184 152 5), 22)
-    ∷ (elfError (set image184 136 181), 23)
-    ∷ (elfError (set image184 124 2), 25)
-    ∷ (elfError (set image184 137 0), 26)
-    ∷ (elfError (one 5 0 65536 117 120), 0)
-    ∷ (elfError (one 5 0 65536 116 120), 27)
+    ∷ (elfError builtIn (set image184 0 126), 12)
+    ∷ (elfError builtIn (set image184 4 1), 13)
+    ∷ (elfError builtIn (set image184 5 2), 14)
+    ∷ (elfError builtIn (set image184 6 0), 15)
+    ∷ (elfError builtIn (set image184 20 2), 15)
+    ∷ (elfError builtIn (set image184 16 3), 16)
+    ∷ (elfError builtIn (set image184 18 62), 17)
+    ∷ (elfError builtIn (set image184 54 64), 18)
+    ∷ (elfError builtIn (set image184 24 177), 19)
+    ∷ (elfError builtIn (set image184 57 1), 20)
+    ∷ (elfError builtIn (set image184 153 32), 21)
+    ∷ (elfError builtIn (set image184 152 5), 22)
+    ∷ (elfError builtIn (set image184 136 181), 23)
+    ∷ (elfError builtIn (set image184 124 2), 25)
+    ∷ (elfError builtIn (set image184 137 0), 26)
+    ∷ (elfError builtIn (one 5 0 65536 117 120), 0)
+    ∷ (elfError builtIn (one 5 0 65536 116 120), 27)
     ∷ (imageError deposit (set image184 137 0), 30)
     ∷ (imageError deposit (ehdr 116 64 1 ++ phdr 5 0 0 120 120), 30)
     ∷ (imageError deposit (one 5 0 65536 120 (limit deposit - 65536)), 0)
@@ -110,9 +116,11 @@ unstarred =
     ∷ (imageError deposit image184, 0)
     ∷ (entry image184, 65712)
     ∷ (pageCount (startPieces deposit image184), 7)
-    ∷ (imageBss image184 .start, 69816)
-    ∷ (imageBss image184 .end, 77824)
-    ∷ (same sameSegment (imageSegments image184) (segment 65536 69632 1 ∷ segment 69632 73728 3 ∷ []) ⇒ 1 else 0, 1)
+    ∷ (imageBss deposit image184 .start, 69816)
+    ∷ (imageBss deposit image184 .end, 77824)
+    ∷ (same sameSegment (imageSegments deposit image184) (segment 65536 69632 1 ∷ segment 69632 73728 3 ∷ []) ⇒ 1 else 0, 1)
+    ∷ (same sameSegment (imageSegments partner image184) (segment 65536 69632 1 ∷ segment 69632 77824 2 ∷ []) ⇒ 1 else 0, 1)
+    ∷ (imageBss partner image184 .start, 77824)
     ∷ (readsBack lex-mot ⇒ 1 else 0, 1)
     ∷ (readsBack [] ⇒ 1 else 0, 1)
     ∷ (readsBack ([] ∷ (65 ∷ []) ∷ [] ∷ replicate 9 66 ∷ []) ⇒ 1 else 0, 1)

@@ -16,4 +16,6 @@ pub mod ReadBack
 pub mod Runs
 pub mod Tail
 pub mod SetupTexts
+pub mod FlagsTexts
+pub mod Tables
 pub mod Examples

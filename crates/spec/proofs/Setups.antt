@@ -1,4 +1,4 @@
--- An accepted setup, as a test and as facts, and which setups are accepted.
+-- An accepted setup, as tests and as facts, and which setups are accepted.
 use Prim.Native.Nat.{ℕ, _+_, _-_, _%_, _^_, _≤_}
 use native.Mathlib.Omega.{arith}
 use mathlib.Core.Path.{_≡_, refl}
@@ -6,15 +6,31 @@ use mathlib.Core.Bool.{Bool, true, false, not, _&&_}
 use mathlib.Core.List.{List, [], _∷_, map}
 use borrow.Author.Tests.{eqb-true, ltb-true, eq-eqb, lt-ltb, le-ltb}
 use Rattle.spec.proofs.Bools.{both, not-below}
-use Rattle.spec.specs.Tests.{_is_, _below_, _above_, all}
-use Rattle.spec.specs.Numbers.{setupOk, SetupOk, deposit, limit, argLimit}
+use Rattle.spec.specs.Tests.{_is_, _below_, _above_, _⇒_else_, all}
+use Rattle.spec.specs.Flags.{builtIn, flagsOk}
+use Rattle.spec.specs.Numbers.{setupOk, setupError, SetupOk, deposit, limit, argLimit}
 use Rattle.spec.specs.declared.Setup.{Setup}
 
--- the test passes exactly where the facts hold
+-- a number is 38 or 39, and 0 where both tests pass
+two-pass : (a b : Bool) → _≡_ {A = ℕ} (not a ⇒ 38 else not b ⇒ 39 else 0) 0 → (a ≡ true) × (b ≡ true)
+two-pass true true e = (refl, refl)
+two-pass true false e = absurd (omega (arith, e))
+two-pass false b e = absurd (omega (arith, e))
+
+two-numbers : (a b : Bool) (e : ℕ) → e ≡ (not a ⇒ 38 else not b ⇒ 39 else 0) → (e ≡ 0 → ⊥) → (38 ≤ e) × (e ≤ 39)
+two-numbers true true e h ne = absurd (ne h)
+two-numbers true false e h ne = (omega arith, omega arith)
+two-numbers false b e h ne = (omega arith, omega arith)
+
+pub setup-numbers : (setup : Setup) → (setupError setup ≡ 0 → ⊥) → (38 ≤ setupError setup) × (setupError setup ≤ 39)
+unfolding setupError
+setup-numbers setup ne = two-numbers (setupOk setup) (flagsOk (setup .flags)) _ refl ne
+
+-- there is none exactly where the facts hold
 module _ (setup : Setup) where
-  pub setup-means : setupOk setup ≡ true → SetupOk setup
+  setup-facts : setupOk setup ≡ true → flagsOk (setup .flags) ≡ true → SetupOk setup
   unfolding setupOk
-  setup-means e =
+  setup-facts e f =
       let z = setup .utzero in
       let t = setup .ustktop in
       let k = setup .ustksize in
@@ -38,12 +54,18 @@ module _ (setup : Setup) where
         room = not-below (t - k) (z + 8192) (a₃ .1);
         in-space = not-below u t (a₂ .1);
         space-most = not-below (2 ^ 47) u (a₁ .1);
+        table = f;
       }
 
-  pub setup-test : SetupOk setup → setupOk setup ≡ true
-  unfolding setupOk
+  pub setup-means : setupError setup ≡ 0 → SetupOk setup
+  unfolding setupError
+  setup-means e = let p = two-pass (setupOk setup) (flagsOk (setup .flags)) e in setup-facts (p .0) (p .1)
+
+  pub setup-test : SetupOk setup → setupError setup ≡ 0
+  unfolding setupOk setupError
   setup-test h =
       rw (
+        h .table,
         eq-eqb (setup .utzero % 4096) 0 (h .pages .0),
         eq-eqb (setup .ustktop % 4096) 0 (h .pages .1),
         eq-eqb (setup .ustksize % 4096) 0 (h .pages .2),
@@ -59,11 +81,11 @@ module _ (setup : Setup) where
 
 -- the deposit's numbers are accepted
 pub deposit-ok : SetupOk deposit
-unfolding setupOk
+unfolding setupOk flagsOk setupError
 deposit-ok = setup-means deposit refl
 
 abbrev setup : ℕ → ℕ → ℕ → ℕ → Setup
-setup utzero ustktop ustksize uaddrtop = record { utzero = utzero; ustktop = ustktop; ustksize = ustksize; uaddrtop = uaddrtop }
+setup utzero ustktop ustksize uaddrtop = record { utzero = utzero; ustktop = ustktop; ustksize = ustksize; uaddrtop = uaddrtop; flags = builtIn }
 
 -- accepted: the deposit's, the smallest, the largest stack
 pub accepted : all setupOk (deposit ∷ setup 4096 16384 4096 16384 ∷ setup 4096 77824 65536 (2 ^ 47) ∷ []) ≡ true

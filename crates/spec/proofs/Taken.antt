@@ -1,4 +1,4 @@
--- A refusal changes nothing; a setup that breaks a condition is refused directly after 1; a start takes as many frames as its pages
+-- A refusal changes nothing; a setup that is not accepted is refused directly after 1; a start takes as many frames as its pages
 -- count.
 use Prim.Native.Nat.{ℕ, _+_, _≤_}
 use native.Mathlib.Omega.{arith}
@@ -6,12 +6,12 @@ use mathlib.Core.Path.{_≡_, refl}
 use mathlib.Core.Bool.{Bool, true, false, not, _&&_}
 use mathlib.Core.List.{List}
 use lib.ListN.{length}
-use borrow.Author.Tests.{ltb-false}
+use borrow.Author.Tests.{ltb-false, ne-eqb}
 use Rattle.spec.proofs.Bools.{un-not, within-means}
 use Rattle.spec.proofs.Free.{free-place, length-pages, pokes-book}
 use Rattle.spec.specs.Tests.{_is_, _isnt_, _above_, _⇒_else_, sum}
 use Rattle.spec.specs.Book.{valid, free, pageCount}
-use Rattle.spec.specs.Numbers.{setupOk, pageBytes}
+use Rattle.spec.specs.Numbers.{setupError, pageBytes}
 use Rattle.spec.specs.Elf.{segmentsOf, entry}
 use Rattle.spec.specs.Exec.{startPieces, fileByte, argsOf, argsError, imageError, registers}
 use Rattle.spec.specs.Machine.{Ask, start, Call, accepted, refused, Reply, outcome, outcomeOf, refuse, plainly, lengthsFit, judge}
@@ -24,14 +24,14 @@ pub refused-keeps : (s : State) (c : Call) → outcome (answer s c) ≡ refused 
 unfolding after
 refused-keeps s c e = rw e
 
-pub bad-setup : (s : State) (c : Call) → sized (s .store) ≡ true → lengthsFit (c .ask) ≡ true → setupOk (s .setup) ≡ false → answer s c ≡ refuse 38 (c .ask)
+pub bad-setup : (s : State) (c : Call) → sized (s .store) ≡ true → lengthsFit (c .ask) ≡ true → (setupError (s .setup) ≡ 0 → ⊥) → answer s c ≡ refuse (setupError (s .setup)) (c .ask)
 unfolding answer
-bad-setup s c p q r = rw (p, q, r)
+bad-setup s c p q r = rw (p, q, ne-eqb (setupError (s .setup)) 0 r)
 
 loaded-frames : (s : State) (n : ℕ) (image name : List ℕ) (args : List (List ℕ)) → n ≤ 16 → pageCount (startPieces (s .setup) image) ≤ free (s .store .book)
     → free (load s n image name args .store .book) + pageCount (startPieces (s .setup) image) ≡ free (s .store .book)
 loaded-frames s n image name args h l =
-    let f : ℕ → List ℕ = pageBytes (fileByte (segmentsOf image)) in
+    let f : ℕ → List ℕ = pageBytes (fileByte (segmentsOf (s .setup .flags) image)) in
     let e = length-pages f (startPieces (s .setup) image) in
     let p = free-place (s .store) n (pagesOf f (startPieces (s .setup) image)) h (rw e l) in
     rw (pokes-book, pokes-book, ← e) p
@@ -61,9 +61,9 @@ start-takes s n image name bytes lengths e =
     let a3 : Reply = not (valid n) ⇒ refuse 3 q else a4 in
     let a2 : Reply = not (sum lengths is length bytes) ⇒ refuse 1 q else a3 in
     let a1 : Reply = not (sound s) ⇒ refuse 2 q else a2 in
-    let a0 : Reply = not (setupOk (s .setup)) ⇒ refuse 38 q else a1 in
+    let a0 : Reply = setupError (s .setup) isnt 0 ⇒ refuse (setupError (s .setup)) q else a1 in
     let p0 = passed (not (sized (s .store) && sum lengths is length bytes)) 1 q a0 e in
-    let p1 = passed (not (setupOk (s .setup))) 38 q a1 (p0 .1) in
+    let p1 = passed (setupError (s .setup) isnt 0) (setupError (s .setup)) q a1 (p0 .1) in
     let p2 = passed (not (sound s)) 2 q a2 (p1 .1) in
     let p3 = passed (not (sum lengths is length bytes)) 1 q a3 (p2 .1) in
     let p4 = passed (not (valid n)) 3 q a4 (p3 .1) in

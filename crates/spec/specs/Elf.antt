@@ -1,5 +1,5 @@
--- Item 4, elf.rs: the checks 11 to 27 of an image, in their order, and its loadable segments. An image is any bytes; what is not
--- checked here isn't read.
+-- Item 4, elf.rs: the checks 11 to 27 of an image, in their order, and its loadable segments, under a flag table (02, 7/13). An image
+-- is any bytes; what is not checked here isn't read.
 -- Assumes nothing.
 use Prim.Native.Nat.{ℕ, zero, suc, _+_, _*_, _-_, _%_, _^_}
 use mathlib.Core.Bool.{Bool, true, false, not, _&&_, _||_}
@@ -59,10 +59,6 @@ ehdrError image =
     phoff image + 56 * phnum image above length image ⇒ 20 else
     0
 
--- the eight values of the low three flag bits: 5 text (1), 4 rodata (2), 6 data (3), others refused (0)
-abbrev pub flagTable : List ℕ
-flagTable = 0 ∷ 0 ∷ 0 ∷ 0 ∷ 2 ∷ 1 ∷ 3 ∷ 0 ∷ []
-
 -- a program header; the alignment field isn't read
 pub record Phdr : Type 0 where
   pub type : ℕ
@@ -96,21 +92,21 @@ loads p = p .type is 1 && p .memsz isnt 0
 unfoldable pub phdrs : List ℕ → List Phdr
 phdrs image = filter loads (phdrsFrom image (phoff image) (phnum image))
 
--- of the flags only the low three bits count
-abbrev pub flagPerm : Phdr → ℕ
-flagPerm p = getD flagTable (p .flags % 8) 0
+-- of the flags only the low three bits count: they name a row of the table
+abbrev pub flagPerm : List ℕ → Phdr → ℕ
+flagPerm flags p = getD flags (p .flags % 8) 0
 
 -- checks 21 to 26 for each header; `end` is the page end of the segment before it
-unfoldable pub phdrError : List ℕ → ℕ → List Phdr → ℕ
-phdrError image end [] = 0
-phdrError image end (p ∷ ps) =
+unfoldable pub phdrError : List ℕ → List ℕ → ℕ → List Phdr → ℕ
+phdrError flags image end [] = 0
+phdrError flags image end (p ∷ ps) =
     p .filesz above p .memsz ⇒ 21 else
     p .offset + p .filesz above length image ⇒ 22 else
     p .vaddr % 4096 isnt p .offset % 4096 ⇒ 23 else
     p .vaddr + p .memsz above 2 ^ 64 - 4096 ⇒ 24 else
-    flagPerm p is 0 ⇒ 25 else
+    flagPerm flags p is 0 ⇒ 25 else
     pageDown (p .vaddr) below end ⇒ 26 else
-    phdrError image (pageUp (p .vaddr + p .memsz)) ps
+    phdrError flags image (pageUp (p .vaddr + p .memsz)) ps
 
 -- a loadable segment: `memsz` bytes at `vaddr`, of which the first are `file`, and the rest zero
 pub record Segment : Type 0 where
@@ -120,24 +116,24 @@ pub record Segment : Type 0 where
   pub perm : ℕ
 
 -- the segment that a header describes, and all that an image has
-abbrev pub segmentOf : List ℕ → Phdr → Segment
-segmentOf image p = record { vaddr = p .vaddr; memsz = p .memsz; file = take (p .filesz) (drop (p .offset) image); perm = flagPerm p }
+abbrev pub segmentOf : List ℕ → List ℕ → Phdr → Segment
+segmentOf flags image p = record { vaddr = p .vaddr; memsz = p .memsz; file = take (p .filesz) (drop (p .offset) image); perm = flagPerm flags p }
 
-unfoldable pub segmentsOf : List ℕ → List Segment
+unfoldable pub segmentsOf : List ℕ → List ℕ → List Segment
 unfolding phdrs
-segmentsOf image = map (segmentOf image) (phdrs image)
+segmentsOf flags image = map (segmentOf flags image) (phdrs image)
 
 -- an address lies in the file bytes of a segment
 abbrev pub inFile : ℕ → Segment → Bool
 inFile a g = within (g .vaddr) (g .vaddr + length (g .file)) a
 
 -- the entry must lie in the file bytes of some text segment
-abbrev pub entryInText : List ℕ → Bool
-entryInText image = any (λ g. g .perm is 1 && inFile (entry image) g) (segmentsOf image)
+abbrev pub entryInText : List ℕ → List ℕ → Bool
+entryInText flags image = any (λ g. g .perm is 1 && inFile (entry image) g) (segmentsOf flags image)
 
 -- what an image is refused for: 11 to 20, then 21 to 26, then 27; or 0
-unfoldable pub elfError : List ℕ → ℕ
-elfError image =
+unfoldable pub elfError : List ℕ → List ℕ → ℕ
+elfError flags image =
     ehdrError image orElse
-    phdrError image 0 (phdrs image) orElse
-    (entryInText image ⇒ 0 else 27)
+    phdrError flags image 0 (phdrs image) orElse
+    (entryInText flags image ⇒ 0 else 27)

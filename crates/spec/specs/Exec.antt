@@ -39,24 +39,24 @@ userSegment bss g = segment (pageDown (g .vaddr)) (g .perm is 3 ⇒ pageUp (bss 
 abbrev pub kept : VirtRange → List Segment → List UserSegment
 kept bss gs = filter (λ s. s .range .start below s .range .end) (map (userSegment bss) gs)
 
-abbrev pub imageSegments : List ℕ → List UserSegment
-imageSegments image = kept (bssOf (segmentsOf image)) (segmentsOf image)
+abbrev pub imageSegments : Setup → List ℕ → List UserSegment
+imageSegments setup image = kept (bssOf (segmentsOf (setup .flags) image)) (segmentsOf (setup .flags) image)
 
 -- the bss of an image
-abbrev pub imageBss : List ℕ → VirtRange
-imageBss image = bssOf (segmentsOf image)
+abbrev pub imageBss : Setup → List ℕ → VirtRange
+imageBss setup image = bssOf (segmentsOf (setup .flags) image)
 
 -- 30 for any of 11 to 27 or the layout; 31 for over 15 recorded segments; or 0
 abbrev pub imageError : Setup → List ℕ → ℕ
 imageError setup image =
-    elfError image isnt 0 ⇒ 30 else
-    not (layoutOk setup (segmentsOf image)) ⇒ 30 else
-    length (imageSegments image) above 15 ⇒ 31 else
+    elfError (setup .flags) image isnt 0 ⇒ 30 else
+    not (layoutOk setup (segmentsOf (setup .flags) image)) ⇒ 30 else
+    length (imageSegments setup image) above 15 ⇒ 31 else
     0
 
 -- the pages that a start takes, ascending: the image's, the bss's, the stack's
 abbrev pub startPieces : Setup → List ℕ → List UserSegment
-startPieces setup image = imageSegments image ++ bssSegment (imageBss image) ∷ stack setup ∷ []
+startPieces setup image = imageSegments setup image ++ bssSegment (imageBss setup image) ∷ stack setup ∷ []
 
 -- a page holds its file bytes and zero elsewhere
 abbrev pub fileByte : List Segment → ℕ → ℕ
@@ -69,7 +69,7 @@ cellOf byte none = none
 cellOf byte (some perm) = some (record { perm = perm; byte = byte })
 
 abbrev pub loaded : Setup → List ℕ → Mem
-loaded setup image a = cellOf (fileByte (segmentsOf image) a) (permAt (startPieces setup image) a)
+loaded setup image a = cellOf (fileByte (segmentsOf (setup .flags) image) a) (permAt (startPieces setup image) a)
 
 -- ---- arguments
 

@@ -8,7 +8,7 @@ use mathlib.Core.Option.{Option, none, some}
 use mathlib.Core.List.{List, [], _∷_, map}
 use lib.ListN.{length}
 use Rattle.spec.specs.Tests.{_is_, _⇒_else_, all}
-use Rattle.spec.specs.Numbers.{setupOk, argLimit}
+use Rattle.spec.specs.Numbers.{setupError, argLimit}
 use Rattle.spec.specs.Book.{valid, free, pieces, permAt}
 use Rattle.spec.specs.Frames.{Cell, Mem, sized}
 use Rattle.spec.specs.Exec.{argsOf, copyArgv}
@@ -117,7 +117,7 @@ typed s = length (s .procs .all) is 16 && all (λ p. length (p .segments) is 16 
 pub record Begin (s : State) : Type 0 where
   pub types : typed s ≡ true
   pub sizes : sized (s .store) ≡ true
-  pub numbers : setupOk (s .setup) ≡ true
+  pub setup : setupError (s .setup) ≡ 0
   pub book : sound s ≡ true
   pub nobody : (n : ℕ) → taken s n ≡ false
 
@@ -179,8 +179,8 @@ pub data Ran (s : State) : List Entry → State → Type 0 where
 
 -- what a program that calls them in any order may rely on
 pub record Runs : Type 0 where
-  -- each call finds the setup of the beginning, and frames and book sized and sound, so that 38 is never answered, and 1 and 2 only for
-  -- lengths and lists that don't fit
+  -- each call finds the setup of the beginning, and frames and book sized and sound, so that 38 and 39 are never answered, and 1 and 2 only
+  -- for lengths and lists that don't fit
   pub found : (s t : State) → Begin s → (h : List Entry) → Ran s h t → (t .setup ≡ s .setup) × (sized (t .store) ≡ true) × (sound t ≡ true)
   -- readable addresses and bytes are those of the machine fed the process's line
   pub bytes : (s t : State) → Begin s → (h : List Entry) → Ran s h t → (n a : ℕ) → valid n ≡ true → readable t n a ≡ held (machine (s .setup) (linesOf h n)) a

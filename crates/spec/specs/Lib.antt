@@ -1,6 +1,7 @@
 -- Everything that a reader must believe, one module for each of the scope's items, in its order. No module uses one that stands
 -- below it.
 pub mod Tests
+pub mod Flags
 pub mod Numbers
 pub mod Name
 pub mod Book
@@ -16,3 +17,5 @@ pub mod History
 pub mod Sharing
 pub mod Listing
 pub mod SetupText
+pub mod FlagsText
+pub mod Tables

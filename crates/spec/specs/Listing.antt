@@ -1,10 +1,11 @@
 -- The listing program: what it prints for an image. It is the reader's half of the scope that a user sees without starting a
--- process. It keeps the deposit machine's numbers.
+-- process. It keeps the deposit machine's numbers and the built-in flag table.
 -- Assumes nothing.
 use Prim.Native.Nat.{ℕ, zero, suc, _+_, _/_, _%_}
 use mathlib.Core.List.{List, [], _∷_, _++_}
 use lib.ListN.{length}
 use Rattle.spec.specs.Tests.{_is_, _isnt_, _below_, _above_, _⇒_else_, ascii}
+use Rattle.spec.specs.Flags.{builtIn}
 use Rattle.spec.specs.Numbers.{deposit}
 use Rattle.spec.specs.Book.{pageCount}
 use Rattle.spec.specs.Elf.{entry, elfError}
@@ -16,7 +17,7 @@ use Rattle.spec.specs.declared.VirtRange.{VirtRange}
 unfoldable pub listError : List ℕ → ℕ
 listError image =
     length image above 32768 ⇒ 1 else
-    elfError image isnt 0 ⇒ elfError image else
+    elfError builtIn image isnt 0 ⇒ elfError builtIn image else
     imageError deposit image
 
 -- a number in decimal, of at most k digits; 20 digits hold every number below 2^64
@@ -47,6 +48,6 @@ segmentLines (g ∷ gs) = ascii "segment=" ++ kindText (g .perm) ++ rangeText (g
 unfoldable pub listing : List ℕ → List ℕ
 listing image =
     listError image isnt 0 ⇒ ascii "refused=" ++ decimal (listError image) ++ 10 ∷ [] else
-    (ascii "entry=" ++ decimal (entry image) ++ 10 ∷ segmentLines (imageSegments image)
-    ++ ascii "bss=" ++ rangeText (imageBss image)
+    (ascii "entry=" ++ decimal (entry image) ++ 10 ∷ segmentLines (imageSegments deposit image)
+    ++ ascii "bss=" ++ rangeText (imageBss deposit image)
     ++ ascii "pages=" ++ decimal (pageCount (startPieces deposit image)) ++ 10 ∷ [])

@@ -271,8 +271,8 @@ withMem m mem = record { setup = m .setup; segments = m .segments; bss = m .bss;
 abbrev pub begun : Setup → List ℕ → List (List ℕ) → Machine
 begun setup image args = record {
   setup = setup;
-  segments = imageSegments image ++ stack setup ∷ [];
-  bss = imageBss image;
+  segments = imageSegments setup image ++ stack setup ∷ [];
+  bss = imageBss setup image;
   mem = pushed (setup .ustktop) args (loaded setup image);
 }
 

@@ -1,12 +1,13 @@
--- The machine numbers (02, 5/13), whole pages, and little-endian numbers in bytes. Every rule below that needs a machine number is
--- handed the setup that has it.
+-- The machine numbers (02, 5/13), whole pages, and little-endian numbers in bytes. Every rule below that needs a machine number or the
+-- flag table is handed the setup that has it.
 -- Assumes nothing.
 use Prim.Native.Nat.{ℕ, zero, suc, _+_, _*_, _-_, _/_, _%_, _^_, _≤_, _<_}
-use mathlib.Core.Bool.{Bool, not, _&&_}
+use mathlib.Core.Bool.{Bool, true, not, _&&_}
 use mathlib.Core.Path.{_≡_}
 use mathlib.Core.List.{List, [], _∷_}
 use lib.ListN.{getD, replicate}
-use Rattle.spec.specs.Tests.{_is_, _below_, _above_}
+use Rattle.spec.specs.Tests.{_is_, _below_, _above_, _⇒_else_}
+use Rattle.spec.specs.Flags.{builtIn, flagsOk}
 use Rattle.spec.specs.declared.Setup.{Setup}
 
 -- ---- machine numbers. A page is 4,096 bytes, and that number is written out, since a proof divides by numerals only.
@@ -15,9 +16,9 @@ use Rattle.spec.specs.declared.Setup.{Setup}
 abbrev pub maxTop : ℕ
 maxTop = 2 ^ 47
 
--- the deposit machine's (01)
+-- the deposit machine's, with the built-in flag table (01)
 abbrev pub deposit : Setup
-deposit = record { utzero = 65536; ustktop = 2 ^ 47; ustksize = 16384; uaddrtop = 2 ^ 47 }
+deposit = record { utzero = 65536; ustktop = 2 ^ 47; ustksize = 16384; uaddrtop = 2 ^ 47; flags = builtIn }
 
 -- "limit": one guard page lies above it
 abbrev pub limit : Setup → ℕ
@@ -37,7 +38,14 @@ setupOk setup =
     && not (setup .utzero + 8192 above setup .ustktop - setup .ustksize)
     && not (setup .ustktop above setup .uaddrtop) && not (setup .uaddrtop above maxTop)
 
--- the same as facts
+-- what a setup is refused with: 38, then 39 for its flag table (02, 7/13); or 0
+unfoldable pub setupError : Setup → ℕ
+setupError setup =
+    not (setupOk setup) ⇒ 38 else
+    not (flagsOk (setup .flags)) ⇒ 39 else
+    0
+
+-- an accepted setup, as facts
 pub record SetupOk (setup : Setup) : Type 0 where
   pub pages : (setup .utzero % 4096 ≡ 0) × (setup .ustktop % 4096 ≡ 0) × (setup .ustksize % 4096 ≡ 0) × (setup .uaddrtop % 4096 ≡ 0)
   pub text-least : 4096 ≤ setup .utzero
@@ -47,6 +55,7 @@ pub record SetupOk (setup : Setup) : Type 0 where
   pub room : setup .utzero + 8192 ≤ setup .ustktop - setup .ustksize
   pub in-space : setup .ustktop ≤ setup .uaddrtop
   pub space-most : setup .uaddrtop ≤ maxTop
+  pub table : flagsOk (setup .flags) ≡ true
 
 -- frames 1 to 1,024; processes numbered 1 to 16
 abbrev pub maxFrames : ℕ

@@ -5,8 +5,9 @@ use Prim.Native.Nat.{ℕ, _+_, _*_, _-_}
 use mathlib.Core.Bool.{Bool, not}
 use mathlib.Core.Option.{Option, none, some}
 use mathlib.Core.List.{List, [], _∷_, _++_}
-use lib.ListN.{length, take, drop, getD}
+use lib.ListN.{length, take, drop, getD, replicate}
 use Rattle.spec.specs.Tests.{_is_, _isnt_, _above_, within, _⇒_else_, same, ascii}
+use Rattle.spec.specs.Flags.{builtIn}
 use Rattle.spec.specs.Numbers.{setupOk, limit, argLimit}
 use Rattle.spec.specs.Listing.{decimal}
 use Rattle.spec.specs.declared.Setup.{Setup}
@@ -53,13 +54,13 @@ lineOf name bytes =
     let begins : List ℕ = name ++ ascii "=" in
     same _is_ (take (length begins) bytes) begins ⇒ digitsLine (drop (length begins) bytes) else none
 
--- what reading comes to: 37, 38, or 0 with the setup; a refusal answers zeros
+-- what reading comes to: 37, 38, or 0 with the setup, whose flag table is the built-in one; a refusal answers zeros
 pub record Read : Type 0 where
   pub error : ℕ
   pub setup : Setup
 
 abbrev pub unread : ℕ → Read
-unread error = record { error = error; setup = record { utzero = 0; ustktop = 0; ustksize = 0; uaddrtop = 0 } }
+unread error = record { error = error; setup = record { utzero = 0; ustktop = 0; ustksize = 0; uaddrtop = 0; flags = replicate 8 0 } }
 
 -- the line that comes next, or 37
 abbrev pub onLine : Option Line → (Line → Read) → Read
@@ -73,7 +74,7 @@ readSetup bytes =
     onLine (lineOf (ascii "USTKTOP") (a .rest)) (λ b.
     onLine (lineOf (ascii "USTKSIZE") (b .rest)) (λ c.
     onLine (lineOf (ascii "UADDRTOP") (c .rest)) (λ d.
-    let setup : Setup = record { utzero = a .number; ustktop = b .number; ustksize = c .number; uaddrtop = d .number } in
+    let setup : Setup = record { utzero = a .number; ustktop = b .number; ustksize = c .number; uaddrtop = d .number; flags = builtIn } in
     length (d .rest) isnt 0 ⇒ unread 37 else
     not (setupOk setup) ⇒ unread 38 else
     record { error = 0; setup = setup }))))

@@ -7,8 +7,8 @@ use mathlib.Core.Bool.{Bool, true, not, _&&_}
 use mathlib.Core.Option.{Option, none, some}
 use mathlib.Core.List.{List, [], _∷_, _++_}
 use lib.ListN.{length, getD, set, replicate}
-use Rattle.spec.specs.Tests.{_is_, within, _⇒_else_}
-use Rattle.spec.specs.Numbers.{setupOk, pageUp, pageBytes, zeroPage}
+use Rattle.spec.specs.Tests.{_is_, _isnt_, within, _⇒_else_}
+use Rattle.spec.specs.Numbers.{setupError, pageUp, pageBytes, zeroPage}
 use Rattle.spec.specs.Name.{elem, kstrcpy}
 use Rattle.spec.specs.Book.{valid, frameOf, free, alone, dataOnly, range, segment, zeroSegment, zeroProc, lives, used, stack, piecesOf, procAt}
 use Rattle.spec.specs.Frames.{Store, store, sized, memOf, pagesOf, place, share, release, frameBytes, pokes}
@@ -53,12 +53,12 @@ view s n = record {
 abbrev pub aloneFor : State → Call → ℕ
 aloneFor s c = replaces (c .ask) ⇒ alone (s .store .book) (c .number) else 0
 
--- 1, 38 and 2 judge what is lent and handed over; all else is judged over what the process holds, the free frames, for replace those
+-- 1, 38, 39 and 2 judge what is lent and handed over; all else is judged over what the process holds, the free frames, for replace those
 -- held alone, and the numbers taken
 unfoldable pub answer : State → Call → Reply
 answer s c =
     not (sized (s .store) && lengthsFit (c .ask)) ⇒ refuse 1 (c .ask) else
-    not (setupOk (s .setup)) ⇒ refuse 38 (c .ask) else
+    setupError (s .setup) isnt 0 ⇒ refuse (setupError (s .setup)) (c .ask) else
     not (sound s) ⇒ refuse 2 (c .ask) else
     judge (view s (c .number)) (free (s .store .book)) (aloneFor s c) (taken s) c
 
@@ -90,16 +90,16 @@ forget s n = record { setup = s .setup; store = release (s .store) n (λ page. t
 -- the record of an image: its segments and the stack, the last element of a name, and its bss
 abbrev pub procOf : Setup → List ℕ → List ℕ → Proc
 procOf setup image name = record {
-  segments = imageSegments image ++ stack setup ∷ replicate (15 - length (imageSegments image)) zeroSegment;
+  segments = imageSegments setup image ++ stack setup ∷ replicate (15 - length (imageSegments setup image)) zeroSegment;
   text = kstrcpy (elem name);
-  bss = imageBss image;
+  bss = imageBss setup image;
 }
 
 -- an image's pages, ascending, then its arguments; and its record
 abbrev pub load : State → ℕ → List ℕ → List ℕ → List (List ℕ) → State
 load s n image name args = record {
   setup = s .setup;
-  store = pushIn (place (s .store) n (pagesOf (pageBytes (fileByte (segmentsOf image))) (startPieces (s .setup) image))) n (s .setup .ustktop) args;
+  store = pushIn (place (s .store) n (pagesOf (pageBytes (fileByte (segmentsOf (s .setup .flags) image))) (startPieces (s .setup) image))) n (s .setup .ustktop) args;
   procs = setProc (s .procs) n (procOf (s .setup) image name);
 }
 

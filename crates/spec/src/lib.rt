@@ -10,7 +10,8 @@ pub const MAX_TOP: u64 = 140737488355328;
 // What arguments may take of the largest stack that a setup may have: buffers are of this size.
 pub const MAX_ARGS: u64 = 16384;
 
-// What is fixed before the first start and handed to every call: the machine's numbers, as fake.rs has them for its own.
+// What is fixed before the first start and handed to every call: the machine's numbers, as fake.rs has them for its own, and the flag
+// table, which r9 has in its code.
 #[repr(C)]
 pub struct Setup {
     // Where user text may begin.
@@ -20,6 +21,8 @@ pub struct Setup {
     pub ustksize: u64,
     // The end of the user address space.
     pub uaddrtop: u64,
+    // What the low three bits of a segment's flags stand for, a row for each value: a permission below, or 0 for refused.
+    pub flags: [u8; 8],
 }
 
 // Permissions of segments and pages, in records and in book words.
@@ -43,6 +46,8 @@ pub const TAKEN: u64 = 5;
 pub const SETUP_LINES: u64 = 37;
 
 pub const SETUP: u64 = 38;
+
+pub const FLAGS: u64 = 39;
 
 pub const EBADEXEC: u64 = 30;
 

@@ -1,12 +1,13 @@
 -- Short histories on the 184-byte image, computed under a small setup: a process starts, writes, breaks and forks, and parent and child
--- differ afterwards; frames are few and text is shared; and a setup that is turned away.
+-- differ afterwards; frames are few and text is shared; and setups that are turned away.
 use mathlib.Core.Path.{_≡_, refl}
 use mathlib.Core.Bool.{true, false}
 use mathlib.Core.List.{List, [], _∷_, map}
 use Prim.Native.Nat.{ℕ, _-_, _*_}
-use lib.ListN.{replicate}
+use lib.ListN.{replicate, set}
 use Rattle.spec.specs.Tests.{_is_, all, same, ascii}
-use Rattle.spec.specs.Numbers.{setupOk, pageBytes, zeroPage}
+use Rattle.spec.specs.Flags.{builtIn, flagsOk}
+use Rattle.spec.specs.Numbers.{setupOk, setupError, pageBytes, zeroPage}
 use Rattle.spec.specs.Book.{zeroProc, segment, stack}
 use Rattle.spec.specs.Frames.{place, share, release, pokes}
 use Rattle.spec.specs.Sound.{soundBook}
@@ -20,7 +21,7 @@ use Rattle.spec.proofs.Examples.{image184}
 
 -- a school's setup: 1 MB of addresses, one page of stack
 abbrev school : Setup
-school = record { utzero = 65536; ustktop = 1048576; ustksize = 4096; uaddrtop = 1048576 }
+school = record { utzero = 65536; ustktop = 1048576; ustksize = 4096; uaddrtop = 1048576; flags = builtIn }
 
 -- frames and book with no process
 abbrev fresh : Setup → ℕ → State
@@ -63,7 +64,7 @@ pub played : map told (play (fresh school 10) calls)
     ≡ (0 ∷ 0 ∷ []) ∷ (0 ∷ 0 ∷ 1 ∷ 2 ∷ 3 ∷ 4 ∷ 0 ∷ 0 ∷ []) ∷ (0 ∷ 0 ∷ []) ∷ (0 ∷ 0 ∷ []) ∷ (0 ∷ 0 ∷ 0 ∷ 0 ∷ 0 ∷ []) ∷ (0 ∷ 0 ∷ []) ∷ (0 ∷ 0 ∷ [])
     ∷ (0 ∷ 0 ∷ 5 ∷ 6 ∷ []) ∷ (0 ∷ 0 ∷ 7 ∷ 6 ∷ []) ∷ (0 ∷ 0 ∷ []) ∷ (0 ∷ 0 ∷ 5 ∷ 6 ∷ []) ∷ (0 ∷ 1 ∷ []) ∷ (0 ∷ 3 ∷ 108 ∷ 101 ∷ 120 ∷ 9 ∷ 9 ∷ [])
     ∷ (35 ∷ 0 ∷ []) ∷ (4 ∷ 0 ∷ []) ∷ (0 ∷ 0 ∷ []) ∷ []
-unfolding setupOk ehdrError phdrs phdrError segmentsOf elfError ibrk argBuffer copyArgv place share release pokes soundBook pageBytes zeroPage judge answer after
+unfolding setupOk flagsOk setupError ehdrError phdrs phdrError segmentsOf elfError ibrk argBuffer copyArgv place share release pokes soundBook pageBytes zeroPage judge answer after
 played = refl
 
 -- ---- its limits
@@ -78,7 +79,7 @@ pub at-school : map told (play (fresh school 4)
     ∷ call 1 (user-range-ok 1048577 0 true)
     ∷ []))
     ≡ (33 ∷ 0 ∷ []) ∷ (0 ∷ 0 ∷ []) ∷ (34 ∷ 0 ∷ []) ∷ (33 ∷ 0 ∷ []) ∷ (0 ∷ 1 ∷ []) ∷ (0 ∷ 0 ∷ []) ∷ []
-unfolding setupOk ehdrError phdrs phdrError segmentsOf elfError ibrk argBuffer copyArgv place share release pokes soundBook pageBytes zeroPage judge answer after
+unfolding setupOk flagsOk setupError ehdrError phdrs phdrError segmentsOf elfError ibrk argBuffer copyArgv place share release pokes soundBook pageBytes zeroPage judge answer after
 at-school = refl
 
 -- ---- shared text
@@ -98,22 +99,33 @@ begin = call 1 (start image184 (ascii "bin/lex") [] [])
 
 -- a start takes four frames, a fork three more
 pub too-few : map told (play (fresh school 6) (begin ∷ forked ∷ [])) ≡ (0 ∷ 0 ∷ []) ∷ (33 ∷ 0 ∷ []) ∷ []
-unfolding setupOk ehdrError phdrs phdrError segmentsOf elfError ibrk argBuffer copyArgv place share release pokes soundBook pageBytes zeroPage judge answer after
+unfolding setupOk flagsOk setupError ehdrError phdrs phdrError segmentsOf elfError ibrk argBuffer copyArgv place share release pokes soundBook pageBytes zeroPage judge answer after
 too-few = refl
 
 -- a child that replaces its image wants four, and holds three alone: it ends. Once its parent has ended, a child has the text alone
 pub shared : map told (play (fresh school 7) (begin ∷ forked ∷ text 1 ∷ text 2 ∷ again ∷ text 2 ∷ forked ∷ call 1 end ∷ text 2 ∷ again ∷ text 2 ∷ []))
     ≡ (0 ∷ 0 ∷ []) ∷ (0 ∷ 0 ∷ []) ∷ (0 ∷ 0 ∷ 127 ∷ 69 ∷ 76 ∷ 70 ∷ []) ∷ (0 ∷ 0 ∷ 127 ∷ 69 ∷ 76 ∷ 70 ∷ []) ∷ (33 ∷ 0 ∷ []) ∷ (4 ∷ 0 ∷ 9 ∷ 9 ∷ 9 ∷ 9 ∷ [])
     ∷ (0 ∷ 0 ∷ []) ∷ (0 ∷ 0 ∷ []) ∷ (0 ∷ 0 ∷ 127 ∷ 69 ∷ 76 ∷ 70 ∷ []) ∷ (0 ∷ 0 ∷ []) ∷ (0 ∷ 0 ∷ 127 ∷ 69 ∷ 76 ∷ 70 ∷ []) ∷ []
-unfolding setupOk ehdrError phdrs phdrError segmentsOf elfError ibrk argBuffer copyArgv place share release pokes soundBook pageBytes zeroPage judge answer after
+unfolding setupOk flagsOk setupError ehdrError phdrs phdrError segmentsOf elfError ibrk argBuffer copyArgv place share release pokes soundBook pageBytes zeroPage judge answer after
 shared = refl
 
--- ---- a bad setup
+-- ---- bad setups
 
--- 1 comes before 38, and 38 before all else
+-- 1 comes before 38, 38 before 39, and both before all else; a flag table is judged whole, whatever an image uses
+-- flags 7, readable, writable and executable, as data
+abbrev sevenData : List ℕ
+sevenData = set builtIn 7 3
+
 abbrev bad : Setup
-bad = record { utzero = 65536; ustktop = 1048576; ustksize = 4095; uaddrtop = 1048576 }
+bad = record { utzero = 65536; ustktop = 1048576; ustksize = 4095; uaddrtop = 1048576; flags = sevenData }
+
+abbrev worse : Setup
+worse = record { utzero = 65536; ustktop = 1048576; ustksize = 4096; uaddrtop = 1048576; flags = sevenData }
 
 pub turned-away : map told (play (fresh bad 16) (call 1 (start image184 [] [] (1 ∷ [])) ∷ call 17 end ∷ [])) ≡ (1 ∷ 0 ∷ []) ∷ (38 ∷ 0 ∷ []) ∷ []
-unfolding setupOk judge answer after
+unfolding setupOk flagsOk setupError judge answer after
 turned-away = refl
+
+pub table-turned-away : map told (play (fresh worse 16) (call 1 (start image184 [] [] (1 ∷ [])) ∷ call 1 (start image184 [] [] []) ∷ call 17 end ∷ [])) ≡ (1 ∷ 0 ∷ []) ∷ (39 ∷ 0 ∷ []) ∷ (39 ∷ 0 ∷ []) ∷ []
+unfolding setupOk flagsOk setupError judge answer after
+table-turned-away = refl

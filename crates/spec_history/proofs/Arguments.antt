@@ -50,9 +50,9 @@ module _ (setup : Setup) (set : SetupOk setup) (image : List ℕ) (ok : imageErr
   stack-perm : (a : ℕ) → setup .ustktop - setup .ustksize ≤ a → a < setup .ustktop → permAt (startPieces setup image) a ≡ some 3
   stack-perm a l h =
       let p = start-apart setup set image ok in
-      let q = later-pieces (imageSegments image) (bssSegment (imageBss image) ∷ stack setup ∷ []) p in
-      behind (imageSegments image) (bssSegment (imageBss image) ∷ stack setup ∷ []) a 3 p
-      (perm-tail (bssSegment (imageBss image)) (stack setup ∷ []) a 3 (q .0) (perm-here (stack setup) [] a (within-test (setup .ustktop - setup .ustksize) (setup .ustktop) a l h)))
+      let q = later-pieces (imageSegments setup image) (bssSegment (imageBss setup image) ∷ stack setup ∷ []) p in
+      behind (imageSegments setup image) (bssSegment (imageBss setup image) ∷ stack setup ∷ []) a 3 p
+      (perm-tail (bssSegment (imageBss setup image)) (stack setup ∷ []) a 3 (q .0) (perm-here (stack setup) [] a (within-test (setup .ustktop - setup .ustksize) (setup .ustktop) a l h)))
 
   writable : (b : ℕ) (o : Option ℕ) → o ≡ some 3 → cellOk true (cellOf b o) ≡ true
   writable b o e = rw e refl
@@ -63,8 +63,8 @@ module _ (setup : Setup) (set : SetupOk setup) (image : List ℕ) (ok : imageErr
 
   by-page : (a : ℕ) → cellOk true (loaded setup image a) ≡ cellOk true (loaded setup image (pageDown a))
   by-page a =
-      by-perm (fileByte (segmentsOf image) a) (fileByte (segmentsOf image) (pageDown a)) (permAt (startPieces setup image) a)
-      ∙ ap (λ (o : Option ℕ). cellOk true (cellOf (fileByte (segmentsOf image) (pageDown a)) o)) (sym (perm-page (startPieces setup image) a (start-apart setup set image ok)))
+      by-perm (fileByte (segmentsOf (setup .flags) image) a) (fileByte (segmentsOf (setup .flags) image) (pageDown a)) (permAt (startPieces setup image) a)
+      ∙ ap (λ (o : Option ℕ). cellOk true (cellOf (fileByte (segmentsOf (setup .flags) image) (pageDown a)) o)) (sym (perm-page (startPieces setup image) a (start-apart setup set image ok)))
 
   stack-range : (addr len : ℕ) → setup .ustktop - setup .ustksize ≤ addr → addr + len ≤ setup .ustktop → InRange setup (loaded setup image) true addr len
   stack-range addr len l h = record {

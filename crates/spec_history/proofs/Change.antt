@@ -56,7 +56,7 @@ pub change-good : (s t : State) → Good s → (n : ℕ) (m : Machine) → Chang
 change-good s t g n m c = record {
   types = whole-typed t (c .whole);
   sizes = c .stored .sizes;
-  numbers = rw (c .setup) (g .numbers);
+  setup = rw (c .setup) (g .setup);
   book =
       rw (c .setup) (facts-sound (s .setup) (t .store .book) (t .procs) (c .whole)
       (record { accepted = good-setup s g; mappings = c .stored .mappings; shape = shape; exact = exact }));

@@ -42,30 +42,30 @@ load-change s g n image name args v t e room fit =
     (stored-pushed (s .setup) (s .store) m n (loaded (s .setup) image)
     (subst (Stored (s .setup) (s .store) m n) (fun-ext seen)
     (stored-place (s .setup) (s .store) (s .store) n (view s n .mem) (stored-self s g n) v f (startPieces (s .setup) image) (start-apart (s .setup) (good-setup s g) image e)
-    (λ a q h. let x = start-perm (s .setup) image e a q h in let y = start-between (s .setup) (good-setup s g) image e a q h in (x .0, x .1, y .0, y .1)) (λ a q z h. length-page (fileByte (segmentsOf image)) a) (λ a q z h. empty a) room))
+    (λ a q h. let x = start-perm (s .setup) (good-setup s g) image e a q h in let y = start-between (s .setup) (good-setup s g) image e a q h in (x .0, x .1, y .0, y .1)) (λ a q z h. length-page (fileByte (segmentsOf (s .setup .flags) image)) a) (λ a q z h. empty a) room))
     v (s .setup .ustktop) args (λ x q l u. data-here x q (omega arith)) (λ x q l u. data-here x q (omega arith)))
-    (proc-whole (s .setup) image name e) (λ l. (imageSegments image, image-shape (s .setup) (good-setup s g) image name e))
-    (exact-pushed (holds (s .setup) p (loaded (s .setup) image)) (λ a. cell-perm (permAt (startPieces (s .setup) image) a) (fileByte (segmentsOf image) a) ∙ start-pieces (s .setup) (good-setup s g) image name e a) (s .setup .ustktop) args))
+    (proc-whole (s .setup) image name e) (λ l. (imageSegments (s .setup) image, image-shape (s .setup) (good-setup s g) image name e))
+    (exact-pushed (holds (s .setup) p (loaded (s .setup) image)) (λ a. cell-perm (permAt (startPieces (s .setup) image) a) (fileByte (segmentsOf (s .setup .flags) image) a) ∙ start-pieces (s .setup) (good-setup s g) image name e a) (s .setup .ustktop) args))
   where
     p : Proc
     p = procOf (s .setup) image name
 
     f : ℕ → List ℕ
-    f = pageBytes (fileByte (segmentsOf image))
+    f = pageBytes (fileByte (segmentsOf (s .setup .flags) image))
 
     m : Store
     m = place (s .store) n (pagesOf f (startPieces (s .setup) image))
 
     data-here : (x q : ℕ) → limit (s .setup) ≤ x → permIn (loaded (s .setup) image x) ≡ some q → q ≡ 3
-    data-here x q l f = start-data (s .setup) (good-setup s g) image e x q l (sym (cell-perm (permAt (startPieces (s .setup) image) x) (fileByte (segmentsOf image) x)) ∙ f)
+    data-here x q l f = start-data (s .setup) (good-setup s g) image e x q l (sym (cell-perm (permAt (startPieces (s .setup) image) x) (fileByte (segmentsOf (s .setup .flags) image) x)) ∙ f)
 
     begun-is : holds (s .setup) p (pushed (s .setup .ustktop) args (loaded (s .setup) image)) ≡ begun (s .setup) image args
-    begun-is = let x = shape-used (s .setup) p (imageSegments image) (image-shape (s .setup) (good-setup s g) image name e) in λ i. record { setup = s .setup; segments = x i; bss = p .bss; mem = pushed (s .setup .ustktop) args (loaded (s .setup) image) }
+    begun-is = let x = shape-used (s .setup) p (imageSegments (s .setup) image) (image-shape (s .setup) (good-setup s g) image name e) in λ i. record { setup = s .setup; segments = x i; bss = p .bss; mem = pushed (s .setup .ustktop) args (loaded (s .setup) image) }
 
     empty : (a : ℕ) → view s n .mem a ≡ none
     empty a = ap (λ (x : Machine). x .mem a) (dead-view s g n v t)
 
     seen : (a : ℕ) → cellOr (permAt (startPieces (s .setup) image) a) (getD (f (pageDown a)) (a % 4096) 0) (view s n .mem a) ≡ loaded (s .setup) image a
     seen a =
-        ap₂ (cellOr (permAt (startPieces (s .setup) image) a)) (page-byte (fileByte (segmentsOf image)) a) (empty a)
-        ∙ cell-same (permAt (startPieces (s .setup) image) a) (fileByte (segmentsOf image) a)
+        ap₂ (cellOr (permAt (startPieces (s .setup) image) a)) (page-byte (fileByte (segmentsOf (s .setup .flags) image)) a) (empty a)
+        ∙ cell-same (permAt (startPieces (s .setup) image) a) (fileByte (segmentsOf (s .setup .flags) image) a)

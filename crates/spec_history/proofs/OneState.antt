@@ -71,7 +71,7 @@ dead-view s g n v t =
     λ i. record { setup = s .setup; segments = used (p i .segments); bss = p i .bss; mem = λ a. cell a i }
 
 begins-good : (s : State) → Begin s → Good s
-begins-good s b = record { types = b .types; sizes = b .sizes; numbers = b .numbers; book = b .book }
+begins-good s b = record { types = b .types; sizes = b .sizes; setup = b .setup; book = b .book }
 
 pub first : (s : State) → Begin s → (n : ℕ) → valid n ≡ true → view s n ≡ off (s .setup)
 first s b n v = dead-view s (begins-good s b) n v (b .nobody n)

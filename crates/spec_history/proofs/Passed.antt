@@ -3,10 +3,11 @@ use Prim.Native.Nat.{ℕ}
 use native.Mathlib.Omega.{arith}
 use mathlib.Core.Path.{_≡_, refl, sym}
 use mathlib.Core.Bool.{Bool, true, false, not, _&&_}
+use borrow.Author.Tests.{eq-eqb}
 use Rattle.spec.proofs.Bools.{both}
 use Rattle.spec.proofs.Setups.{setup-means}
-use Rattle.spec.specs.Tests.{_⇒_else_}
-use Rattle.spec.specs.Numbers.{setupOk, SetupOk}
+use Rattle.spec.specs.Tests.{_is_, _⇒_else_}
+use Rattle.spec.specs.Numbers.{setupError, SetupOk}
 use Rattle.spec.specs.Book.{valid, free}
 use Rattle.spec.specs.Frames.{sized}
 use Rattle.spec.specs.Machine.{Ask, Call, Kind, begins, forks, plain, kind, Outcome, accepted, refused, ended, Reply, outcome, refuse, Machine, judge, weigh, lengthsFit, listFits, numbered, living, unclaimed}
@@ -17,11 +18,11 @@ use Rattle.spec.specs.History.{typed}
 pub record Good (s : State) : Type 0 where
   pub types : typed s ≡ true
   pub sizes : sized (s .store) ≡ true
-  pub numbers : setupOk (s .setup) ≡ true
+  pub setup : setupError (s .setup) ≡ 0
   pub book : sound s ≡ true
 
 pub good-setup : (s : State) → Good s → SetupOk (s .setup)
-good-setup s g = setup-means (s .setup) (g .numbers)
+good-setup s g = setup-means (s .setup) (g .setup)
 
 -- in a sound book under an accepted setup the answer is the table's over what the caller sees
 answer-chain : (a b d e : Bool) (x y z : Reply) (f : Bool → Reply) → a ≡ true → d ≡ true → e ≡ true → f b ≡ (not b ⇒ x else f true)
@@ -32,13 +33,13 @@ answer-chain a false d e x y z f p q u r = rw p (sym r)
 pub answered : (s : State) → Good s → (c : Call) → answer s c ≡ judge (view s (c .number)) (free (s .store .book)) (aloneFor s c) (taken s) c
 unfolding answer judge
 answered s g c =
-    answer-chain (sized (s .store)) (lengthsFit (c .ask)) (setupOk (s .setup)) (sound s) (refuse 1 (c .ask)) (refuse 38 (c .ask)) (refuse 2 (c .ask))
+    answer-chain (sized (s .store)) (lengthsFit (c .ask)) (setupError (s .setup) is 0) (sound s) (refuse 1 (c .ask)) (refuse (setupError (s .setup)) (c .ask)) (refuse 2 (c .ask))
     (λ b. not b ⇒ refuse 1 (c .ask) else
     not (listFits (view s (c .number)) (c .number) (kind (c .ask))) ⇒ refuse 2 (c .ask) else
     not (numbered (c .number) (kind (c .ask))) ⇒ refuse 3 (c .ask) else
     not (living (taken s) (c .number) (kind (c .ask))) ⇒ refuse 4 (c .ask) else
     not (unclaimed (taken s) (c .number) (kind (c .ask))) ⇒ refuse 5 (c .ask) else
-    weigh (view s (c .number)) (free (s .store .book)) (aloneFor s c) (c .ask)) (g .sizes) (g .numbers) (g .book) refl
+    weigh (view s (c .number)) (free (s .store .book)) (aloneFor s c) (c .ask)) (g .sizes) (eq-eqb (setupError (s .setup)) 0 (g .setup)) (g .book) refl
 
 -- ---- a call that is not refused
 

@@ -55,12 +55,12 @@ text-data (g ∷ gs) = let h = text-data gs in split (g .perm is 3) (λ q. rw q 
 -- what a fork of a program copies is the data that its start took
 begun-copied : (setup : Setup) (image : List ℕ) (args : List (List ℕ)) → copied (begun setup image args) ≡ pageCount (dataOnly (startPieces setup image))
 begun-copied setup image args =
-    let gs : List UserSegment = imageSegments image in
+    let gs : List UserSegment = imageSegments setup image in
     let t : UserSegment → Bool = λ g. g .perm is 3 in
     let s : List UserSegment = stack setup ∷ [] in
-    let b : List UserSegment = bssSegment (imageBss image) ∷ [] in
+    let b : List UserSegment = bssSegment (imageBss setup image) ∷ [] in
     let x : dataOnly ((gs ++ s) ++ b) ≡ (dataOnly gs ++ s) ++ b = only-append t (gs ++ s) b ∙ ap (λ (y : List UserSegment). y ++ b) (only-append t gs s) in
-    ap pageCount x ∙ count-append (dataOnly gs ++ s) b ∙ omega (arith, count-append (dataOnly gs) s, count-append (dataOnly gs) (bssSegment (imageBss image) ∷ s), ap pageCount (only-append t gs (bssSegment (imageBss image) ∷ s)))
+    ap pageCount x ∙ count-append (dataOnly gs ++ s) b ∙ omega (arith, count-append (dataOnly gs) s, count-append (dataOnly gs) (bssSegment (imageBss setup image) ∷ s), ap pageCount (only-append t gs (bssSegment (imageBss setup image) ∷ s)))
 
 -- ---- frames counted
 

@@ -158,14 +158,14 @@ pub record Unpushed (setup : Setup) (args : List (List ℕ)) (a : ℕ) : Type 0 
 -- in a page of an image or its stack it holds its file byte, or 0
 start-byte : (s : State) → Good s → (n : ℕ) (image name bytes lengths : List ℕ) → outcome (answer s (call n (start image name bytes lengths))) ≡ accepted
     → (a q : ℕ) → permAt (startPieces (s .setup) image) a ≡ some q → Unpushed (s .setup) (argsOf bytes lengths) a
-    → readable (after s (call n (start image name bytes lengths))) n a ≡ some (fileByte (segmentsOf image) a)
+    → readable (after s (call n (start image name bytes lengths))) n a ≡ some (fileByte (segmentsOf (s .setup .flags) image) a)
 start-byte s g n image name bytes lengths e a q p out = start-reads s g n image name bytes lengths e a ∙ rw (out .no-pointer, out .no-string, p)
 
 -- so a page is zero but for file bytes and pushed arguments
 pub start-zero : (s : State) → Good s → (n : ℕ) (image name bytes lengths : List ℕ) → outcome (answer s (call n (start image name bytes lengths))) ≡ accepted
-    → (a q : ℕ) → permAt (startPieces (s .setup) image) a ≡ some q → Unpushed (s .setup) (argsOf bytes lengths) a → any (inFile a) (segmentsOf image) ≡ false
+    → (a q : ℕ) → permAt (startPieces (s .setup) image) a ≡ some q → Unpushed (s .setup) (argsOf bytes lengths) a → any (inFile a) (segmentsOf (s .setup .flags) image) ≡ false
     → readable (after s (call n (start image name bytes lengths))) n a ≡ some 0
-start-zero s g n image name bytes lengths e a q p out none-in = start-byte s g n image name bytes lengths e a q p out ∙ ap some (go (segmentsOf image) none-in)
+start-zero s g n image name bytes lengths e a q p out none-in = start-byte s g n image name bytes lengths e a q p out ∙ ap some (go (segmentsOf (s .setup .flags) image) none-in)
   where
     go : (gs : List Segment) → any (inFile a) gs ≡ false → fileByte gs a ≡ 0
     go [] h = refl

@@ -230,7 +230,7 @@ pub record Laws : Type 0 where
 
 module _ (laws : Laws) (s : State) (b : Begin s) where
   pub good-after : (h : List Call) → Good (state s h)
-  good-after [] = record { types = b .types; sizes = b .sizes; numbers = b .numbers; book = b .book }
+  good-after [] = record { types = b .types; sizes = b .sizes; setup = b .setup; book = b .book }
   good-after (c ∷ h) = laws .kept (state s h) (good-after h) c
 
   abbrev Seen : List Call → Type 0

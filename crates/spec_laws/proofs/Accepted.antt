@@ -24,12 +24,12 @@ use Rattle.spec_laws.proofs.Shape.{Image, imageEnd, Bss, shape-made}
 module _ (setup : Setup) where
   -- an image is accepted if its checks and its layout pass, and it records at most 15 segments
   pub record Accepted (image : List ℕ) : Type 0 where
-    pub elf : elfError image ≡ 0
-    pub layout : layoutOk setup (segmentsOf image) ≡ true
-    pub few : length (imageSegments image) ≤ 15
+    pub elf : elfError (setup .flags) image ≡ 0
+    pub layout : layoutOk setup (segmentsOf (setup .flags) image) ≡ true
+    pub few : length (imageSegments setup image) ≤ 15
 
   abbrev tests : List ℕ → List (Bool × ℕ)
-  tests image = (elfError image isnt 0, 30) ∷ (not (layoutOk setup (segmentsOf image)), 30) ∷ (length (imageSegments image) above 15, 31) ∷ []
+  tests image = (elfError (setup .flags) image isnt 0, 30) ∷ (not (layoutOk setup (segmentsOf (setup .flags) image)), 30) ∷ (length (imageSegments setup image) above 15, 31) ∷ []
 
   pub accepted-means : (image : List ℕ) → imageError setup image ≡ 0 → Accepted image
   accepted-means image e =
@@ -123,17 +123,17 @@ module _ (setup : Setup) (ok : SetupOk setup) where
   from-utzero (g ∷ gs) l e =
       (record { file = l .0 .file; some-byte = l .0 .some-byte; perm = l .0 .perm; ordered = omega (arith, layout-first setup g gs e .0 .start) }, l .1)
 
-  pub image-recorded : (image : List ℕ) → imageError setup image ≡ 0 → Recorded setup (setup .utzero) (imageBss image) (imageSegments image)
+  pub image-recorded : (image : List ℕ) → imageError setup image ≡ 0 → Recorded setup (setup .utzero) (imageBss setup image) (imageSegments setup image)
   image-recorded image e =
       let a = accepted-means setup image e in
-      go (segmentsOf image) (from-utzero (segmentsOf image) (elf-loads image (a .elf)) (a .layout)) (a .layout) (elf-some image (a .elf))
+      go (segmentsOf (setup .flags) image) (from-utzero (segmentsOf (setup .flags) image) (elf-loads (setup .flags) image (ok .table) (a .elf)) (a .layout)) (a .layout) (elf-some (setup .flags) image (a .elf))
     where
       go : (gs : List Segment) → AllLoad (setup .utzero) gs → layoutOk setup gs ≡ true → (gs ≡ [] → ⊥) → Recorded setup (setup .utzero) (bssOf gs) (kept (bssOf gs) gs)
       go [] l h s = absurd (s refl)
       go (g ∷ gs) l h s = recorded-all (setup .utzero) g gs l h
 
   -- an accepted image's record has the shape that soundness asks
-  pub image-shape : (image name : List ℕ) → imageError setup image ≡ 0 → Shape setup (procOf setup image name) (imageSegments image)
+  pub image-shape : (image name : List ℕ) → imageError setup image ≡ 0 → Shape setup (procOf setup image name) (imageSegments setup image)
   image-shape image name e =
       let r = image-recorded image e in
-      shape-made setup (procOf setup image name) (imageSegments image) refl (accepted-means setup image e .few) (r .ascends) (r .bss-ok)
+      shape-made setup (procOf setup image name) (imageSegments setup image) refl (accepted-means setup image e .few) (r .ascends) (r .bss-ok)

@@ -11,7 +11,7 @@ use Rattle.spec.proofs.Search.{highest-none}
 use Rattle.spec.proofs.Setups.{setup-means}
 use Rattle.spec.proofs.Counts.{count-none}
 use Rattle.spec.specs.Tests.{_is_, _isnt_, within}
-use Rattle.spec.specs.Numbers.{maxFrames, setupOk, SetupOk}
+use Rattle.spec.specs.Numbers.{maxFrames, setupError, SetupOk}
 use Rattle.spec.specs.Book.{valid, frameCount, mapping, owns, permIn, zeroProc, lives, permAt, procAt, piecesOf}
 use Rattle.spec.specs.Sound.{Sound}
 use Rattle.spec.specs.World.{State}
@@ -46,10 +46,10 @@ zero-book setup ok n = record {
       ∙ sym (ap (λ (x : Proc). permAt (piecesOf x) page) (getD-same 16 (p - 1) zeroProc) ∙ zero-pieces page);
 }
 
-pub blank-begins : (setup : Setup) (n : ℕ) (frames : List ℕ) → setupOk setup ≡ true → 1 ≤ n → n ≤ maxFrames → length frames ≡ 4096 * n → Begin (blank setup n frames)
+pub blank-begins : (setup : Setup) (n : ℕ) (frames : List ℕ) → setupError setup ≡ 0 → 1 ≤ n → n ≤ maxFrames → length frames ≡ 4096 * n → Begin (blank setup n frames)
 blank-begins setup n frames ok l h e = record {
   types = refl;
-  numbers = ok;
+  setup = ok;
   sizes =
       let k = length-replicate {A = ℕ} (17 * n) 0 in
       let c : frameCount (replicate (17 * n) 0) ≡ n = omega arith in

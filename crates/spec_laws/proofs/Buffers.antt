@@ -7,9 +7,10 @@ use mathlib.Core.Bool.{Bool, true, false, not, _&&_}
 use mathlib.Core.List.{List, [], _∷_}
 use lib.ListN.{length, take}
 use Rattle.spec.proofs.Bools.{split, clash}
-use Rattle.spec.specs.Tests.{_is_, _⇒_else_}
+use Rattle.spec.specs.Tests.{_is_, _isnt_, _⇒_else_}
 use Rattle.spec.specs.Book.{valid, free}
-use Rattle.spec.specs.Numbers.{setupOk}
+use Rattle.spec.specs.Numbers.{setupError}
+use Rattle.spec.proofs.Setups.{setup-numbers}
 use Rattle.spec.specs.Frames.{Mem, sized}
 use Rattle.spec.specs.Access.{userRangeOk, byteOf, bytesAt, copyStr}
 use Rattle.spec.specs.Machine.{Ask, start, replace, push, break, fork, end, user-range-ok, copy-from-user, copy-to-user, try-copy-str-from-user, Call, accepted, refused, ended, Reply, outcome, outcomeOf, numberOf, lent, refuse, Machine, lengthsFit, kind, listFits, numbered, living, unclaimed, weigh, judge}
@@ -75,9 +76,9 @@ refused-lent s c =
     let r₂ : Reply = not (listFits m (c .number) (kind q)) ⇒ refuse 2 q else r₃ in
     let r₁ : Reply = not (lengthsFit q) ⇒ refuse 1 q else r₂ in
     let r₀ : Reply = not (sound s) ⇒ refuse 2 q else r₁ in
-    let r : Reply = not (setupOk (s .setup)) ⇒ refuse 38 q else r₀ in
+    let r : Reply = setupError (s .setup) isnt 0 ⇒ refuse (setupError (s .setup)) q else r₀ in
     refuse-kept (not (sized (s .store) && lengthsFit q)) 1 q r
-    (refuse-kept (not (setupOk (s .setup))) 38 q r₀
+    (refuse-kept (setupError (s .setup) isnt 0) (setupError (s .setup)) q r₀
     (refuse-kept (not (sound s)) 2 q r₁
     (refuse-kept (not (lengthsFit q)) 1 q r₂
     (refuse-kept (not (listFits m (c .number) (kind q))) 2 q r₃
@@ -101,9 +102,9 @@ string-left s n buffer src e =
     let r₃ : Reply = not (taken s n) ⇒ refuse 4 q else r₄ in
     let r₂ : Reply = not (valid n) ⇒ refuse 3 q else r₃ in
     let r₁ : Reply = not (sound s) ⇒ refuse 2 q else r₂ in
-    let r₀ : Reply = not (setupOk (s .setup)) ⇒ refuse 38 q else r₁ in
+    let r₀ : Reply = setupError (s .setup) isnt 0 ⇒ refuse (setupError (s .setup)) q else r₁ in
     let p₀ = others-number (not (sized (s .store) && true)) 1 q r₀ (λ z. omega arith) e in
-    let p₁ = p₀ ∙ others-number (not (setupOk (s .setup))) 38 q r₁ (λ z. omega arith) (ap (λ (r : Reply). r .says) (sym p₀) ∙ e) in
+    let p₁ = p₀ ∙ others-number (setupError (s .setup) isnt 0) (setupError (s .setup)) q r₁ (λ z. let n = setup-numbers (s .setup) (λ y. omega arith) in omega arith) (ap (λ (r : Reply). r .says) (sym p₀) ∙ e) in
     let p₂ = others-number (not (sound s)) 2 q r₂ (λ z. omega arith) (ap (λ (r : Reply). r .says) (sym p₁) ∙ e) in
     let p₃ = others-number (not (valid n)) 3 q r₃ (λ z. omega arith) (ap (λ (r : Reply). r .says) (sym (p₁ ∙ p₂)) ∙ e) in
     let p₄ = others-number (not (taken s n)) 4 q r₄ (λ z. omega arith) (ap (λ (r : Reply). r .says) (sym (p₁ ∙ p₂ ∙ p₃)) ∙ e) in

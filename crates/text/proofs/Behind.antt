@@ -2,10 +2,10 @@
 -- Assumes nothing.
 use mathlib.Core.Path.{_≡_, sym, ap, ap₂, subst, _∙_}
 use mathlib.Core.List.{List, [], _++_}
-use Prim.Native.Nat.{ℕ, _≤_}
+use Prim.Native.Nat.{ℕ, _+_, _≤_}
 use native.Mathlib.Omega.{arith}
-use lib.ListN.{length, take, length-append}
-use lib.Seq.{length-take-le}
+use lib.ListN.{length, take, drop, length-append}
+use lib.Seq.{length-take-le, take-append-seam}
 use Rattle.spec.specs.Frames.{put}
 use Rattle.spec_laws.proofs.Lists.{put-nil, put-append, length-put}
 use Rattle.text.specs.Text.{Puts}
@@ -24,6 +24,12 @@ behind {d} {e} {f} {s} {t} {at} {r} {q} p n = record {
 -- the place behind it counts bytes of the buffer
 pub counts : {d s e : List ℕ} {at r : ℕ} → Puts d at s e r → Puts d at s e r × ((r ≤ length e) × (r ≡ length (take r e)))
 counts {d} {s} {e} {at} {r} p = let h : r ≤ length e = omega (arith, p .room, same-room p) in (p, (h, sym (length-take-le r e h)))
+
+-- what stands before the place behind a text put at the front is that text
+pub front : (d s e : List ℕ) (r : ℕ) → Puts d 0 s e r → take r e ≡ s
+front d s e r p =
+    let n : 0 + length s ≡ length s = omega arith in
+    ap₂ (λ (k : ℕ) (x : List ℕ). take k x) (p .place ∙ n) (p .bytes) ∙ take-append-seam s (drop (0 + length s) d)
 
 -- the same text
 pub same-text : {d s t e : List ℕ} {at r : ℕ} → s ≡ t → Puts d at s e r → Puts d at t e r

@@ -1,8 +1,10 @@
-// Text in a buffer that the caller lends: bytes, numbers in decimal, and a named number's line. Each function puts its text from a place
-// on and answers the place behind it.
+// Text in a buffer that the caller lends: bytes, numbers in decimal, and a named number's line. Each function that puts text puts it from
+// a place on and answers the place behind it; the last says what text begins with.
 
 ghost use Prim.Native.Nat.{_+_, _≤_};
-ghost use lib.ListN.{length};
+ghost use mathlib.Core.Path.{_≡_};
+ghost use lib.ListN.{length, take};
+ghost use Rattle.spec.specs.Tests.{_is_, same};
 ghost use Rattle.text.specs.Text.{Puts, numberText, fieldText};
 
 // Puts bytes.
@@ -46,4 +48,21 @@ pub fn put_field(out: &mut [u8], at: usize, name: &[u8], n: u64) -> usize
     let a = put(out, at, name);
     let b = put_decimal(out, a, n);
     put(out, b, b"\n")
+}
+
+// Whether bytes begin with others.
+pub fn begins(s: &[u8], front: &[u8]) -> bool
+    ensures { λ r. ⌜ r ≡ same _is_ (take (length (now (front .entry))) (now (s .entry))) (now (front .entry)) ⌝ }
+{
+    if s.len() < front.len() {
+        return false;
+    }
+    let mut i = 0;
+    while i < front.len() {
+        if s[i] != front[i] {
+            return false;
+        }
+        i += 1;
+    }
+    true
 }

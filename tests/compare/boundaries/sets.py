@@ -41,7 +41,8 @@ def conditions():
     """Under what they show: sets at a bound of a condition, one below it and one above it."""
     school = Setup(2 * PAGE, 14 * PAGE, 2 * PAGE, K64)
     off = lambda number: [number - 1, number + 1, number - PAGE // 2, number + PAGE - 1]
-    yield 'multiples of 4,096', [school] + beside(school, **{name: off(number) for name, number in school._asdict().items()})
+    yield 'multiples of 4,096', [school] + beside(
+        school, **{name: off(number) for name, number in zip(Setup._fields, school.numbers)})
     yield 'UTZERO at least 4,096', beside(school, utzero=[0, 1, PAGE - 1, PAGE, PAGE + 1])
     yield 'USTKSIZE at least 4,096', beside(school, ustksize=[0, 1, PAGE - 1, PAGE, PAGE + 1])
     yield 'USTKSIZE at most 65,536', beside(DEPOSIT, ustksize=[15 * PAGE, K64 - 1, K64, K64 + 1, 17 * PAGE, 2**32, 2**46])
@@ -72,12 +73,12 @@ def page_at(address, memory=8):
 
 def hand(o, setup, as_lines=False):
     """Hand a set over: its numbers, or the lines of a file that say them."""
-    o('numbers', shown(written(setup)) if as_lines else '%d %d %d %d' % setup)
+    o('numbers', shown(written(setup)) if as_lines else '%d %d %d %d' % setup.numbers)
 
 
 def looks(o, setup):
     """Strings and ranges of process 1, at the ends of the image, the stack and the address space."""
-    utzero, top, size, end = setup
+    utzero, top, size, end = setup.numbers
     low, limit = setup.low, setup.limit
     o.all(f'from 1 {top - 32} 32', f'string 1 {top - 4} 9', f'string 1 {top} 1', f'string 1 {end} 1', f'string 1 {end + 1} 0')
     for a, k in ((utzero - 1, 1), (utzero, 1), (utzero, PAGE), (limit, 1), (low - 1, 1), (low, size), (low, size + 1), (top - 1, 1),
@@ -87,7 +88,7 @@ def looks(o, setup):
 
 def edges(o, setup, bss):
     """Images and breaks at UTZERO and limit."""
-    utzero, top, _, end = setup
+    utzero, top, _, end = setup.numbers
     limit = setup.limit
     for address, memory in ((utzero - PAGE, 8), (limit - PAGE, PAGE), (limit - PAGE, PAGE + 1), (limit, 8), (setup.low, 8)):
         o('start', 2, "'x", page_at(address, memory))
@@ -99,7 +100,7 @@ def edges(o, setup, bss):
 
 def second(o, setup, own, image):
     """Bytes and arguments at the ends of the stack; a fork with the record's list, its program replaced; what ends each process."""
-    utzero, top, _, end = setup
+    utzero, top, _, end = setup.numbers
     low = setup.low
     o.all(f"to 1 {low} 'low", f"to 1 {top - 3} 'end", f'push 1 0 {low + 16}', f'push 1 0 {top - 16}', f"push 1 {utzero} {top} 'a")
     o.all(f'fork 1 2 {utzero} {utzero + PAGE} 1 {DEPOSIT.low} {DEPOSIT.ustktop} 3', f'fork 1 2 {own}', 'map 2',
@@ -114,7 +115,7 @@ def second(o, setup, own, image):
 
 def life(o, setup, as_lines):
     """Processes under a set, along its bounds."""
-    utzero, top, size, _ = setup
+    utzero, top, size, _ = setup.numbers
     image, stack = shown(program(setup)), f'{setup.low} {top} 3'
     # Pages, segments and bss start of the program.
     if setup.limit - utzero < 3 * PAGE:
@@ -285,7 +286,7 @@ def sets():
     hand(o, Setup(0, 0, 0, 0))
     o.all('rule 0 8192 0 8192', "start 1 'x 00", 'range 1 0 0 r', 'sum')
     for i, setup in enumerate(ACCEPTED):
-        o.note('UTZERO=%d USTKTOP=%d USTKSIZE=%d UADDRTOP=%d' % setup)
+        o.note('UTZERO=%d USTKTOP=%d USTKSIZE=%d UADDRTOP=%d' % setup.numbers)
         life(o, setup, i % 2)
     o.note('arguments: a quarter of each stack')
     for pages in range(1, 17):

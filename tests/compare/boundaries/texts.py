@@ -16,16 +16,17 @@ def lines(*numbers, names=NAMES, end='\n'):
 
 def form():
     """Under what they show: bytes that are not as described, beside some that are."""
-    u, t, s, a = own = lines(*DEPOSIT)
-    with_first = lambda number: b''.join(lines(number, *DEPOSIT[1:]))
-    with_last = lambda number: b''.join(lines(*DEPOSIT[:3], number))
+    numbers = DEPOSIT.numbers
+    u, t, s, a = own = lines(*numbers)
+    with_first = lambda number: b''.join(lines(number, *numbers[1:]))
+    with_last = lambda number: b''.join(lines(*numbers[:3], number))
     yield 'no bytes, a line feed, lines missing', [b'', b'\n', u, u + t, u + t + s, t + s + a, u + s + a]
     yield 'lines exchanged, a line twice, five lines', [
         t + u + s + a, u + s + t + a, u + t + a + s, a + t + s + u, u + u + t + s + a, u + t + s + a + a]
     yield 'the last line feed missing; a byte after the fourth', [
         b''.join(own)[:-1], *(b''.join(own) + after for after in (b'\n', b'\0', b' ', b'#', b'\r', b'0', b'x'))]
     yield 'line ends: two bytes, the other byte, none, an empty line', [
-        *(b''.join(lines(*DEPOSIT, end=end)) for end in ('\r\n', '\n\r', '\r', '')), b'\n'.join(own), b'\n' + b''.join(own)]
+        *(b''.join(lines(*numbers, end=end)) for end in ('\r\n', '\n\r', '\r', '')), b'\n'.join(own), b'\n' + b''.join(own)]
     yield 'the first digit not 0: a number 0, 00, a 0 before others', [
         with_first(n) for n in ('0', '00', '065536', '0065536', '000000000065536')]
     yield 'one to 15 digits', [with_first(''), *(with_last(n) for n in (
@@ -37,7 +38,7 @@ def form():
     names = ('utzero', 'UTZER', 'UTZEROO', 'TZERO', ' UTZERO', 'UTZERO ', '\ufeffUTZERO', 'UTZERO=', 'UTZERO:', '', 'USTKTOP',
         '#UTZERO')
     yield 'names: other letters, more or fewer, spaces, signs', [
-        *(b''.join([*lines(DEPOSIT[0], names=[name]), t, s, a]) for name in names),
+        *(b''.join([*lines(numbers[0], names=[name]), t, s, a]) for name in names),
         b''.join(own).replace(b'=', b':'), b''.join(own).replace(b'=', b''), b''.join(own).lower()]
 
 

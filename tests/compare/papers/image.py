@@ -1,5 +1,5 @@
 """Item 4: the image."""
-from .machine import DATA, PAGE, RODATA, TEXT, Refused, down, up
+from .machine import PAGE, TEXT, Refused, down, up
 
 
 class Segment:
@@ -8,8 +8,8 @@ class Segment:
         self.end = vaddr + memsz
 
 
-def parse(image):
-    """The entry and the loadable segments; Refused 11 to 27."""
+def parse(image, perms):
+    """The entry and the loadable segments, their permissions by a table; Refused 11 to 27."""
     def field(b, at, n):
         return int.from_bytes(b[at:at + n], 'little')
     def check(number, passes):
@@ -38,7 +38,7 @@ def parse(image):
         check(22, offset + filesz <= len(image))
         check(23, vaddr % PAGE == offset % PAGE)
         check(24, vaddr + memsz <= 2**64 - PAGE)
-        perm = (0, 0, 0, 0, RODATA, TEXT, DATA, 0)[flags % 8]
+        perm = perms[flags % 8]
         check(25, perm != 0)
         check(26, all(down(vaddr) >= up(s.end) for s in segments))
         segments.append(Segment(vaddr, memsz, image[offset:offset + filesz], perm))

@@ -1,4 +1,4 @@
-"""Item 5: layout, recorded segments, arguments, under a set of the machine's numbers."""
+"""Item 5: layout, recorded segments, arguments, under a set of the machine's numbers and a flag table."""
 from .image import parse
 from .machine import DATA, PAGE, Refused, down, up
 
@@ -30,7 +30,7 @@ def page_count(setup, ranges, bss):
 
 def load(setup, image):
     """Entry, segments, recorded ranges and bss of an image; Refused 11 to 31."""
-    entry, segments = parse(image)
+    entry, segments = parse(image, setup.flags)
     bss = layout(setup, segments)
     return entry, segments, recorded(segments, bss), bss
 

@@ -1,4 +1,4 @@
-"""The listing program, which keeps document 01's numbers."""
+"""The listing program, which keeps document 01's numbers and table."""
 from .layout import load, page_count
 from .machine import KINDS, Refused
 from .setup import DEPOSIT

@@ -27,7 +27,7 @@ class Record:
 
 
 class Memory:
-    """Frames, book and records, and the set of machine numbers that is handed to each call: document 01's at first."""
+    """Frames, book and records, and what is handed to each call, machine numbers and flag table: document 01's at first."""
 
     def __init__(self, frames=0, fill=0):
         self.n = frames
@@ -37,10 +37,10 @@ class Memory:
         self.records = [None] * 17
         self.setup = DEPOSIT
 
-    # Numbers 1, 38, and 2 to 5
+    # Numbers 1, 38, 39, and 2 to 5
 
     def enter(self):
-        """Refused 1, 38, 2; then self.table has each process's pages, page to frame and permission."""
+        """Refused 1, 38, 39, 2; then self.table has each process's pages, page to frame and permission."""
         frames = self.lent()
         if self.bytes != PAGE * frames or self.words != WORDS * frames or not 1 <= frames <= 1024:
             raise Refused(1)
@@ -86,7 +86,7 @@ class Memory:
             raise Refused(4)
 
     def called(self, n):
-        """Refused 1, 38, 2, 3, 4: what every call of a living process begins with."""
+        """Refused 1, 38, 39, 2, 3, 4: what every call of a living process begins with."""
         self.enter()
         self.living(n)
 

@@ -3,7 +3,7 @@ from .machine import MAX, PAGE, Refused, up
 
 
 def rule(setup, bss, free, address):
-    """The answer's value and the new bss; Refused 38, 32, 33, 34."""
+    """The answer's value and the new bss; Refused 38, 39, 32, 33, 34."""
     setup.check()
     if bss is None:
         raise Refused(32)

@@ -40,6 +40,14 @@ pub trait Calls: Sized {
     fn numbers_of(&mut self, _lines: &[u8]) -> Option<Answer<()>> {
         None
     }
+    /// Hands over a flag table, a code for each value of the low three flag bits. None where document 01's is fixed.
+    fn flags(&mut self, _table: [u8; 8]) -> Option<Answer<()>> {
+        None
+    }
+    /// As `flags`, of the lines of a file.
+    fn flags_of(&mut self, _lines: &[u8]) -> Option<Answer<()>> {
+        None
+    }
     fn start(&mut self, n: u64, name: &[u8], image: &[u8], args: &[&[u8]]) -> Answer<Regs>;
     fn replace(&mut self, n: u64, name: &[u8], image: &[u8], argv: u64) -> Answer<Regs>;
     fn push(&mut self, n: u64, pc: u64, top: u64, args: &[&[u8]]) -> Answer<Regs>;
@@ -141,6 +149,14 @@ fn call<W: Calls>(w: &mut W, name: &[u8], words: &[&[u8]]) -> Given<String> {
         }
         (b"numbers", [u, t, s, a]) => show(w.numbers([number(u)?, number(t)?, number(s)?, number(a)?]).ok_or(BAD)?, none),
         (b"numbers", [b]) => show(w.numbers_of(&bytes(b)?).ok_or(BAD)?, none),
+        (b"flags", codes) if codes.len() == 8 => {
+            let mut table = [0; 8];
+            for (row, code) in table.iter_mut().zip(codes) {
+                *row = at_most(number(code)?, 255)? as u8;
+            }
+            show(w.flags(table).ok_or(BAD)?, none)
+        }
+        (b"flags", [b]) => show(w.flags_of(&bytes(b)?).ok_or(BAD)?, none),
         (b"lend", [b, words]) => {
             let (b, words) = (number(b)?, number(words)?);
             if b > w.frames().len() as u64 || words > w.book().len() as u64 {

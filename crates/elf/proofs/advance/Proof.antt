@@ -22,13 +22,13 @@ use Rattle.elf.proofs.advance.Tie as tie
 returns : tie.Need-returns
 returns c ps =
     let a = c .before .before .before .args in
-    skips (now (a .image)) (a .entry) (a .seen .end) (a .seen .found) (phdrOf (a .p)) ps (sym (c .before .is-load .ensures) ∙ not-true _ (c .if1 .taken))
+    skips (a .flags) (now (a .image)) (a .entry) (a .seen .end) (a .seen .found) (phdrOf (a .p)) ps (sym (c .before .is-load .ensures) ∙ not-true _ (c .if1 .taken))
 
 -- the header passed
-passed : (c : tie.After-enum-told) → let a = c .before .before .before .before .before .before .args in Checked (length (now (a .image))) (segmentFrom (phdrOf (a .p)))
+passed : (c : tie.After-enum-told) → let a = c .before .before .before .before .before .before .args in Checked (length (now (a .image))) (segmentFrom (a .flags) (phdrOf (a .p)))
 passed c =
     let a = c .before .before .before .before .before .before .args in
-    checked (now (a .image)) (a .seen .end) (phdrOf (a .p)) (header-means (now (a .image)) (a .seen .end) (phdrOf (a .p)) [] (sym (c .before .before .judge-phdr .ensures) ∙ ap verdictNumber (c .enum-told .given .1)) .0)
+    checked (a .flags) (now (a .image)) (a .seen .end) (phdrOf (a .p)) (header-means (a .flags) (now (a .image)) (a .seen .end) (phdrOf (a .p)) [] (sym (c .before .before .judge-phdr .ensures) ∙ ap verdictNumber (c .enum-told .given .1)) .0)
 
 add-page-up : tie.Need-add-page-up
 add-page-up c = let f = passed (c .before) in omega arith
@@ -42,7 +42,7 @@ in-text-requires c κs = let f = passed (c .before .before) in omega arith
 returns-2 : tie.Need-returns-2
 returns-2 c ps =
     let a = c .before .before .before .before .before .before .before .args in
-    refuses (now (a .image)) (a .entry) (a .seen .end) (a .seen .found) (phdrOf (a .p)) ps (errorNumber (c .before .v .given .0 .0))
+    refuses (a .flags) (now (a .image)) (a .entry) (a .seen .end) (a .seen .found) (phdrOf (a .p)) ps (errorNumber (c .before .v .given .0 .0))
     (sym (c .before .before .before .before .before .is-load .ensures) ∙ not-false _ (c .before .before .before .before .if1 .left))
     (sym (c .before .before .before .judge-phdr .ensures) ∙ ap verdictNumber (c .before .v .given .1))
     (not-zero (c .before .v .given .0 .0))
@@ -51,7 +51,7 @@ returns-3 : tie.Need-returns-3
 returns-3 c ps =
     let a = c .before .before .before .before .before .before .before .before .before .before .args in
     rw (c .before .in-text .ensures, c .before .before .page-up .ensures)
-    (goes-on (now (a .image)) (a .entry) (a .seen .end) (a .seen .found) (phdrOf (a .p)) ps
+    (goes-on (a .flags) (now (a .image)) (a .entry) (a .seen .end) (a .seen .found) (phdrOf (a .p)) ps
     (sym (c .before .before .before .before .before .before .before .before .is-load .ensures) ∙ not-false _ (c .before .before .before .before .before .before .before .if1 .left))
     (sym (c .before .before .before .before .before .before .judge-phdr .ensures) ∙ ap verdictNumber (c .before .before .before .before .enum-told .given .1)))
 

@@ -1,7 +1,6 @@
 -- `elf::count_of` meets its contract: the header says how many program headers there are.
 -- Assumes nothing.
 use mathlib.Core.Path.{ap}
-use denote.Ref.{now}
 use borrow.Author.Needs.{needs}
 use Rattle.elf_header.specs.declared.header.Ehdr.{Ehdr}
 use Rattle.elf.proofs.Image.{accepted}
@@ -9,7 +8,7 @@ use Rattle.elf.proofs.count_of.Statement.{statement}
 use Rattle.elf.proofs.count_of.Tie as tie
 
 read-ehdr-requires : tie.Need-read-ehdr-requires
-read-ehdr-requires c κs = accepted (now (c .before .args .image)) (c .before .pre) .head
+read-ehdr-requires c κs = accepted (c .before .pre .0) _ (c .before .pre .1) .head
 
 returns : tie.Need-returns
 returns c = ap (λ (h : Ehdr). h .phnum) (c .before .read-ehdr .ensures)

@@ -12,19 +12,19 @@ use Rattle.elf.proofs.error.Statement.{statement}
 use Rattle.elf.proofs.error.Tie as tie
 
 returns : tie.Need-returns
-returns c = c .error-number .ensures ∙ truncated (now (c .before .before .before .args .image)) (c .before .if1 .taken)
+returns c = let a = c .before .before .before .args in c .error-number .ensures ∙ truncated (a .flags) (now (a .image)) (c .before .if1 .taken)
 
 returns-2 : tie.Need-returns-2
 returns-2 c =
-    let image = now (c .before .before .before .before .before .args .image) in
-    c .error-number2 .ensures ∙ bad-magic image (c .before .before .before .if1 .left) (sym (c .before .before .has-magic .ensures) ∙ not-true _ (c .before .if2 .taken))
+    let a = c .before .before .before .before .before .args in
+    c .error-number2 .ensures ∙ bad-magic (a .flags) (now (a .image)) (c .before .before .before .if1 .left) (sym (c .before .before .has-magic .ensures) ∙ not-true _ (c .before .if2 .taken))
 
 -- the verdict's number is the image's
-number : (c : tie.After-judge) → verdictNumber (c .judge .result) ≡ elfError (now (c .before .before .before .before .before .before .args .image))
+number : (c : tie.After-judge) → let a = c .before .before .before .before .before .before .args in verdictNumber (c .judge .result) ≡ elfError (a .flags) (now (a .image))
 number c =
-    let image = now (c .before .before .before .before .before .before .args .image) in
-    c .judge .ensures ∙ ap (imageError image) (c .before .read-ehdr .ensures)
-    ∙ by-fields image (c .before .before .before .before .if1 .left) (sym (c .before .before .before .has-magic .ensures) ∙ not-false _ (c .before .before .if2 .left))
+    let a = c .before .before .before .before .before .before .args in
+    c .judge .ensures ∙ ap (imageError (a .flags) (now (a .image))) (c .before .read-ehdr .ensures)
+    ∙ by-fields (a .flags) (now (a .image)) (c .before .before .before .before .if1 .left) (sym (c .before .before .before .has-magic .ensures) ∙ not-false _ (c .before .before .if2 .left))
 
 returns-3 : tie.Need-returns-3
 returns-3 c = c .error-number3 .ensures ∙ sym (ap verdictNumber (c .before .before .v .given .1)) ∙ number (c .before .before .before .before)

@@ -15,11 +15,11 @@ use Rattle.elf.proofs.scan.Statement.{statement}
 use Rattle.elf.proofs.scan.Tie as tie
 
 abbrev Inv-loop : tie.InvT-loop
-Inv-loop image entry phoff phnum seen₀ at₀ k₀ seen at k =
-    (at + 56 * k ≤ length image) × (scanError image entry 0 false (left image phoff phnum) ≡ scanError image entry (seen .end) (seen .found) (left image at k))
+Inv-loop flags image entry phoff phnum seen₀ at₀ k₀ seen at k =
+    (at + 56 * k ≤ length image) × (scanError flags image entry 0 false (left image phoff phnum) ≡ scanError flags image entry (seen .end) (seen .found) (left image at k))
 
 abbrev μ-loop : tie.MeasureT-loop
-μ-loop image entry phoff phnum seen₀ at₀ k₀ seen at k = k
+μ-loop flags image entry phoff phnum seen₀ at₀ k₀ seen at k = k
 
 loop-holds : tie.Need-loop-holds Inv-loop μ-loop
 loop-holds c = (omega arith, refl)
@@ -28,12 +28,12 @@ loop-holds c = (omega arith, refl)
 on : (c : tie.After-advance Inv-loop μ-loop) (r : Step) → c .advance .result ≡ r
     → let a = c .before .before .before .before .before .args in
     let l = c .before .before .before .loop in
-    scanError (now (a .image)) (a .entry) 0 false (left (now (a .image)) (a .phoff) (a .phnum))
-    ≡ stepError (now (a .image)) (a .entry) r (left (now (a .image)) (l .at + 56) (l .k - 1))
+    scanError (a .flags) (now (a .image)) (a .entry) 0 false (left (now (a .image)) (a .phoff) (a .phnum))
+    ≡ stepError (a .flags) (now (a .image)) (a .entry) r (left (now (a .image)) (l .at + 56) (l .k - 1))
 on c r e =
     let a = c .before .before .before .before .before .args in
     let l = c .before .before .before .loop in
-    l .inv .1 ∙ turn (now (a .image)) (a .entry) (l .seen) (l .at) (l .k) (phdrOf (c .before .read-phdr .result)) r (omega arith) (c .before .read-phdr .ensures)
+    l .inv .1 ∙ turn (a .flags) (now (a .image)) (a .entry) (l .seen) (l .at) (l .k) (phdrOf (c .before .read-phdr .result)) r (omega arith) (c .before .read-phdr .ensures)
     (rw e at (c .advance .ensures))
 
 returns : tie.Need-returns Inv-loop μ-loop
@@ -46,13 +46,13 @@ returns-2 : tie.Need-returns-2 Inv-loop μ-loop
 returns-2 c =
     let a = c .before .before .before .before .args in
     let l = c .before .before .loop in
-    sym (l .inv .1 ∙ ends (now (a .image)) (a .entry) (l .seen .end) (l .seen .found) (l .at) (l .k) (omega arith) ∙ rw (c .if1 .taken))
+    sym (l .inv .1 ∙ ends (a .flags) (now (a .image)) (a .entry) (l .seen .end) (l .seen .found) (l .at) (l .k) (omega arith) ∙ rw (c .if1 .taken))
 
 returns-3 : tie.Need-returns-3 Inv-loop μ-loop
 returns-3 c =
     let a = c .before .before .before .before .args in
     let l = c .before .before .loop in
-    sym (l .inv .1 ∙ ends (now (a .image)) (a .entry) (l .seen .end) (l .seen .found) (l .at) (l .k) (omega arith) ∙ rw (c .if1 .left))
+    sym (l .inv .1 ∙ ends (a .flags) (now (a .image)) (a .entry) (l .seen .end) (l .seen .found) (l .at) (l .k) (omega arith) ∙ rw (c .if1 .left))
 
 pub scan-spec : {M : Type 1} → statement M
 scan-spec =

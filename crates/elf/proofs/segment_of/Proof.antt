@@ -1,6 +1,6 @@
 -- `segment_of` meets its contract: a walk of its MIR by hand. The reader that `of` makes is held in a local and passed to `segment`.
 -- Assumes nothing.
-use mathlib.Core.Path.{_≡_, refl, sym, ap, _∙_}
+use mathlib.Core.Path.{_≡_, refl, sym, ap₂, _∙_}
 use native.Mathlib.Omega.{arith}
 use Prim.Native.Nat.{ℕ, _+_, _*_, _<_, _^_}
 use mathlib.Core.List.{List, [], _∷_}
@@ -45,6 +45,7 @@ use Rattle.elf.proofs.Load as L
 use Rattle.elf.proofs.Load.Laws as L′
 use Rattle.elf.specs.declared.Elf.{Elf}
 use Rattle.elf.proofs.Tables.{load-in}
+use Rattle.elf.proofs.FlagTable.{Flags, flags-val, flags-vals, flags-tells, flags-makes, flags-lawful}
 use Rattle.elf.proofs.Elf as T
 use Rattle.elf.proofs.Elf.Laws as T′
 use Rattle.elf.proofs.of as of
@@ -65,7 +66,7 @@ abbrev B : Lfts 1 → RattleType
 B κs = T.the-row (namedLft 1 0 tt κs)
 
 abbrev stayed : Stays (all.ended .signature .params) (all.ended .kept)
-stayed = (stay-none-slice (0 ∷ []) tt (plain (λ _. u8)) yes, (stay-none (λ _. usize) yes, tt))
+stayed = (stay-none (λ _. Flags) yes, (stay-none-slice (0 ∷ []) tt (plain (λ _. u8)) yes, (stay-none (λ _. usize) yes, tt)))
 
 module _ {M : Type 1} (𝓤 : URA M) (H : Heap 𝓤) (A : Atoms 𝓤) (at-mem : Memory → SProp 𝓤) (run : Routine → Fun 𝓤) where
   -- the contracts that the proof cites
@@ -75,8 +76,8 @@ module _ {M : Type 1} (𝓤 : URA M) (H : Heap 𝓤) (A : Atoms 𝓤) (at-mem : 
   abbrev Segment : Contract 𝓤
   Segment = tripleOf 𝓤 H A segment.signature (segment.spec 𝓤 H A at-mem run)
 
-module _ {M : Type 1} (𝓤 : URA M) (H : Heap 𝓤) (A : Atoms 𝓤) (W : Given 𝓤 H A) (at-mem : Memory → SProp 𝓤) (run : Routine → Fun 𝓤) (κ : Lft) (q : Share) (s : RefT (List ℕ)) (i : ℕ)
-    (isS : Is (ShrSlice (named 0) κ u8) s (slice-vals s)) (fits : i < 2 ^ 64) (accepted : elfError (now s) ≡ 0) (below : i < phnum (now s)) where
+module _ {M : Type 1} (𝓤 : URA M) (H : Heap 𝓤) (A : Atoms 𝓤) (W : Given 𝓤 H A) (at-mem : Memory → SProp 𝓤) (run : Routine → Fun 𝓤) (κ : Lft) (q : Share) (flags : List ℕ) (s : RefT (List ℕ)) (i : ℕ)
+    (isF : Is Flags flags (flags-vals flags)) (isS : Is (ShrSlice (named 0) κ u8) s (slice-vals s)) (fits : i < 2 ^ 64) (accepted : elfError flags (now s) ≡ 0) (below : i < phnum (now s)) where
   -- the struct's type as a local of a body has it
   abbrev αᵉ : NamedLft
   αᵉ = record { mir = erased; lft = κ }
@@ -86,36 +87,40 @@ module _ {M : Type 1} (𝓤 : URA M) (H : Heap 𝓤) (A : Atoms 𝓤) (W : Given
   v = sliceVal (s .ptr) (length (s .now))
 
   abbrev found : Load
-  found = loadOf (phdrAt (now s) (phoff (now s) + 56 * i))
+  found = loadOf flags (phdrAt (now s) (phoff (now s) + 56 * i))
 
   abbrev at : Vals all.signature (κ, tt)
-  at = (v ∷ [], (vint w64 i ∷ [], tt))
+  at = (flags-vals flags, (v ∷ [], (vint w64 i ∷ [], tt)))
+
+  -- what `of` is passed
+  abbrev passes : Vals of.signature (κ, tt)
+  passes = (flags-vals flags, (v ∷ [], (vint w64 0 ∷ [], tt)))
 
   abbrev Post : Val → SProp 𝓤
-  Post = walkOf 𝓤 H A all.ended stayed (all.clauses 𝓤 H A at-mem run) .post (((κ, tt), (q, tt), tt, (s, (i, tt)), at), tt)
+  Post = walkOf 𝓤 H A all.ended stayed (all.clauses 𝓤 H A at-mem run) .post (((κ, tt), (q, tt), tt, (flags, (s, (i, tt))), at), tt)
 
   abbrev Own : Fml
   Own = ShrSlice (named 0) κ u8 .own s (v ∷ [])
 
   -- the call of `of`
   abbrev to-of : Of 𝓤 H A at-mem run .Ghost
-  to-of = (((κ, tt), (q, tt), tt, (s, (0, tt)), (v ∷ [], (vint w64 0 ∷ [], tt))), tt)
+  to-of = (((κ, tt), (q, tt), tt, (flags, (s, (0, tt))), passes), tt)
 
-  asks-of : ent 𝓤 (onEntry 𝓤 H A of.signature (κ, tt) (q, tt) (s, (0, tt)) (v ∷ [], (vint w64 0 ∷ [], tt))) (Of 𝓤 H A at-mem run .pre to-of)
-  asks-of = qed W ((‵ (flft κ q) ⊛ ‵ ftrue) ∷ ‵ (owns (ShrSlice (named 0) κ u8 ∷ u64 ∷ []) (s, (0, tt)) (v ∷ [], (vint w64 0 ∷ [], tt))) ∷ []) ∵ says ! (sym accepted) $ frame ! $ done !
+  asks-of : ent 𝓤 (onEntry 𝓤 H A of.signature (κ, tt) (q, tt) (flags, (s, (0, tt))) passes) (Of 𝓤 H A at-mem run .pre to-of)
+  asks-of = qed W ((‵ (flft κ q) ⊛ ‵ ftrue) ∷ ‵ (owns (Flags ∷ ShrSlice (named 0) κ u8 ∷ u64 ∷ []) (flags, (s, (0, tt))) passes) ∷ []) ∵ says ! (sym accepted) $ frame ! $ done !
 
-  goes-of : ent 𝓤 (onEntry 𝓤 H A all.signature (κ, tt) (q, tt) (s, (i, tt)) at) (sep 𝓤 (Of 𝓤 H A at-mem run .pre to-of) (sem 𝓤 H A Own))
+  goes-of : ent 𝓤 (onEntry 𝓤 H A all.signature (κ, tt) (q, tt) (flags, (s, (i, tt))) at) (sep 𝓤 (Of 𝓤 H A at-mem run .pre to-of) (sem 𝓤 H A Own))
   goes-of =
-      qed W ((‵ (flft κ q) ⊛ ‵ ftrue) ∷ ‵ (owns (ShrSlice (named 0) κ u8 ∷ usize ∷ []) (s, (i, tt)) at) ∷ []) ∵
-      move ! (1 ∷ []) $ fsplit ! $ use1 W (‵ Own ⊛ ‵ Own) (shr-slice-copy 𝓤 H A W (named 0) κ u8 .twice s (v ∷ [])) $ split ! $ move ! (2 ∷ []) $ toss ! $
+      qed W ((‵ (flft κ q) ⊛ ‵ ftrue) ∷ ‵ (owns (Flags ∷ ShrSlice (named 0) κ u8 ∷ usize ∷ []) (flags, (s, (i, tt))) at) ∷ []) ∵
+      move ! (1 ∷ []) $ fsplit ! $ toss ! $ fsplit ! $ use1 W (‵ Own ⊛ ‵ Own) (shr-slice-copy 𝓤 H A W (named 0) κ u8 .twice s (v ∷ [])) $ split ! $ move ! (2 ∷ []) $ toss ! $
       nothing ! $ owned ! u64 (Is u64) (uint-makes 𝓤 H A W w64) 0 _ (refl, omega arith) $ fjoin ! $ move ! (1 ∷ 0 ∷ []) $ fjoin ! $
-      move ! (2 ∷ 0 ∷ []) $ use2 W (raw (Of 𝓤 H A at-mem run .pre to-of)) asks-of $ frame ! $ done !
+      owned ! Flags (Is Flags) (flags-makes 𝓤 H A W) flags _ isF $ fjoin ! $ move ! (2 ∷ 0 ∷ []) $ use2 W (raw (Of 𝓤 H A at-mem run .pre to-of)) asks-of $ frame ! $ done !
 
   abbrev Made : Elf → Type 0
-  Made r = (r .image ≡ s) × (now (r .table) ≡ tableOf (now s)) × (r .entry ≡ entryOf (now s)) × (r .number ≡ 0)
+  Made r = (r .image ≡ s) × (now (r .table) ≡ tableOf 0 (now s)) × (r .entry ≡ entryOf 0 (now s)) × (r .number ≡ 0) × (r .flags ≡ flags)
 
-  of-said : (r : Elf) → ent 𝓤 (ensured 𝓤 H A of.ended (of.clauses 𝓤 H A at-mem run) (κ, tt) (s, (0, tt)) tt r) (fact 𝓤 (Made r))
-  of-said r = exE 𝓤 _ (λ ws. snd∗ 𝓤 (sem 𝓤 H A (lasts of.ended (κ, tt) (s, (0, tt)) ws)) (fact 𝓤 (Made r)))
+  of-said : (r : Elf) → ent 𝓤 (ensured 𝓤 H A of.ended (of.clauses 𝓤 H A at-mem run) (κ, tt) (flags, (s, (0, tt))) tt r) (fact 𝓤 (Made r))
+  of-said r = exE 𝓤 _ (λ ws. snd∗ 𝓤 (sem 𝓤 H A (lasts of.ended (κ, tt) (flags, (s, (0, tt))) ws)) (fact 𝓤 (Made r)))
 
   -- the call of `segment`, at the struct r with the machine value u
   abbrev to-segment : Elf → Val → Segment 𝓤 H A at-mem run .Ghost
@@ -127,58 +132,58 @@ module _ {M : Type 1} (𝓤 : URA M) (H : Heap 𝓤) (A : Atoms 𝓤) (W : Given
       join ! $ frame ! $ done !
 
   abbrev Read : Elf → Load → Type 0
-  Read r p = p ≡ loadIn (now (r .table)) i
+  Read r p = p ≡ loadIn (r .flags) (now (r .table)) i
 
   segment-said : (r : Elf) (p : Load) → ent 𝓤 (ensured 𝓤 H A segment.ended (segment.clauses 𝓤 H A at-mem run) (κ, tt) (r, (i, tt)) tt p) (fact 𝓤 (Read r p))
   segment-said r p = exE 𝓤 _ (λ ws. snd∗ 𝓤 (sem 𝓤 H A (lasts segment.ended (κ, tt) (r, (i, tt)) ws)) (fact 𝓤 (Read r p)))
 
   -- what is read from the table is what stands in the image
   read-is : (r : Elf) (p : Load) → Made r → Read r p → p ≡ found
-  read-is r p e g = g ∙ ap (λ (xs : List ℕ). loadIn xs i) (e .1) ∙ load-in (now s) accepted i below
+  read-is r p e g = g ∙ ap₂ (λ (xs ys : List ℕ). loadIn xs ys i) (e .4) (e .1) ∙ load-in flags (now s) accepted i below
 
   exits : (p : Load) (u : Val) → p ≡ found → ent 𝓤 (⋆ 𝓤 H A (‵ (L.the-row .own p (u ∷ [])) ∷ (‵ (flft κ q) ⊛ ‵ ftrue) ∷ ‵ Own ∷ [])) (Post u)
   exits p u e =
       qed W (‵ (L.the-row .own p (u ∷ [])) ∷ (‵ (flft κ q) ⊛ ‵ ftrue) ∷ ‵ Own ∷ []) ∵
-      suffices ! _ (ends-at 𝓤 H A all.ended stayed (all.clauses 𝓤 H A at-mem run) W (((κ, tt), (q, tt), tt, (s, (i, tt)), at), tt) u p (tt, (tt, tt)) (tt, (tt, tt))) $ says ! e $
+      suffices ! _ (ends-at 𝓤 H A all.ended stayed (all.clauses 𝓤 H A at-mem run) W (((κ, tt), (q, tt), tt, (flags, (s, (i, tt))), at), tt) u p (tt, (tt, (tt, tt))) (tt, (tt, (tt, tt)))) $ says ! e $
       move ! (1 ∷ []) $ frame ! $ nothing ! $ owned ! usize (Is usize) (uint-makes 𝓤 H A W w64) i _ (refl, fits) $ fjoin ! $
-      move ! (2 ∷ 0 ∷ []) $ fjoin ! $ frame ! $ done !
+      move ! (2 ∷ 0 ∷ []) $ fjoin ! $ owned ! Flags (Is Flags) (flags-makes 𝓤 H A W) flags _ isF $ fjoin ! $ frame ! $ done !
 
   module _ (C : Calls 𝓤 H) (Λ : Loops 𝓤 H) (fm : FmC 𝓤 H (W .laws) C) (known-of : Triple 𝓤 (C #of) (Of 𝓤 H A at-mem run)) (known-segment : Triple 𝓤 (C #segment) (Segment 𝓤 H A at-mem run)) where
-    walk : ent 𝓤 (onEntry 𝓤 H A all.signature (κ, tt) (q, tt) (s, (i, tt)) at) (WpFn 𝓤 H C Λ code.function (v ∷ vint w64 i ∷ []) Post)
+    walk : ent 𝓤 (onEntry 𝓤 H A all.signature (κ, tt) (q, tt) (flags, (s, (i, tt))) at) (WpFn 𝓤 H C Λ code.function (flags-val flags ∷ v ∷ vint w64 i ∷ []) Post)
     walk =
-        qed W (raw (onEntry 𝓤 H A all.signature (κ, tt) (q, tt) (s, (i, tt)) at) ∷ []) ∵ enter ! C Λ code.function (v ∷ vint w64 i ∷ []) _ $
-        alloc1 ! (λ l₀. alloc1 ! (λ l₁. alloc1 ! (λ l₂. alloc1 ! (λ l₃. alloc0 ! $ params1 ! $
-        pass1 ! (init ! 4 refl (shr-slice-lawful 𝓤 H A W (named 0) κ u8 .typed s _ isS .0)) $ pass1 ! (init ! 2 refl (tt, record { fits = fits })) $ pass0 ! $
-        move ! (8 ∷ []) $ use1 W (raw (Of 𝓤 H A at-mem run .pre to-of) ⊛ ‵ Own) goes-of $ split ! $
-        -- [what `of` asks; image; room for _3; …; _2; …; _1; …; room for _0; …]
-        calls-at ! fm (Of 𝓤 H A at-mem run) known-of to-of (and-then ! (load ! (from ! (stop !)) (look ! 6 refl)) (and-then ! (lit ! tt) (no-more !))) (λ u.
-        use1 W (later (some (λ (r : Elf). ((‵ (flft κ q) ⊛ ‵ ftrue) ⊛ ‵ (B (κ, tt) .own r (u ∷ []))) ⊛ raw (ensured 𝓤 H A of.ended (of.clauses 𝓤 H A at-mem run) (κ, tt) (s, (0, tt)) tt r)))) (id⊢ 𝓤 _) $ await ! tt $ pick ! (λ r.
+        qed W (raw (onEntry 𝓤 H A all.signature (κ, tt) (q, tt) (flags, (s, (i, tt))) at) ∷ []) ∵ enter ! C Λ code.function (flags-val flags ∷ v ∷ vint w64 i ∷ []) _ $
+        alloc1 ! (λ l₀. alloc1 ! (λ l₁. alloc1 ! (λ l₂. alloc1 ! (λ l₃. alloc1 ! (λ l₄. alloc0 ! $ params1 ! $
+        pass1 ! (init ! 6 refl (flags-lawful 𝓤 H A W .typed flags _ isF .0)) $ pass1 ! (init ! 4 refl (shr-slice-lawful 𝓤 H A W (named 0) κ u8 .typed s _ isS .0)) $ pass1 ! (init ! 2 refl (tt, record { fits = fits })) $ pass0 ! $
+        move ! (10 ∷ []) $ use1 W (raw (Of 𝓤 H A at-mem run .pre to-of) ⊛ ‵ Own) goes-of $ split ! $
+        -- [what `of` asks; image; room for _4; …; _3; …; _2; …; _1; …; room for _0; …]
+        calls-at ! fm (Of 𝓤 H A at-mem run) known-of to-of (and-then ! (load ! (from ! (stop !)) (look ! 8 refl)) (and-then ! (load ! (from ! (stop !)) (look ! 6 refl)) (and-then ! (lit ! tt) (no-more !)))) (λ u.
+        use1 W (later (some (λ (r : Elf). ((‵ (flft κ q) ⊛ ‵ ftrue) ⊛ ‵ (B (κ, tt) .own r (u ∷ []))) ⊛ raw (ensured 𝓤 H A of.ended (of.clauses 𝓤 H A at-mem run) (κ, tt) (flags, (s, (0, tt))) tt r)))) (id⊢ 𝓤 _) $ await ! tt $ pick ! (λ r.
         split ! $ move ! (1 ∷ []) $ use1 W (raw (fact 𝓤 (Made r))) (of-said r) $ heard ! (Made r) (λ e. split ! $ move ! (1 ∷ []) $
         peeks ! (B (κ, tt)) (Is (B (κ, tt))) (shows 𝓤 H A (B (κ, tt))) r (u ∷ []) (λ is.
-        -- [what the struct owns; the token; image; room for _3; …; _2; …; _1; …; room for _0; …]
+        -- [what the struct owns; the token; image; room for _4; …; _3; …; _2; …; _1; …; room for _0; …]
         land ! (from ! (stop !)) (init ! 3 refl (LL.lawful (T.the-type αᵉ) (T′.the-laws αᵉ) 𝓤 H A W .typed r _ is .0)) $
         use2 W (raw (Segment 𝓤 H A at-mem run .pre (to-segment r u))) (goes-segment r u e) $
         calls-at ! fm (Segment 𝓤 H A at-mem run) known-segment (to-segment r u) (and-then ! (load ! (from ! (stop !)) (look ! 2 refl)) (and-then ! (load ! (from ! (stop !)) (look ! 4 refl)) (no-more !))) (λ u′.
         use1 W (later (some (λ (p : Load). ((‵ (flft κ q) ⊛ ‵ ftrue) ⊛ ‵ (L.the-row .own p (u′ ∷ []))) ⊛ raw (ensured 𝓤 H A segment.ended (segment.clauses 𝓤 H A at-mem run) (κ, tt) (r, (i, tt)) tt p)))) (id⊢ 𝓤 _) $ await ! tt $ pick ! (λ p.
         split ! $ move ! (1 ∷ []) $ use1 W (raw (fact 𝓤 (Read r p))) (segment-said r p) $ heard ! (Read r p) (λ g. split ! $ move ! (1 ∷ []) $
-        -- [the result; the token; image; _3; …; _2; …; _1; …; room for _0; …]
+        -- [the result; the token; image; _4; …; _3; …; _2; …; _1; …; room for _0; …]
         peeks ! L.the-row (Is L.the-row) (shows 𝓤 H A L.the-row) p (u′ ∷ []) (λ is′.
-        land ! (from ! (stop !)) (init ! 9 refl (EL.lawful L.the-type L′.the-laws 𝓤 H A W tt .typed p _ is′ .0)) $
-        returns ! (look ! 9 refl) $ forget ! 3 refl $ forget ! 5 refl $ forget ! 7 refl $ forget ! 9 refl $
-        move ! (9 ∷ 10 ∷ []) $ free1 ! $ move ! (7 ∷ 8 ∷ []) $ free1 ! $ move ! (5 ∷ 6 ∷ []) $ free1 ! $ move ! (3 ∷ 4 ∷ []) $ free1 ! $ free0 ! $
-        by ! (exits p u′ (read-is r p e g))))))))))))))
+        land ! (from ! (stop !)) (init ! 11 refl (EL.lawful L.the-type L′.the-laws 𝓤 H A W tt .typed p _ is′ .0)) $
+        returns ! (look ! 11 refl) $ forget ! 3 refl $ forget ! 5 refl $ forget ! 7 refl $ forget ! 9 refl $ forget ! 11 refl $
+        move ! (11 ∷ 12 ∷ []) $ free1 ! $ move ! (9 ∷ 10 ∷ []) $ free1 ! $ move ! (7 ∷ 8 ∷ []) $ free1 ! $ move ! (5 ∷ 6 ∷ []) $ free1 ! $ move ! (3 ∷ 4 ∷ []) $ free1 ! $ free0 ! $
+        by ! (exits p u′ (read-is r p e g)))))))))))))))
 
 module _ {M : Type 1} (𝓤 : URA M) (H : Heap 𝓤) (A : Atoms 𝓤) (W : Given 𝓤 H A) (at-mem : Memory → SProp 𝓤) (run : Routine → Fun 𝓤) (𝓣 : Tables 𝓤 H) (known-of : Triple 𝓤 (𝓣 .C #of) (Of 𝓤 H A at-mem run)) (known-segment : Triple 𝓤 (𝓣 .C #segment) (Segment 𝓤 H A at-mem run)) where
   segment-of-walks : Walks 𝓤 H A all.ended stayed (WpFn 𝓤 H (𝓣 .C) (𝓣 .Λ) code.function) (all.clauses 𝓤 H A at-mem run)
   segment-of-walks =
       walked 𝓤 H A all.ended stayed (all.clauses 𝓤 H A at-mem run) (WpFn 𝓤 H (𝓣 .C) (𝓣 .Λ) code.function)
-      (λ κs. (slice-vals, (uint-vals w64, tt))) (λ κs. (shr-slice-tells (named 0) (κs .0) u8, (uint-tells w64, tt)))
-      (λ κs qs bounds a g are. needs 𝓤 ((elfError (now (a .0)) ≡ 0) × (a .1 .0 < phnum (now (a .0)))) _ (λ pre.
-      walk 𝓤 H A W at-mem run (κs .0) (qs .0) (a .0) (a .1 .0) (are .0) (are .1 .0 .1) (pre .0) (pre .1) (𝓣 .C) (𝓣 .Λ) (fmOf 𝓤 H (W .laws) 𝓣) known-of known-segment))
+      (λ κs. (flags-vals, (slice-vals, (uint-vals w64, tt)))) (λ κs. (flags-tells, (shr-slice-tells (named 0) (κs .0) u8, (uint-tells w64, tt))))
+      (λ κs qs bounds a g are. needs 𝓤 ((elfError (a .0) (now (a .1 .0)) ≡ 0) × (a .1 .1 .0 < phnum (now (a .1 .0)))) _ (λ pre.
+      walk 𝓤 H A W at-mem run (κs .0) (qs .0) (a .0) (a .1 .0) (a .1 .1 .0) (are .0) (are .1 .0) (are .1 .1 .0 .1) (pre .0) (pre .1) (𝓣 .C) (𝓣 .Λ) (fmOf 𝓤 H (W .laws) 𝓣) known-of known-segment))
 
   segment-of-meets : Meets 𝓤 H A all.signature (WpFn 𝓤 H (𝓣 .C) (𝓣 .Λ) code.function) (all.spec 𝓤 H A at-mem run)
   segment-of-meets =
-      walk-meets 𝓤 H A all.ended stayed W (goes-none-slice 𝓤 H A W 1 (0 ∷ []) tt (plain (λ _. u8)) yes, (goes-none 𝓤 H A W 1 (λ _. usize) yes (λ κs x f. refl), tt)) (all.clauses 𝓤 H A at-mem run)
+      walk-meets 𝓤 H A all.ended stayed W (goes-none 𝓤 H A W 1 (λ _. Flags) yes (λ κs x f. refl), (goes-none-slice 𝓤 H A W 1 (0 ∷ []) tt (plain (λ _. u8)) yes, (goes-none 𝓤 H A W 1 (λ _. usize) yes (λ κs x f. refl), tt))) (all.clauses 𝓤 H A at-mem run)
       (WpFn 𝓤 H (𝓣 .C) (𝓣 .Λ) code.function) (WpFn-mono 𝓤 H (W .laws) 𝓣 code.function) segment-of-walks
 
 pub segment-of-spec : {M : Type 1} → stated.statement M

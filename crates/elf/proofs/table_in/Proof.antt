@@ -6,23 +6,20 @@ use native.Mathlib.Omega.{arith}
 use denote.Ref.{now}
 use lib.ListN.{length, take, drop}
 use borrow.Author.Needs.{needs}
-use Rattle.spec.specs.Elf.{elfError, phoff, phnum}
+use Rattle.spec.specs.Elf.{phoff, phnum}
 use Rattle.elf_header.specs.declared.header.Ehdr.{Ehdr}
 use Rattle.elf.proofs.Image.{accepted}
-use Rattle.elf.proofs.Tables.{table-is, no-table}
+use Rattle.elf.proofs.Tables.{no-table}
 use Rattle.elf.proofs.table_in.Statement.{statement}
 use Rattle.elf.proofs.table_in.Tie as tie
 
 returns : tie.Need-returns
-returns c = sym (no-table (now (c .before .before .before .args .image)) (λ z. c .before .if1 .taken (c .before .before .before .pre ∙ z)))
+returns c = sym (no-table _ (now (c .before .before .before .args .image)) (c .before .if1 .taken))
 
 read-ehdr-requires : tie.Need-read-ehdr-requires
-read-ehdr-requires c κs = accepted (now (c .before .before .args .image)) (sym (c .before .before .pre) ∙ c .if1 .left) .head
+read-ehdr-requires c κs = let p = c .before .before .pre in accepted (p .0) _ (sym (p .1) ∙ c .if1 .left) .head
 
--- it is accepted, and its table lies in it
-zero : (c : tie.After-read-ehdr) → elfError (now (c .before .before .before .args .image)) ≡ 0
-zero c = sym (c .before .before .before .pre) ∙ c .before .if1 .left
-
+-- its table lies in it
 from : (c : tie.After-read-ehdr) → c .read-ehdr .result .phoff ≡ phoff (now (c .before .before .before .args .image))
 from c = ap (λ (h : Ehdr). h .phoff) (c .read-ehdr .ensures)
 
@@ -30,7 +27,7 @@ many : (c : tie.After-read-ehdr) → c .read-ehdr .result .phnum ≡ phnum (now 
 many c = ap (λ (h : Ehdr). h .phnum) (c .read-ehdr .ensures)
 
 room : (c : tie.After-read-ehdr) → c .read-ehdr .result .phoff + 56 * c .read-ehdr .result .phnum ≤ length (now (c .before .before .before .args .image))
-room c = rw (from c, many c) (accepted _ (zero c) .table)
+room c = let p = c .before .before .before .pre in rw (from c, many c) (accepted (p .0) _ (sym (p .1) ∙ c .before .if1 .left) .table)
 
 add-to : tie.Need-add-to
 add-to c = let r = room (c .before) in omega (arith, r)
@@ -44,7 +41,7 @@ returns-2 c =
     let image = now (r .before .before .before .args .image) in
     let h = r .read-ehdr .result in
     let n : h .phoff + 56 * h .phnum - h .phoff ≡ 56 * h .phnum = omega arith in
-    ap (λ (k : ℕ). take k (drop (h .phoff) image)) n ∙ ap₂ (λ (o k : ℕ). take (56 * k) (drop o image)) (from r) (many r) ∙ sym (table-is image (zero r))
+    rw (r .before .if1 .left) (ap (λ (k : ℕ). take k (drop (h .phoff) image)) n ∙ ap₂ (λ (o k : ℕ). take (56 * k) (drop o image)) (from r) (many r))
 
 pub table-in-spec : {M : Type 1} → statement M
 table-in-spec =

@@ -26,35 +26,35 @@ low c =
     omega (arith, c .pre .1 .1 .1, bss-low setup image (c .pre .1 .1 .1) (c .pre .0) (c .pre .1 .0), ap (λ (b : VirtRange). b .start) (c .pre .1 .1 .0))
 
 segments-requires : tie.Need-segments-requires
-segments-requires c κs = (c .before .pre .0, low (c .before))
+segments-requires c κs = (c .before .before .pre .0, low (c .before .before))
 
 -- what is recorded is the image's
-whole : (c : tie.After-segments) → c .segments .result ≡ recorded (imageSegments (now (c .before .before .args .image)))
+whole : (c : tie.After-segments) → let a = c .before .before .before .args in c .segments .result ≡ recorded (imageSegments (a .setup) (now (a .image)))
 whole c =
-    let a = c .before .before .args in
-    c .segments .ensures ∙ ap (λ (b : VirtRange). recorded (kept b (segmentsOf (now (a .image))))) (c .before .before .pre .1 .1 .0)
+    let a = c .before .before .before .args in
+    c .segments .ensures ∙ ap (λ (b : VirtRange). recorded (kept b (segmentsOf (a .setup .flags) (now (a .image))))) (c .before .before .before .pre .1 .1 .0)
 
-many : (c : tie.After-segments) → c .segments .result .count ≡ length (imageSegments (now (c .before .before .args .image)))
+many : (c : tie.After-segments) → let a = c .before .before .before .args in c .segments .result .count ≡ length (imageSegments (a .setup) (now (a .image)))
 many c = ap (λ (r : Recorded). r .count) (whole c)
 
 returns : tie.Need-returns
 returns c =
-    let p = c .before .before .before .before .before in
+    let p = c .before .before .before .before .before .before in
     let image = now (p .args .image) in
     let setup = p .args .setup in
     c .refused .ensures
     ∙ plan-many setup image (p .pre .0) (p .pre .1 .0) (omega (arith, many (c .before .before .before), c .before .if1 .taken))
 
 page-up-requires : tie.Need-page-up-requires
-page-up-requires c κs = omega (arith, low (c .before .before .before .before))
+page-up-requires c κs = omega (arith, low (c .before .before .before .before .before))
 
 returns-2 : tie.Need-returns-2
 returns-2 c =
-    let p = c .before .before .before .before .before .before .before .before .before in
+    let p = c .before .before .before .before .before .before .before .before .before .before in
     let image = now (p .args .image) in
     let setup = p .args .setup in
     let s = c .before .before .before .before .before .before .before in
-    let us = imageSegments image in
+    let us = imageSegments setup image in
     let few : length us ≤ 15 = omega (arith, many s, c .before .before .before .before .before .if1 .left) in
     let first = c .before .before .before .page-count .ensures .0 ∙ ap (λ (r : Recorded). pageCount (take (r .count) (r .segments))) (whole s) ∙ ap pageCount (first-ones setup us few) in
     let behind = c .before .before .pages .ensures .0 ∙ ap (λ (x : ℕ). (p .args .bss .end - x) / 4096) (c .before .before .before .before .page-up .ensures)

@@ -9,7 +9,7 @@ use Rattle.exec.proofs.plan_of.Tie as tie
 
 returns : tie.Need-returns
 returns c =
-    let a = c .before .before .before .before .args in
+    let a = c .before .before .before .before .before .args in
     c .refused .ensures ∙ plan-elf (a .setup) (now (a .image)) _ (c .before .before .number-of .ensures) (c .before .if1 .taken)
 
 pub plan-of-spec : {M : Type 1} → statement M

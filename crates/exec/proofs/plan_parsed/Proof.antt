@@ -12,7 +12,7 @@ use Rattle.exec.proofs.plan_parsed.Tie as tie
 fill-requires : tie.Need-fill-requires
 fill-requires c κs =
     let p = c .before .before .before .before .before .before in
-    let y = layout-yes (p .args .setup) (segmentsOf (now (p .args .image))) _ (sym (c .before .before .before .before .layout .ensures) ∙ c .before .before .f .given .1) in
+    let y = layout-yes (p .args .setup) (segmentsOf (p .args .setup .flags) (now (p .args .image))) _ (sym (c .before .before .before .before .layout .ensures) ∙ c .before .before .f .given .1) in
     (p .pre .0, (y .0, (y .1, p .pre .1)))
 
 returns : tie.Need-returns
@@ -21,7 +21,7 @@ returns c =
     let image = now (p .args .image) in
     let setup = p .args .setup in
     c .refused .ensures
-    ∙ plan-layout setup image (p .pre .0) (layout-no setup (segmentsOf image) (sym (c .before .before .before .layout .ensures) ∙ c .before .enum-told .given .1))
+    ∙ plan-layout setup image (p .pre .0) (layout-no setup (segmentsOf (setup .flags) image) (sym (c .before .before .before .layout .ensures) ∙ c .before .enum-told .given .1))
 
 pub plan-parsed-spec : {M : Type 1} → statement M
 plan-parsed-spec =

@@ -6,6 +6,7 @@ use native.Mathlib.Omega.{arith}
 use denote.Ref.{now}
 use lib.ListN.{length}
 use borrow.Author.Needs.{needs}
+use Rattle.spec.specs.Flags.{builtIn}
 use Rattle.spec.specs.Numbers.{SetupOk, deposit}
 use Rattle.spec.specs.Elf.{elfError}
 use Rattle.spec.specs.Exec.{imageError, imageSegments}
@@ -26,7 +27,7 @@ planned : (c : tie.After-plan-of) → c .plan-of .result ≡ planOf deposit (now
 planned c = c .plan-of .ensures ∙ ap (λ (u : Setup). planOf u (now (c .before .before .before .before .before .args .image))) (c .before .deposit .ensures)
 
 -- and so are its numbers
-elf : (c : tie.After-plan-of) → c .plan-of .result .elf ≡ elfError (now (c .before .before .before .before .before .args .image))
+elf : (c : tie.After-plan-of) → c .plan-of .result .elf ≡ elfError builtIn (now (c .before .before .before .before .before .args .image))
 elf c = ap (λ (p : Plan). p .elf) (planned c) ∙ plan-elf-number deposit (now (c .before .before .before .before .before .args .image))
 
 number : (c : tie.After-plan-of) → c .plan-of .result .number ≡ imageError deposit (now (c .before .before .before .before .before .args .image))

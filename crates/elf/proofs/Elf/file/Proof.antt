@@ -71,7 +71,7 @@ Part 𝓤 H A at-mem run = tripleOf 𝓤 H A part.signature (part.spec 𝓤 H A 
 module _ {M : Type 1} (𝓤 : URA M) (H : Heap 𝓤) (A : Atoms 𝓤) (W : Given 𝓤 H A) (at-mem : Memory → SProp 𝓤) (run : Routine → Fun 𝓤) (κ : Lft) (q : Share) (d : Elf) (g : Segment)
     (isG : Is G.the-row g (LL.vals G.the-type G′.the-laws g)) where
   abbrev mach : Val
-  mach = T′.lowered d
+  mach = LL.val (T.the-type (namedLft 1 0 tt (κ, tt))) (T′.the-laws (namedLft 1 0 tt (κ, tt))) d
 
   -- the machine values of the image and of the segment
   abbrev w : Val
@@ -97,7 +97,7 @@ module _ {M : Type 1} (𝓤 : URA M) (H : Heap 𝓤) (A : Atoms 𝓤) (W : Given
   Ls = T′.the-laws (namedLft 1 0 tt (κ, tt))
 
   abbrev vd : Values (D .parts)
-  vd = (d .image, (d .table, (d .entry, (d .number, tt))))
+  vd = (d .image, (d .table, (d .entry, (d .number, (d .flags, tt)))))
 
   -- a segment's numbers
   offset-fits : g .offset < 2 ^ 64

@@ -20,7 +20,7 @@ use Rattle.exec.proofs.layout.layout.Tie as tie
 
 -- with k headers left from a place on
 abbrev Left : Setup → List ℕ → Laid → ℕ → ℕ → Type 0
-Left setup image seen at k = fits setup nothing (segmentsOf image) ≡ fits setup seen (segs image at k)
+Left setup image seen at k = fits setup nothing (segmentsOf (setup .flags) image) ≡ fits setup seen (segs (setup .flags) image at k)
 
 abbrev Inv-loop : tie.InvT-loop
 Inv-loop setup image seen₀ n k₀ seen k = (n ≡ phnum image) × (k ≤ phnum image) × Left setup image seen (phoff image + 56 * k) (phnum image - k)
@@ -32,7 +32,7 @@ loop-holds : tie.Need-loop-holds Inv-loop μ-loop
 loop-holds c =
     let a = c .before .before .args in
     let image = now (a .image) in
-    (c .count-of .ensures, omega arith, at-first (Left (a .setup) image nothing) (phoff image) (phnum image) (ap (fits (a .setup) nothing) (sym (segs-all image))))
+    (c .count-of .ensures, omega arith, at-first (Left (a .setup) image nothing) (phoff image) (phnum image) (ap (fits (a .setup) nothing) (sym (segs-all (a .setup .flags) image))))
 
 lay-header-requires : tie.Need-lay-header-requires Inv-loop μ-loop
 lay-header-requires c κs = let l = c .before .loop in (c .before .before .before .before .pre, omega (arith, c .loop-test .taken, l .inv .0))
@@ -41,13 +41,13 @@ lay-header-requires c κs = let l = c .before .loop in (c .before .before .befor
 on : (c : tie.After-lay-header Inv-loop μ-loop) (f : Fit) → c .lay-header .result ≡ f
     → let a = c .before .before .before .before .before .args in
     let l = c .before .before .loop in
-    (0 < phnum (now (a .image)) - l .k) × (fits (a .setup) nothing (segmentsOf (now (a .image))) ≡ then (a .setup) f (segs (now (a .image)) (phoff (now (a .image)) + 56 * l .k + 56) (phnum (now (a .image)) - l .k - 1)))
+    (0 < phnum (now (a .image)) - l .k) × (fits (a .setup) nothing (segmentsOf (a .setup .flags) (now (a .image))) ≡ then (a .setup) f (segs (a .setup .flags) (now (a .image)) (phoff (now (a .image)) + 56 * l .k + 56) (phnum (now (a .image)) - l .k - 1)))
 on c f e =
     let a = c .before .before .before .before .before .args in
     let l = c .before .before .loop in
     let more : 0 < phnum (now (a .image)) - l .k = omega (arith, c .before .loop-test .taken, l .inv .0) in
-    let here = checked-at (now (a .image)) (l .k) (c .before .before .before .before .before .pre) (omega (arith, more)) in
-    (more, l .inv .2 ∙ fits-some (a .setup) (now (a .image)) (phoff (now (a .image)) + 56 * l .k) (phnum (now (a .image)) - l .k) (l .seen) f more here (sym e ∙ c .lay-header .ensures))
+    let here = checked-at (a .setup .flags) (now (a .image)) (l .k) (c .before .before .before .before .before .pre) (omega (arith, more)) in
+    (more, l .inv .2 ∙ fits-some (a .setup) (a .setup .flags) (now (a .image)) (phoff (now (a .image)) + 56 * l .k) (phnum (now (a .image)) - l .k) (l .seen) f more here (sym e ∙ c .lay-header .ensures))
 
 add-k : tie.Need-add-k Inv-loop μ-loop
 add-k c = omega (arith, c .before .loop-test .taken)
@@ -70,7 +70,7 @@ returns-2 : tie.Need-returns-2 Inv-loop μ-loop
 returns-2 c =
     let l = c .before .loop in
     let a = c .before .before .before .before .args in
-    sym (l .inv .2 ∙ fits-end (a .setup) _ (phoff (now (a .image)) + 56 * l .k) (phnum (now (a .image)) - l .k) (l .seen) (omega (arith, c .loop-test .left, l .inv .0)))
+    sym (l .inv .2 ∙ fits-end (a .setup) (a .setup .flags) _ (phoff (now (a .image)) + 56 * l .k) (phnum (now (a .image)) - l .k) (l .seen) (omega (arith, c .loop-test .left, l .inv .0)))
 
 pub layout-spec : {M : Type 1} → statement M
-layout-spec = tie.close (tie.spec Inv-loop μ-loop (λ c κs. search needs) loop-holds lay-header-requires add-k (λ c. search needs) returns (λ c. search needs) loop-less loop-again returns-2)
+layout-spec = tie.close (tie.spec Inv-loop μ-loop (λ c κs. (_, c .before .pre)) loop-holds lay-header-requires add-k (λ c. search needs) returns (λ c. search needs) loop-less loop-again returns-2)

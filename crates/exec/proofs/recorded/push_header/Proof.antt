@@ -14,7 +14,7 @@ user-segment-requires : tie.Need-user-segment-requires
 user-segment-requires c κs =
     let a = c .before .before .before .before .before .args in
     let p = c .before .before .before .before .before .pre in
-    let g : Checked (length (now (a .image))) (c .before .l .given .0 .0) = rw (c .before .l .given .1) at (rw (sym (c .before .before .before .segment-of .ensures)) at (checked-at (now (a .image)) (a .i) (p .0 .0) (p .0 .1))) in
+    let g : Checked (length (now (a .image))) (c .before .l .given .0 .0) = rw (c .before .l .given .1) at (rw (sym (c .before .before .before .segment-of .ensures)) at (checked-at (a .flags) (now (a .image)) (a .i) (p .0 .0) (p .0 .1))) in
     (g .end, p .1 .0)
 
 returns : tie.Need-returns

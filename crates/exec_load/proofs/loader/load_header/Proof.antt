@@ -1,14 +1,16 @@
 -- `loader::load_header` meets its contract: a header that is skipped places nothing, and any other its segment's pages.
 use mathlib.Core.Path.{refl, sym, ap, _∙_}
 use mathlib.Core.List.{List, [], _∷_}
-use Prim.Native.Nat.{ℕ, _+_, _-_, _≤_}
+use Prim.Native.Nat.{ℕ, _+_, _*_, _-_, _≤_}
 use native.Mathlib.Omega.{arith}
 use denote.Ref.{now}
 use lib.ListN.{length, drop, length-take}
 use borrow.Author.Needs.{needs}
 use Rattle.spec.specs.Numbers.{maxTop, pageBytes}
 use Rattle.spec.specs.Frames.{Store, pagesOf, place, store}
+use Rattle.spec.specs.Elf.{phoff, phdrAt}
 use Rattle.elf.specs.Reader.{Checked}
+use Rattle.elf.proofs.Checked.{perm-most}
 use Rattle.elf.proofs.HeaderAt.{checked-at}
 use Rattle.pagealloc.specs.Contents.{fileAt}
 use Rattle.exec_load.proofs.Headers.{checked-of, laid-of, whole, place-skip, load-taken}
@@ -17,7 +19,7 @@ use Rattle.exec_load.proofs.loader.load_header.Tie as tie
 
 -- the segment that was read
 held : (c : tie.After-known-told) → Checked (length (now (c .before .before .before .before .before .before .before .args .image))) (c .before .l .given .0 .0)
-held c = checked-of _ _ _ (sym (c .before .before .before .segment-of .ensures) ∙ c .before .l .given .1) (checked-at _ _ (c .before .before .before .before .before .before .before .pre .0 .3) (c .before .before .before .before .before .before .before .pre .0 .4))
+held c = checked-of _ _ _ (sym (c .before .before .before .segment-of .ensures) ∙ c .before .l .given .1) (checked-at _ _ _ (c .before .before .before .before .before .before .before .pre .0 .3) (c .before .before .before .before .before .before .before .pre .0 .4))
 
 laid : (c : tie.After-known-told) → c .before .l .given .0 .0 .vaddr + c .before .l .given .0 .0 .memsz ≤ maxTop
 laid c = laid-of _ _ (sym (c .before .before .before .segment-of .ensures) ∙ c .before .l .given .1) (c .before .before .before .before .before .before .before .pre .1 .0)
@@ -35,11 +37,13 @@ load-segment-requires c κs =
     let p = a .pre in
     let g = b .before .l .given .0 .0 in
     let h = held b in
+    let image = now (a .args .image) in
+    let most = perm-most (a .args .flags) (phdrAt image (phoff image + 56 * a .args .i)) g (p .0 .6) (sym (b .before .before .before .segment-of .ensures) ∙ b .before .l .given .1) in
     let u = c .before .before .before .user-segment .ensures in
     let w = whole (a .args .bss) g (p .0 .5) (laid b) in
     let f = h .file in
     let e = h .end in
-    ((p .0 .0, p .0 .1, p .0 .2, rw u (omega (arith, h .perm .1))), ((rw u (w .start), rw u (w .end), rw u (w .low), omega (arith, ap length (c .before .before .file-of .ensures), length-take (g .filesz) (drop (g .offset) (now (a .args .image))), f, e)), p .1 .1))
+    ((p .0 .0, p .0 .1, p .0 .2, rw u (omega (arith, most))), ((rw u (w .start), rw u (w .end), rw u (w .low), omega (arith, ap length (c .before .before .file-of .ensures), length-take (g .filesz) (drop (g .offset) image), f, e)), p .1 .1))
 
 returns : tie.Need-returns
 returns c =

@@ -25,32 +25,32 @@ use Rattle.exec_load.proofs.loader.load_segments.Statement.{statement}
 use Rattle.exec_load.proofs.loader.load_segments.Tie as tie
 
 -- with k headers left from a place on
-abbrev Left : Store → ℕ → List ℕ → VirtRange → Store → ℕ → ℕ → Type 0
-Left m₀ owner image bss m at k =
-    ((setup : Setup) × SetupOk setup × (layoutOk setup (segs image at k) ≡ true))
-    × (place m₀ owner (segmentPages bss (segmentsOf image)) ≡ place m owner (segmentPages bss (segs image at k)))
+abbrev Left : List ℕ → Store → ℕ → List ℕ → VirtRange → Store → ℕ → ℕ → Type 0
+Left flags m₀ owner image bss m at k =
+    ((setup : Setup) × SetupOk setup × (layoutOk setup (segs flags image at k) ≡ true))
+    × (place m₀ owner (segmentPages bss (segmentsOf flags image)) ≡ place m owner (segmentPages bss (segs flags image at k)))
 
 abbrev Inv-loop : tie.InvT-loop
-Inv-loop frames₀ book₀ owner image bss top₀ n i₀ frames book top i =
+Inv-loop flags frames₀ book₀ owner image bss top₀ n i₀ frames book top i =
     (n ≡ phnum image)
     × (i ≤ phnum image)
-    × Left (store frames₀ book₀) owner image bss (store frames book) (phoff image + 56 * i) (phnum image - i)
+    × Left flags (store frames₀ book₀) owner image bss (store frames book) (phoff image + 56 * i) (phnum image - i)
     × Passed top book
     × (length frames ≡ length frames₀)
     × (length book ≡ length book₀)
 
 abbrev μ-loop : tie.MeasureT-loop
-μ-loop frames₀ book₀ owner image bss top₀ n i₀ frames book top i = phnum image - i
+μ-loop flags frames₀ book₀ owner image bss top₀ n i₀ frames book top i = phnum image - i
 
 loop-holds : tie.Need-loop-holds Inv-loop μ-loop
 loop-holds c =
     let a = c .before .before .before .before .args in
     let p = c .before .before .before .before .pre in
-    let whole = segs-all (now (a .image)) in
+    let whole = segs-all (a .flags) (now (a .image)) in
     let m : Store = store (now (a .frames)) (now (a .book)) in (
       c .count-of .ensures,
       omega arith,
-      at-first (Left m (a .owner) (now (a .image)) (a .bss) m) (phoff (now (a .image))) (phnum (now (a .image))) (
+      at-first (Left (a .flags) m (a .owner) (now (a .image)) (a .bss) m) (phoff (now (a .image))) (phnum (now (a .image))) (
         (p .1 .1 .0, p .1 .1 .1, ap (layoutOk (p .1 .1 .0)) whole ∙ p .1 .1 .2),
         ap (λ (gs : List Segment). place m (a .owner) (segmentPages (a .bss) gs)) (sym whole),
       ),
@@ -72,8 +72,8 @@ load-header-requires c κs =
     let at = phoff (now (a .image)) + 56 * l .i in
     let k = one-left (c .before .before) in
     let v = l .inv .2 in
-    let q = front-laid (v .0 .0) (v .0 .1) image (loadOf (phdrAt image at)) _ (ap (layoutOk (v .0 .0)) (sym (segs-some image at (phnum (now (a .image)) - l .i) _ k refl)) ∙ v .0 .2) in
-    ((omega (arith, p .0 .0, l .inv .4, l .inv .5), p .0 .1, p .0 .2, p .1 .0, omega (arith, k), p .0 .3), (q .0, l .inv .3))
+    let q = front-laid (v .0 .0) (v .0 .1) image (loadOf (a .flags) (phdrAt image at)) _ (ap (layoutOk (v .0 .0)) (sym (segs-some (a .flags) image at (phnum (now (a .image)) - l .i) _ k refl)) ∙ v .0 .2) in
+    ((omega (arith, p .0 .0, l .inv .4, l .inv .5), p .0 .1, p .0 .2, p .1 .0 .0, omega (arith, k), p .0 .3, p .1 .0 .1), (q .0, l .inv .3))
 
 add-i : tie.Need-add-i Inv-loop μ-loop
 add-i c = omega (arith, c .before .before .before .before .before .before .before .loop-test .taken, c .before .before .before .before .before .before .before .before .before .before .before .before .before .good)
@@ -88,16 +88,16 @@ loop-again c =
     let image = now (a .image) in
     let at = phoff (now (a .image)) + 56 * l .i in
     let k = one-left (c .before .before .before .before .before .before .before) in
-    let here = loadOf (phdrAt image at) in
-    let rest = segs image (at + 56) (phnum (now (a .image)) - l .i - 1) in
-    let s = segs-some image at (phnum (now (a .image)) - l .i) here k refl in
+    let here = loadOf (a .flags) (phdrAt image at) in
+    let rest = segs (a .flags) image (at + 56) (phnum (now (a .image)) - l .i - 1) in
+    let s = segs-some (a .flags) image at (phnum (now (a .image)) - l .i) here k refl in
     let v = l .inv .2 in
     let q = front-laid (v .0 .0) (v .0 .1) image here rest (ap (layoutOk (v .0 .0)) (sym s) ∙ v .0 .2) in
     let m : Store = store (l .frames) (l .book) in
     let r = c .before .before .before .before .load-header in (
       l .inv .0,
       omega (arith, k),
-      at-next (Left (store (now (a .frames)) (now (a .book))) (a .owner) image (a .bss) _) (phoff (now (a .image))) (phnum (now (a .image))) (l .i) (
+      at-next (Left (a .flags) (store (now (a .frames)) (now (a .book))) (a .owner) image (a .bss) _) (phoff (now (a .image))) (phnum (now (a .image))) (l .i) (
         (v .0 .0, v .0 .1, q .1),
         v .1
             ∙ ap (λ (gs : List Segment). place m (a .owner) (segmentPages (a .bss) gs)) s
@@ -120,7 +120,7 @@ returns : tie.Need-returns Inv-loop μ-loop
 returns c =
     let a = c .before .before .before .before .before .before .args in
     let l = c .before .loop in
-    (sym (l .inv .2 .1 ∙ place-done _ (a .owner) (a .bss) _ (segs-none (now (a .image)) (phoff (now (a .image)) + 56 * l .i) (phnum (now (a .image)) - l .i) (omega (arith, c .loop-test .left, l .inv .0)))), l .inv .3)
+    (sym (l .inv .2 .1 ∙ place-done _ (a .owner) (a .bss) _ (segs-none (a .flags) (now (a .image)) (phoff (now (a .image)) + 56 * l .i) (phnum (now (a .image)) - l .i) (omega (arith, c .loop-test .left, l .inv .0)))), l .inv .3)
 
 pub load-segments-spec : {M : Type 1} → statement M
-load-segments-spec = tie.close (tie.spec Inv-loop μ-loop (λ c κs. search needs) loop-holds load-header-requires add-i loop-less loop-again same-length same-length-2 returns)
+load-segments-spec = tie.close (tie.spec Inv-loop μ-loop (λ c κs. (_, c .before .before .before .pre .1 .0 .0)) loop-holds load-header-requires add-i loop-less loop-again same-length same-length-2 returns)

@@ -36,8 +36,8 @@ use Rattle.spec.proofs.Procs.Laws as P′
 use Rattle.spec.specs.World.{State, stateOf}
 use Rattle.holthrimi.specs.Rules.{bookError}
 use Rattle.holthrimi.proofs.Locals.{ok, enters, peek, fill, leaves}
-use Rattle.holthrimi.proofs.Params.{Par, bytes, words, records, setup, spells, all-tell, all-fit}
-use Rattle.holthrimi.proofs.Telling.{of-setup, asked, framed, walks, arg}
+use Rattle.holthrimi.proofs.Params.{Par, of-setup, bytes, words, records, setup, spells, all-tell, all-fit}
+use Rattle.holthrimi.proofs.Telling.{asked, framed, walks, arg}
 use Rattle.holthrimi.proofs.Looked.{looked}
 use Rattle.holthrimi.proofs.rules.book_error as work
 use Rattle.holthrimi.proofs.rules.book_error.Symbol as work-def

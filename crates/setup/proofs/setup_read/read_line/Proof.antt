@@ -5,7 +5,8 @@ use native.Mathlib.Omega.{arith}
 use denote.Ref.{now}
 use lib.ListN.{length}
 use borrow.Author.Tests.{not-true, not-false}
-use Rattle.setup.proofs.Lines.{starts-short, named-other, read-bad, read-is, end-is, length-part}
+use Rattle.text.proofs.Starts.{starts-short}
+use Rattle.setup.proofs.Lines.{named-other, read-bad, read-is, end-is, length-part}
 use borrow.Author.Needs.{needs}
 use Rattle.setup.proofs.setup_read.read_line.Statement.{statement}
 use Rattle.setup.proofs.setup_read.read_line.Tie as tie

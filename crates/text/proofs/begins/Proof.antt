@@ -1,22 +1,22 @@
--- `setup_read::begins` meets its contract. The invariant: the bytes begin with the name if they do from `i` on.
+-- `text::begins` meets its contract. The invariant: the bytes begin with the others if they do from `i` on.
 -- Assumes nothing.
 use mathlib.Core.Path.{_≡_, refl, sym, _∙_}
 use Prim.Native.Nat.{_-_, _≤_}
 use native.Mathlib.Omega.{arith}
 use denote.Ref.{now}
 use lib.ListN.{length, drop}
-use Rattle.setup.proofs.Lines.{starts, starts-short, starts-more, starts-other, starts-end}
-use Rattle.setup.proofs.setup_read.begins.Statement.{statement}
-use Rattle.setup.proofs.setup_read.begins.Tie as tie
+use Rattle.text.proofs.Starts.{starts, starts-short, starts-more, starts-other, starts-end}
+use Rattle.text.proofs.begins.Statement.{statement}
+use Rattle.text.proofs.begins.Tie as tie
 
 abbrev Inv-loop : tie.InvT-loop
-Inv-loop s name i₀ i = (i ≤ length name) × (length name ≤ length s) × (starts name s ≡ starts (drop i name) (drop i s))
+Inv-loop s front i₀ i = (i ≤ length front) × (length front ≤ length s) × (starts front s ≡ starts (drop i front) (drop i s))
 
 abbrev μ-loop : tie.MeasureT-loop
-μ-loop s name i₀ i = length name - i
+μ-loop s front i₀ i = length front - i
 
 returns : tie.Need-returns Inv-loop μ-loop
-returns c = sym (starts-short (now (c .before .args .s)) (now (c .before .args .name)) (c .if1 .taken))
+returns c = sym (starts-short (now (c .before .args .s)) (now (c .before .args .front)) (c .if1 .taken))
 
 loop-holds : tie.Need-loop-holds Inv-loop μ-loop
 loop-holds c = (omega arith, c .if1 .left, refl)

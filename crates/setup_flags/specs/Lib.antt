@@ -1,0 +1,3 @@
+-- What the contracts of this crate cite besides the specification.
+pub mod Texts
+pub mod Rows
