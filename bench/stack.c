@@ -59,12 +59,12 @@ static void *nothing(void *arg) {
 }
 
 static void *start(void *arg) {
-    answer = holthrimi_start(LENT, 1, image, IMAGE, (const uint8_t *)"lex", 3, bytes, ARGS, lengths, ARGS);
+    answer = holthrimi_start(LENT, 1, false, 0, image, IMAGE, (const uint8_t *)"lex", 3, bytes, ARGS, lengths, ARGS);
     return arg;
 }
 
 static void *replace(void *arg) {
-    answer = holthrimi_replace(LENT, 1, image, IMAGE, (const uint8_t *)"lex", 3, argv);
+    answer = holthrimi_replace(LENT, 1, false, 0, image, IMAGE, (const uint8_t *)"lex", 3, argv);
     return arg;
 }
 

@@ -1,6 +1,6 @@
 /*
- * Holthrimi, the exec layer of the r9 kernel, as a C library: it checks a static aarch64 executable, loads it into lent frames with a
- * page book, starts, replaces, forks and ends processes, moves their break, and copies to and from their memory.
+ * Holthrimi, the exec layer of the r9 kernel, as a C library: it checks an executable, a static aarch64 ELF or a Plan 9 a.out, loads it
+ * into lent frames with a page book, starts, replaces, forks and ends processes, moves their break, and copies to and from their memory.
  *
  *     rt staticlib holthrimi        proves and writes target/staticlib/libholthrimi.a (x86-64)
  *     cc program.c -Iinclude target/staticlib/libholthrimi.a
@@ -57,10 +57,10 @@ enum {
  * The machine's numbers: where user text may begin; the top of the user stack, and its size; and the end of the user address space.
  * All are multiples of 4,096; utzero and ustksize at least 4,096; ustksize at most 65,536 and below ustktop; utzero + 8,192 at most
  * ustktop - ustksize; ustktop at most uaddrtop, and that at most 2^47. Every call refuses others with 38, directly after 1.
- * And the flag table: flags[r] is what a segment is loaded as whose flags have the low three bits r (execute 1, write 2, read 4), text,
- * rodata or data as above, or 0 for refused. Rows 0, 1, 2, 3 and 7 are refused; row 4 is rodata or refused; row 5 text, rodata or
- * refused; row 6 data, rodata or refused. Every call refuses another table with 39, directly after 38, whatever rows an image uses.
- * A table of zeros, which C puts where an initialiser leaves it out, is accepted, and no image is under it.
+ * And the flag table: flags[r] is what a segment of an ELF is loaded as whose flags have the low three bits r (execute 1, write 2, read
+ * 4), text, rodata or data as above, or 0 for refused. Rows 0, 1, 2, 3 and 7 are refused; row 4 is rodata or refused; row 5 text, rodata
+ * or refused; row 6 data, rodata or refused. Every call refuses another table with 39, directly after 38, whatever rows an image uses.
+ * A table of zeros, which C puts where an initialiser leaves it out, is accepted, and no ELF is under it.
  * The same numbers and table go to every call over the same frames, book and records.
  */
 struct holthrimi_setup {
@@ -134,8 +134,8 @@ enum {
     HOLTHRIMI_NUMBER = 3,    /* a process's number outside 1 to 16 */
     HOLTHRIMI_DEAD = 4,      /* the process isn't living */
     HOLTHRIMI_TAKEN = 5,     /* the new process's number lives */
-    /* 11 to 27 are the image's own: see holthrimi_parse */
-    HOLTHRIMI_EBADEXEC = 30, /* the image's layout, or any of 11 to 27 */
+    /* 11 to 27, 42 and 43 are the image's own: see holthrimi_parse */
+    HOLTHRIMI_EBADEXEC = 30, /* the image's layout, or any of 11 to 27, 42 and 43 */
     HOLTHRIMI_TOO_MANY = 31, /* over 15 segments recorded */
     HOLTHRIMI_EBADARG = 32,  /* a NUL in an argument; a break without bss */
     HOLTHRIMI_ENOVMEM = 33,  /* arguments over the limit; break; too few frames */
@@ -144,8 +144,26 @@ enum {
     HOLTHRIMI_TOP = 36,      /* top is not a multiple of 16 */
     HOLTHRIMI_SETUP_LINES = 37, /* holthrimi_read_setup: bytes that are not as described */
     HOLTHRIMI_SETUP = 38,    /* the machine's numbers break a condition */
-    HOLTHRIMI_FLAGS = 39     /* the flag table is against its rules; holthrimi_read_flags: bytes that are not as described, too */
+    HOLTHRIMI_FLAGS = 39,    /* the flag table is against its rules; holthrimi_read_flags: bytes that are not as described, too */
+    HOLTHRIMI_NOT_AOUT = 42, /* an a.out under 32 bytes, or with another magic; start and replace answer 30 */
+    HOLTHRIMI_AOUT_OUT_OF_RANGE = 43 /* an a.out whose text and data leave the file; start and replace answer 30 */
 };
+
+/* ---- images
+ *
+ * An image is read in the form that its caller names, by the two arguments before it. Without `aout` it is an ELF, and `magic` isn't
+ * read: holthrimi_parse has the checks.
+ * With `aout` it is a Plan 9 executable, by a.out(6): a header of eight 32-bit big-endian words, which are magic, text, data, bss, syms,
+ * entry, spsz and pcsz, then the bytes of text and of data. Only these 32 bytes are read as the header, and of them not syms, spsz and
+ * pcsz; nor what stands behind data. `magic` is the first word that is expected, and any 32-bit number is taken: Plan 9's for arm64 is
+ * 4 * 28 * 28 + 7, or the same with the header bit, 0x8000.
+ * An a.out is refused, in this order, with 42 under 32 bytes or for another magic; 43 if 32 + text + data, as an exact sum, is above the
+ * image's length; 19 if the entry is not a multiple of 4; 27 if it is not in the text after the header, from utzero + 32 on and below
+ * utzero + 32 + text. Start and replace answer 30 for each of them.
+ * Header and text are loaded as text at utzero. Data is loaded as data at their end rounded up to a page, and bss, zeros, follows it; if
+ * both are 0, there is no data segment, and the process's bss is empty there. The flag table has no say in this. From then on it is as
+ * any other program: its layout is judged, with 30 or 31, and calls treat it as one.
+ */
 
 /* ---- the ten calls
  *
@@ -154,27 +172,29 @@ enum {
  */
 
 /*
- * Starts a process under `number`, which must not live, from an ELF image. Its name is what follows the last '/' of name, copied as
+ * Starts a process under `number`, which must not live, from an image. Its name is what follows the last '/' of name, copied as
  * holthrimi_kstrcpy copies. Its arguments are `bytes` cut by `lengths`: the first lengths[0] bytes, and so on. Pages are placed
  * ascending, each in the highest-numbered free frame: the image's, the bss, the stack; then the arguments are pushed.
  * Refused, after 1, 38, 39, 2, 3 and 5: 32, 33 (arguments), 30, 31, 33 (frames). Accepted: regs, to enter the program with.
  */
 struct holthrimi_answer holthrimi_start(struct holthrimi_setup setup,
                                         uint8_t *frames, size_t frame_bytes, uint64_t *book, size_t words,
-                                        struct holthrimi_procs *procs, uint64_t number, const uint8_t *image, size_t image_bytes,
-                                        const uint8_t *name, size_t name_bytes, const uint8_t *bytes, size_t count,
-                                        const uint64_t *lengths, size_t nargs);
+                                        struct holthrimi_procs *procs, uint64_t number, bool aout, uint32_t magic,
+                                        const uint8_t *image, size_t image_bytes, const uint8_t *name, size_t name_bytes,
+                                        const uint8_t *bytes, size_t count, const uint64_t *lengths, size_t nargs);
 
 /*
- * Replaces a process's program. `argv` is the user address of an array of pointers to its arguments, which a null ends; they are read
- * from its old memory. Its old pages are released first: a frame that others hold too stays theirs.
+ * Replaces a process's program, by an image of either form, whatever form it had. `argv` is the user address of an array of pointers to
+ * its arguments, which a null ends; they are read from its old memory. Its old pages are released first: a frame that others hold too
+ * stays theirs.
  * Refused, after 1, 38, 39 and 2 to 4: 30, 31, then 35, which ends the process, or 33 (arguments) in reading order, then 33, which ends
  * the process, if the frames that it holds alone and the free ones don't suffice. Accepted: regs.
  */
 struct holthrimi_answer holthrimi_replace(struct holthrimi_setup setup,
                                           uint8_t *frames, size_t frame_bytes, uint64_t *book, size_t words,
-                                          struct holthrimi_procs *procs, uint64_t number, const uint8_t *image, size_t image_bytes,
-                                          const uint8_t *name, size_t name_bytes, uint64_t argv);
+                                          struct holthrimi_procs *procs, uint64_t number, bool aout, uint32_t magic,
+                                          const uint8_t *image, size_t image_bytes, const uint8_t *name, size_t name_bytes,
+                                          uint64_t argv);
 
 /*
  * Pushes arguments onto a process's stack: their strings end at `top`, and below them lie pointers to them and a null, from a multiple
@@ -268,25 +288,23 @@ uint64_t holthrimi_check(struct holthrimi_setup setup,
                          const struct holthrimi_procs *procs);
 
 /*
- * The number that the ELF reader refuses an image with under the built-in flag table, or 0:
+ * 38 or 39 for the setup; then the number that the reader of its form refuses an image with; or 0. An a.out's are 42, 43, 19 and 27, as
+ * above. An ELF's are:
  * 11 under 64 bytes; 12 magic; 13 not ELF64; 14 not little-endian; 15 version; 16 not executable; 17 not aarch64; 18 size of a program
  * header; 19 entry not a multiple of 4; 20 the header table leaves the image; then for each program header, in table order: 21 file
  * size above memory size; 22 file bytes leave the image; 23 address and offset differ modulo 4,096; 24 it ends above 2^64 - 4,096;
  * 25 flags; 26 its first page is below an earlier segment's page end; then 27 the entry is not in the file bytes of a text segment.
  */
-uint64_t holthrimi_parse(const uint8_t *image, size_t image_bytes);
-
-/* The same under another flag table; 39, before all of these, for one against the rules. */
-uint64_t holthrimi_parse_with(const uint8_t flags[8], const uint8_t *image, size_t image_bytes);
+uint64_t holthrimi_parse(struct holthrimi_setup setup, bool aout, uint32_t magic, const uint8_t *image, size_t image_bytes);
 
 /*
- * What a start needs of an image: number is 38, 39, 30, 31 or 0; with 30, elf is the image's own number, or 0 if it is the layout's. Then
- * the entry point; the record's segments, `count` of the image, then the stack; the bss; and the pages that a start takes, with the
- * stack. All but number and elf are zeros if it is refused.
+ * What a start needs of an image: number is 38, 39, 30, 31 or 0; with 30, own is the number of its form's reader, 11 to 27 of an ELF and
+ * 42, 43, 19 or 27 of an a.out, or 0 if it is the layout's. Then the entry point; the record's segments, `count` of the image, then the
+ * stack; the bss; and the pages that a start takes, with the stack. All but number and own are zeros if it is refused.
  */
 struct holthrimi_planned {
     uint64_t number;
-    uint64_t elf;
+    uint64_t own;
     uint64_t entry;
     struct holthrimi_segment segments[HOLTHRIMI_SEGMENTS];
     size_t count;
@@ -294,7 +312,8 @@ struct holthrimi_planned {
     uint64_t pages;
 };
 
-struct holthrimi_planned holthrimi_plan(struct holthrimi_setup setup, const uint8_t *image, size_t image_bytes);
+struct holthrimi_planned holthrimi_plan(struct holthrimi_setup setup, bool aout, uint32_t magic, const uint8_t *image,
+                                        size_t image_bytes);
 
 /*
  * The break's rule by itself, over a bss with any numbers in it, or with `set` false none, and a count of free frames. error is 0, or in

@@ -3,7 +3,7 @@ use crate::clock::{repeated, timed};
 use crate::ours::{self, Args};
 use crate::region::{PAGE, Region};
 use crate::rust;
-use holthrimi::Setup;
+use holthrimi::{Form, Setup};
 use std::hint::black_box;
 
 const NAME: &[u8] = b"reader";
@@ -15,7 +15,7 @@ pub const EXAMPLE_END: usize = 77_824;
 /// Starts process n on our side.
 pub fn start_ours(w: &mut ours::World, n: u64, image: &[u8]) {
     let a = Args::new(&TWO);
-    w.start(n, image, NAME, &a.bytes, &a.lengths).unwrap();
+    w.start(n, Form::Elf, image, NAME, &a.bytes, &a.lengths).unwrap();
 }
 
 /// Starts process n on the Rust's side, so that it is the current one with its pages mapped.
@@ -63,7 +63,7 @@ pub fn start<'a>(name: &str, n: usize, image: &'a [u8]) -> Call<'a> {
         name.into(),
         None,
         move |w| {
-            let t = timed(|| w.start(n as u64, image, NAME, &args.bytes, &args.lengths).unwrap());
+            let t = timed(|| w.start(n as u64, Form::Elf, image, NAME, &args.bytes, &args.lengths).unwrap());
             w.end(n as u64).unwrap();
             t
         },
@@ -89,7 +89,7 @@ pub fn end<'a>(name: &str, n: usize, image: &'a [u8]) -> Call<'a> {
         Some(n),
         move |w| {
             let t = timed(|| w.end(n as u64).unwrap());
-            w.start(n as u64, image, NAME, &args.bytes, &args.lengths).unwrap();
+            w.start(n as u64, Form::Elf, image, NAME, &args.bytes, &args.lengths).unwrap();
             t
         },
         move |w| {
@@ -112,7 +112,7 @@ pub fn replace<'a>(name: &str, n: usize, image: &'a [u8], at: usize) -> Call<'a>
         Some(n),
         move |w| {
             w.copy_to_user(n as u64, at as u64, &argv).unwrap();
-            timed(|| w.replace(n as u64, image, NAME, at as u64).unwrap())
+            timed(|| w.replace(n as u64, Form::Elf, image, NAME, at as u64).unwrap())
         },
         move |w| {
             // The first time tells which frames the image takes from then on.

@@ -27,7 +27,7 @@ pub const RODATA: u64 = 2;
 /// and data read and written.
 pub const DATA: u64 = 3;
 
-/// The numbers of refusals; an image's own are 11 to 27 (`holthrimi_parse` in `include/holthrimi.h`).
+/// The numbers of refusals; an image's own are 11 to 27, 42 and 43 (`holthrimi_parse` in `include/holthrimi.h`).
 pub mod number {
     /// Not 4,096 bytes and 17 words a frame, frames outside 1 to 1,024, or argument lengths don't sum to their bytes.
     pub const SIZES: u64 = 1;
@@ -39,7 +39,7 @@ pub mod number {
     pub const DEAD: u64 = 4;
     /// The new process's number lives.
     pub const TAKEN: u64 = 5;
-    /// The image's layout, or any of 11 to 27.
+    /// The image's layout, or any of 11 to 27, 42 and 43.
     pub const EBADEXEC: u64 = 30;
     /// Over 15 segments recorded.
     pub const TOO_MANY: u64 = 31;
@@ -59,6 +59,10 @@ pub mod number {
     pub const SETUP: u64 = 38;
     /// The flag table is against its rules, or its lines are not as described.
     pub const FLAGS: u64 = 39;
+    /// An a.out under 32 bytes, or with another magic. A start or replace answers 30.
+    pub const NOT_AOUT: u64 = 42;
+    /// An a.out whose text and data leave the file. A start or replace answers 30.
+    pub const AOUT_OUT_OF_RANGE: u64 = 43;
 }
 
 /// What the low three bits of a segment's flags stand for, a row for each value: [`TEXT`], [`RODATA`], [`DATA`], or 0 for refused.
@@ -125,6 +129,26 @@ pub fn read_flags(lines: &[u8]) -> Result<Flags> {
 pub fn flags_lines(flags: Flags, out: &mut [u8; 120]) -> &[u8] {
     let n = unsafe { sys::holthrimi_write_flags(&flags, out.as_mut_ptr(), out.len()) };
     &out[..n]
+}
+
+/// The form that an image is read in.
+#[derive(Clone, Copy, Debug, PartialEq, Eq)]
+pub enum Form {
+    /// A static aarch64 ELF.
+    Elf,
+    /// A Plan 9 a.out whose first word is to be this magic, any 32-bit number: Plan 9's for arm64 is 4 * 28 * 28 + 7, or the same with
+    /// the header bit, 0x8000. Header and text are loaded as text at [`Setup::utzero`], data from the next page on, and bss behind it.
+    Aout(u32),
+}
+
+impl Form {
+    /// As the library takes it: whether it is an a.out, and the magic, which an ELF has none of.
+    fn named(self) -> (bool, u32) {
+        match self {
+            Form::Elf => (false, 0),
+            Form::Aout(magic) => (true, magic),
+        }
+    }
 }
 
 /// A range of user addresses, from `start` up to, but not including, `end`.
@@ -242,10 +266,19 @@ macro_rules! looked {
 // SAFETY of all calls into the library, here and below: every pointer handed on is a slice's or a reference's, with the slice's
 // length: not null, aligned, and alone where it is `&mut`. The library's contracts ask nothing else.
 impl Lent<'_> {
-    /// Starts process `number`, which must not live, from an ELF image. Its arguments are `bytes` cut by `lengths`.
+    /// Starts process `number`, which must not live, from an image of a form. Its arguments are `bytes` cut by `lengths`.
     /// Refused with 1, 38, 39, 2, 3, 5, 32, 33 (arguments), 30, 31 or 33 (frames), in this order.
-    pub fn start(&mut self, number: u64, image: &[u8], name: &[u8], bytes: &[u8], lengths: &[u64]) -> Result<UserRegs> {
+    pub fn start(
+        &mut self,
+        number: u64,
+        form: Form,
+        image: &[u8],
+        name: &[u8],
+        bytes: &[u8],
+        lengths: &[u64],
+    ) -> Result<UserRegs> {
         let (u, f, fl, b, bl, p) = lent!(self);
+        let (aout, magic) = form.named();
         let (i, n, a, l) = (image, name, bytes, lengths);
         told(unsafe {
             sys::holthrimi_start(
@@ -256,6 +289,8 @@ impl Lent<'_> {
                 bl,
                 p,
                 number,
+                aout,
+                magic,
                 i.as_ptr(),
                 i.len(),
                 n.as_ptr(),
@@ -269,13 +304,15 @@ impl Lent<'_> {
         .map(|t| t.regs)
     }
 
-    /// Replaces a process's program; `argv` is the user address of its array of pointers to arguments.
+    /// Replaces a process's program by an image of a form; `argv` is the user address of its array of pointers to arguments.
     /// Refused with 1, 38, 39, 2 to 4, 30, 31, 33 (arguments); ended with 35, or with 33 if the frames that it holds alone and the free
     /// ones don't suffice.
-    pub fn replace(&mut self, number: u64, image: &[u8], name: &[u8], argv: u64) -> Result<UserRegs> {
+    pub fn replace(&mut self, number: u64, form: Form, image: &[u8], name: &[u8], argv: u64) -> Result<UserRegs> {
         let (u, f, fl, b, bl, p) = lent!(self);
+        let (aout, magic) = form.named();
+        let (i, n) = (image, name);
         told(unsafe {
-            sys::holthrimi_replace(u, f, fl, b, bl, p, number, image.as_ptr(), image.len(), name.as_ptr(), name.len(), argv)
+            sys::holthrimi_replace(u, f, fl, b, bl, p, number, aout, magic, i.as_ptr(), i.len(), n.as_ptr(), n.len(), argv)
         })
         .map(|t| t.regs)
     }
@@ -372,25 +409,20 @@ pub struct Plan {
 }
 
 /// The plan of an image; refused with 38, 39, 30 or 31.
-pub fn plan(setup: Setup, image: &[u8]) -> Result<Plan> {
-    let p = unsafe { sys::holthrimi_plan(setup, image.as_ptr(), image.len()) };
+pub fn plan(setup: Setup, form: Form, image: &[u8]) -> Result<Plan> {
+    let (aout, magic) = form.named();
+    let p = unsafe { sys::holthrimi_plan(setup, aout, magic, image.as_ptr(), image.len()) };
     if p.number != 0 {
         return Err(Refusal::Refused(p.number));
     }
     Ok(Plan { entry: p.entry, segments: p.segments, count: p.count, bss: p.bss, pages: p.pages })
 }
 
-/// The ELF reader's check of an image under the built-in flag table; refused with one of 11 to 27.
-pub fn parse(image: &[u8]) -> Result<()> {
-    match unsafe { sys::holthrimi_parse(image.as_ptr(), image.len()) } {
-        0 => Ok(()),
-        number => Err(Refusal::Refused(number)),
-    }
-}
-
-/// The same under another flag table; refused with 39 for one against its rules.
-pub fn parse_with(flags: Flags, image: &[u8]) -> Result<()> {
-    match unsafe { sys::holthrimi_parse_with(&flags, image.as_ptr(), image.len()) } {
+/// The check of an image by the reader of its form; refused with 38 or 39, then with one of 11 to 27 for an ELF, and with 42, 43, 19 or
+/// 27, in this order, for an a.out.
+pub fn parse(setup: Setup, form: Form, image: &[u8]) -> Result<()> {
+    let (aout, magic) = form.named();
+    match unsafe { sys::holthrimi_parse(setup, aout, magic, image.as_ptr(), image.len()) } {
         0 => Ok(()),
         number => Err(Refusal::Refused(number)),
     }

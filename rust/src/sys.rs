@@ -13,7 +13,7 @@ pub struct Answer {
 #[repr(C)]
 pub struct Planned {
     pub number: u64,
-    pub elf: u64,
+    pub own: u64,
     pub entry: u64,
     pub segments: [UserSegment; 16],
     pub count: usize,
@@ -42,10 +42,11 @@ pub struct FlagsRead {
 
 #[rustfmt::skip]
 extern "C" {
-    pub fn holthrimi_start(u: Setup, f: *mut u8, fl: usize, b: *mut u64, bl: usize, p: *mut Procs, number: u64, image: *const u8, image_len: usize,
-        name: *const u8, name_len: usize, bytes: *const u8, bytes_len: usize, lengths: *const u64, lengths_len: usize) -> Answer;
-    pub fn holthrimi_replace(u: Setup, f: *mut u8, fl: usize, b: *mut u64, bl: usize, p: *mut Procs, number: u64, image: *const u8, image_len: usize,
-        name: *const u8, name_len: usize, argv: u64) -> Answer;
+    pub fn holthrimi_start(u: Setup, f: *mut u8, fl: usize, b: *mut u64, bl: usize, p: *mut Procs, number: u64, aout: bool, magic: u32,
+        image: *const u8, image_len: usize, name: *const u8, name_len: usize, bytes: *const u8, bytes_len: usize, lengths: *const u64,
+        lengths_len: usize) -> Answer;
+    pub fn holthrimi_replace(u: Setup, f: *mut u8, fl: usize, b: *mut u64, bl: usize, p: *mut Procs, number: u64, aout: bool, magic: u32,
+        image: *const u8, image_len: usize, name: *const u8, name_len: usize, argv: u64) -> Answer;
     pub fn holthrimi_push(u: Setup, f: *mut u8, fl: usize, b: *mut u64, bl: usize, p: *mut Procs, number: u64, pc: u64, top: u64, bytes: *const u8,
         bytes_len: usize, lengths: *const u64, lengths_len: usize) -> Answer;
     pub fn holthrimi_break(u: Setup, f: *mut u8, fl: usize, b: *mut u64, bl: usize, p: *mut Procs, number: u64, addr: u64) -> Answer;
@@ -63,9 +64,8 @@ extern "C" {
         dst_len: usize, src: u64) -> Answer;
     pub fn holthrimi_book_words(frames: u64) -> u64;
     pub fn holthrimi_check(u: Setup, f: *const u8, fl: usize, b: *const u64, bl: usize, p: *const Procs) -> u64;
-    pub fn holthrimi_parse(image: *const u8, image_len: usize) -> u64;
-    pub fn holthrimi_parse_with(flags: *const Flags, image: *const u8, image_len: usize) -> u64;
-    pub fn holthrimi_plan(u: Setup, image: *const u8, image_len: usize) -> Planned;
+    pub fn holthrimi_parse(u: Setup, aout: bool, magic: u32, image: *const u8, image_len: usize) -> u64;
+    pub fn holthrimi_plan(u: Setup, aout: bool, magic: u32, image: *const u8, image_len: usize) -> Planned;
     pub fn holthrimi_ibrk(u: Setup, set: bool, start: u64, end: u64, addr: u64, free: u64) -> Rule;
     pub fn holthrimi_read_setup(bytes: *const u8, bytes_len: usize) -> SetupRead;
     pub fn holthrimi_write_setup(u: Setup, out: *mut u8, out_len: usize) -> usize;

@@ -1,73 +1,16 @@
 // A start, breaks, forks and ends through the safe functions, with the 184-byte image of tests/images: a page of text, two of data and bss,
 // and the stack's four.
 
-use holthrimi::{book_words, flags_lines, number, read_flags, Flags, Lent, Proc, Procs, Refusal, Setup, UserSegment, VirtRange};
-use holthrimi::{DATA, FRAME_WORDS, PAGE, RODATA, TEXT};
+mod memory;
 
-const IMAGE: &[u8] = include_bytes!("../../tests/images/example.img");
-
-struct Memory {
-    frames: Vec<u8>,
-    book: Vec<u64>,
-    procs: Procs,
-}
-
-impl Memory {
-    fn new(frames: usize) -> Self {
-        Memory { frames: vec![238; frames * PAGE], book: vec![0; frames * FRAME_WORDS], procs: Procs::default() }
-    }
-
-    fn lent(&mut self) -> Lent<'_> {
-        Lent { setup: Setup::DEPOSIT, frames: &mut self.frames, book: &mut self.book, procs: &mut self.procs }
-    }
-
-    /// Process n's place in frame k.
-    fn place(&mut self, k: usize, n: usize) -> &mut u64 {
-        &mut self.book[FRAME_WORDS * k + n - 1]
-    }
-
-    /// How many mappings frame k has.
-    fn count(&mut self, k: usize) -> &mut u64 {
-        &mut self.book[FRAME_WORDS * k + FRAME_WORDS - 1]
-    }
-
-    fn free(&self) -> usize {
-        self.book.chunks(FRAME_WORDS).filter(|f| f[FRAME_WORDS - 1] == 0).count()
-    }
-
-    /// Process 1, whose text is in the last frame.
-    fn started(frames: usize) -> Self {
-        let mut m = Memory::new(frames);
-        m.lent().start(1, IMAGE, b"/bin/lex", b"lexmot", &[3, 3]).unwrap();
-        m
-    }
-
-    /// Process 1, and its child 16.
-    fn forked(frames: usize) -> Self {
-        let mut m = Memory::started(frames);
-        m.lent().fork(1, 16).unwrap();
-        m
-    }
-
-    fn byte(&mut self, number: u64, addr: u64) -> Option<u8> {
-        let mut lent = self.lent();
-        let mut byte = [0];
-        if !lent.user_range_ok(number, addr, 1, false).unwrap() {
-            return None;
-        }
-        lent.copy_from_user(number, &mut byte, addr).unwrap();
-        Some(byte[0])
-    }
-}
-
-fn refused<T: std::fmt::Debug + PartialEq>(r: holthrimi::Result<T>, n: u64) {
-    assert_eq!(r, Err(Refusal::Refused(n)));
-}
+use holthrimi::{book_words, flags_lines, number, parse, plan, read_flags, Flags, Form, Lent, Proc, Procs, Refusal, Setup};
+use holthrimi::{UserSegment, VirtRange, DATA, FRAME_WORDS, RODATA, TEXT};
+use memory::{refused, Memory, IMAGE};
 
 #[test]
 fn start() {
     let mut m = Memory::new(16);
-    let regs = m.lent().start(1, IMAGE, b"/bin/lex", b"lexmot", &[3, 3]).unwrap();
+    let regs = m.lent().start(1, Form::Elf, IMAGE, b"/bin/lex", b"lexmot", &[3, 3]).unwrap();
     assert_eq!((regs.pc, regs.sp, regs.argc, regs.argv), (65712, Setup::DEPOSIT.ustktop - 32, 2, Setup::DEPOSIT.ustktop - 32));
     assert_eq!(m.free(), 16 - 7);
     assert_eq!((*m.place(15, 1), *m.count(15)), (65536 + 16 + TEXT, 1));
@@ -79,15 +22,15 @@ fn start() {
     assert_eq!(&text, b"mot.....");
     // Refusals, in their order, which change nothing.
     let before = (m.frames.clone(), m.book.clone(), m.procs);
-    refused(m.lent().start(1, IMAGE, b"x", b"", &[]), number::TAKEN);
-    refused(m.lent().start(17, IMAGE, b"x", b"", &[]), number::NUMBER);
-    refused(m.lent().start(17, IMAGE, b"x", b"", &[1]), number::SIZES);
-    refused(m.lent().start(2, &IMAGE[..63], b"x", b"a\0", &[2]), number::EBADARG);
-    refused(m.lent().start(2, &IMAGE[..63], b"x", &[b'a'; 4072], &[4072]), number::ENOVMEM);
-    refused(m.lent().start(2, &IMAGE[..63], b"x", b"a", &[1]), number::EBADEXEC);
+    refused(m.lent().start(1, Form::Elf, IMAGE, b"x", b"", &[]), number::TAKEN);
+    refused(m.lent().start(17, Form::Elf, IMAGE, b"x", b"", &[]), number::NUMBER);
+    refused(m.lent().start(17, Form::Elf, IMAGE, b"x", b"", &[1]), number::SIZES);
+    refused(m.lent().start(2, Form::Elf, &IMAGE[..63], b"x", b"a\0", &[2]), number::EBADARG);
+    refused(m.lent().start(2, Form::Elf, &IMAGE[..63], b"x", &[b'a'; 4072], &[4072]), number::ENOVMEM);
+    refused(m.lent().start(2, Form::Elf, &IMAGE[..63], b"x", b"a", &[1]), number::EBADEXEC);
     assert!((&m.frames, &m.book, m.procs) == (&before.0, &before.1, before.2));
-    m.lent().start(2, IMAGE, b"x", b"", &[]).unwrap();
-    refused(m.lent().start(3, IMAGE, b"x", b"", &[]), number::ENOVMEM);
+    m.lent().start(2, Form::Elf, IMAGE, b"x", b"", &[]).unwrap();
+    refused(m.lent().start(3, Form::Elf, IMAGE, b"x", b"", &[]), number::ENOVMEM);
 }
 
 #[test]
@@ -216,12 +159,12 @@ fn fork_replaces() {
     for n in [1, 16] {
         let other = 17 - n;
         let mut m = Memory::forked(14);
-        let regs = m.lent().replace(n, IMAGE, b"mot", argv).unwrap();
+        let regs = m.lent().replace(n, Form::Elf, IMAGE, b"mot", argv).unwrap();
         assert_eq!((regs.pc, regs.argc, m.free(), m.lent().check()), (65712, 2, 0, Ok(())));
         assert_eq!((*m.place(13, n as usize), *m.place(13, other as usize), *m.count(13)), (0, 65536 + 16 * other + TEXT, 1));
         assert_eq!((m.byte(n, 65536), m.byte(other, 65536)), (Some(127), Some(127)));
         let mut m = Memory::forked(13);
-        assert_eq!(m.lent().replace(n, IMAGE, b"mot", argv), Err(Refusal::Ended(number::ENOVMEM)));
+        assert_eq!(m.lent().replace(n, Form::Elf, IMAGE, b"mot", argv), Err(Refusal::Ended(number::ENOVMEM)));
         assert_eq!((m.byte(other, 65536), *m.count(12), m.free(), m.lent().check()), (Some(127), 1, 13 - 7, Ok(())));
     }
 }
@@ -245,10 +188,10 @@ fn push_and_replace() {
     let mut m = Memory::started(16);
     refused(m.lent().push(1, 65712, Setup::DEPOSIT.ustktop - 8, b"a", &[1]), number::TOP);
     let regs = m.lent().push(1, 65712, Setup::DEPOSIT.ustktop, b"abc", &[1, 2]).unwrap();
-    let regs = m.lent().replace(1, IMAGE, b"mot", regs.argv).unwrap();
+    let regs = m.lent().replace(1, Form::Elf, IMAGE, b"mot", regs.argv).unwrap();
     assert_eq!((regs.pc, regs.argc, m.free()), (65712, 2, 9));
     assert_eq!(&m.procs.all[0].text[..4], b"mot\0");
-    assert_eq!(m.lent().replace(1, IMAGE, b"mot", 8), Err(Refusal::Ended(number::EFAULT)));
+    assert_eq!(m.lent().replace(1, Form::Elf, IMAGE, b"mot", 8), Err(Refusal::Ended(number::EFAULT)));
     assert_eq!(m.free(), 16);
 }
 
@@ -318,11 +261,11 @@ fn torn() {
 
 #[test]
 fn no_calls() {
-    let plan = holthrimi::plan(Setup::DEPOSIT, IMAGE).unwrap();
-    assert_eq!((plan.entry, plan.count, plan.pages, plan.bss), (65712, 2, 7, VirtRange { start: 69816, end: 77824 }));
-    refused(holthrimi::plan(Setup::DEPOSIT, &IMAGE[..63]), number::EBADEXEC);
-    refused(holthrimi::parse(&IMAGE[..63]), 11);
-    assert_eq!(holthrimi::parse(IMAGE), Ok(()));
+    let p = plan(Setup::DEPOSIT, Form::Elf, IMAGE).unwrap();
+    assert_eq!((p.entry, p.count, p.pages, p.bss), (65712, 2, 7, VirtRange { start: 69816, end: 77824 }));
+    refused(plan(Setup::DEPOSIT, Form::Elf, &IMAGE[..63]), number::EBADEXEC);
+    refused(parse(Setup::DEPOSIT, Form::Elf, &IMAGE[..63]), 11);
+    assert_eq!(parse(Setup::DEPOSIT, Form::Elf, IMAGE), Ok(()));
     let bss = VirtRange { start: 8192, end: 12288 };
     assert_eq!(holthrimi::ibrk(Setup::DEPOSIT, Some(bss), 12289, 1), Ok((0, VirtRange { start: 8192, end: 16384 })));
     refused(holthrimi::ibrk(Setup::DEPOSIT, Some(bss), 12289, 0), number::ENOVMEM);
@@ -343,11 +286,11 @@ fn setups() {
         let most = (size / 4 - 24) as usize;
         let mut m = Memory::new(48);
         let mut lent = Lent { setup, ..m.lent() };
-        refused(lent.start(1, IMAGE, b"x", &vec![b'a'; most], &[most as u64]), number::ENOVMEM);
-        let regs = lent.start(1, IMAGE, b"x", &vec![b'a'; most - 1], &[most as u64 - 1]).unwrap();
+        refused(lent.start(1, Form::Elf, IMAGE, b"x", &vec![b'a'; most], &[most as u64]), number::ENOVMEM);
+        let regs = lent.start(1, Form::Elf, IMAGE, b"x", &vec![b'a'; most - 1], &[most as u64 - 1]).unwrap();
         assert_eq!((regs.argv, regs.argc), (top - size / 4 + 8, 1));
         // The arguments of a replace are those that its start pushed.
-        let again = lent.replace(1, IMAGE, b"y", regs.argv).unwrap();
+        let again = lent.replace(1, Form::Elf, IMAGE, b"y", regs.argv).unwrap();
         assert_eq!((again.sp, again.argv, again.argc), (regs.sp, regs.argv, 1));
         let mut text = vec![b'.'; most];
         assert_eq!(lent.try_copy_str_from_user(1, &mut text, top - most as u64), Ok(most - 1));
@@ -360,11 +303,11 @@ fn setups() {
         lent.setup.uaddrtop -= 4096;
         refused(lent.end(17), number::SETUP);
         refused(lent.check(), number::SETUP);
-        refused(holthrimi::plan(lent.setup, IMAGE), number::SETUP);
+        refused(plan(lent.setup, Form::Elf, IMAGE), number::SETUP);
         refused(holthrimi::ibrk(lent.setup, None, 0, 0), number::SETUP);
         refused(holthrimi::check_args(lent.setup, b"\0", &[1]), number::SETUP);
         refused(holthrimi::check_args(lent.setup, b"\0", &[2]), number::SIZES);
-        refused(lent.start(2, IMAGE, b"x", b"", &[1]), number::SIZES);
+        refused(lent.start(2, Form::Elf, IMAGE, b"x", b"", &[1]), number::SIZES);
     }
 }
 
@@ -410,15 +353,15 @@ fn flag_tables() {
                 continue;
             }
             assert_eq!(flags_lines(setup.flags, &mut [0; 120]), b"");
-            refused(holthrimi::parse_with(setup.flags, IMAGE), number::FLAGS);
-            refused(holthrimi::plan(setup, IMAGE), number::FLAGS);
+            refused(parse(setup, Form::Elf, IMAGE), number::FLAGS);
+            refused(plan(setup, Form::Elf, IMAGE), number::FLAGS);
             refused(holthrimi::ibrk(setup, None, 0, 0), number::FLAGS);
             refused(holthrimi::check_args(setup, b"\0", &[1]), number::FLAGS);
             refused(holthrimi::check_args(setup, b"\0", &[2]), number::SIZES);
             lent.book[FRAME_WORDS - 1] = 1;
             refused(lent.check(), number::FLAGS);
-            refused(lent.start(17, &IMAGE[..63], b"x", b"\0", &[1]), number::FLAGS);
-            refused(lent.replace(17, &IMAGE[..63], b"x", argv), number::FLAGS);
+            refused(lent.start(17, Form::Elf, &IMAGE[..63], b"x", b"\0", &[1]), number::FLAGS);
+            refused(lent.replace(17, Form::Elf, &IMAGE[..63], b"x", argv), number::FLAGS);
             refused(lent.push(17, 0, 8, b"\0", &[1]), number::FLAGS);
             refused(lent.brk(17, 0), number::FLAGS);
             refused(lent.fork(17, 17), number::FLAGS);
@@ -431,10 +374,10 @@ fn flag_tables() {
             lent.setup.uaddrtop += 4096;
             refused(lent.end(1), number::SETUP);
             refused(lent.check(), number::SETUP);
-            refused(holthrimi::plan(lent.setup, IMAGE), number::SETUP);
+            refused(plan(lent.setup, Form::Elf, IMAGE), number::SETUP);
             refused(holthrimi::ibrk(lent.setup, None, 0, 0), number::SETUP);
             refused(holthrimi::check_args(lent.setup, b"\0", &[1]), number::SETUP);
-            refused(lent.start(2, IMAGE, b"x", b"", &[1]), number::SIZES);
+            refused(lent.start(2, Form::Elf, IMAGE, b"x", b"", &[1]), number::SIZES);
             lent.frames = &mut [];
             refused(lent.end(1), number::SIZES);
             m.book[FRAME_WORDS - 1] = 0;
@@ -446,14 +389,13 @@ fn flag_tables() {
 // A writable segment under a table that has it as rodata: its pages cannot be written, a fork shares them, and the bss behind it is empty.
 #[test]
 fn rodata_in_row_6() {
-    let flags = with_row(6, RODATA as u8);
-    let setup = Setup { flags, ..Setup::DEPOSIT };
-    assert_eq!((holthrimi::parse(IMAGE), holthrimi::parse_with(flags, IMAGE)), (Ok(()), Ok(())));
-    let plan = holthrimi::plan(setup, IMAGE).unwrap();
-    assert_eq!((plan.count, plan.pages, plan.bss), (2, 7, VirtRange { start: 77824, end: 77824 }));
+    let setup = Setup { flags: with_row(6, RODATA as u8), ..Setup::DEPOSIT };
+    assert_eq!((parse(Setup::DEPOSIT, Form::Elf, IMAGE), parse(setup, Form::Elf, IMAGE)), (Ok(()), Ok(())));
+    let p = plan(setup, Form::Elf, IMAGE).unwrap();
+    assert_eq!((p.count, p.pages, p.bss), (2, 7, VirtRange { start: 77824, end: 77824 }));
     let mut m = Memory::new(16);
     let mut lent = Lent { setup, ..m.lent() };
-    lent.start(1, IMAGE, b"x", b"", &[]).unwrap();
+    lent.start(1, Form::Elf, IMAGE, b"x", b"", &[]).unwrap();
     assert_eq!(lent.procs.all[0].segments.map(|s| s.perm)[..4], [TEXT, RODATA, DATA, 0]);
     assert_eq!((lent.user_range_ok(1, 69812, 4, false), lent.user_range_ok(1, 69812, 1, true)), (Ok(true), Ok(false)));
     assert_eq!(lent.brk(1, 0), Ok(77824));
@@ -464,10 +406,9 @@ fn rodata_in_row_6() {
     assert_eq!(byte[0], IMAGE[180]);
     // Row 5 or 6 refused: 25, which a start answers with 30; row 5 rodata: no text has the entry. Row 4 the image does not use.
     for (row, code, elf) in [(5, 0, Err(25)), (6, 0, Err(25)), (5, RODATA as u8, Err(27)), (4, 0, Ok(()))] {
-        let flags = with_row(row, code);
-        assert_eq!(holthrimi::parse_with(flags, IMAGE).map_err(Refusal::number), elf);
-        lent.setup.flags = flags;
-        let started = lent.start(3, IMAGE, b"x", b"", &[]).map(|_| ()).map_err(Refusal::number);
+        lent.setup.flags = with_row(row, code);
+        assert_eq!(parse(lent.setup, Form::Elf, IMAGE).map_err(Refusal::number), elf);
+        let started = lent.start(3, Form::Elf, IMAGE, b"x", b"", &[]).map(|_| ()).map_err(Refusal::number);
         assert_eq!(started, elf.map_err(|_| number::EBADEXEC));
     }
 }

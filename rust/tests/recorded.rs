@@ -1,5 +1,5 @@
 // The recorded scripts of tests/replay, whose answers are the published Rust's, or under other machine numbers or another flag table than
-// document 01's those of tests/compare/model.py, run through the library: every answer, and by `sum` every record, book word and frame
+// document 01's, and of Plan 9's a.outs, those of tests/compare/model.py, run through the library: every answer, and by `sum` every record, book word and frame
 // byte. How a script is read and answered is the oracle's code; the calls here are the library's.
 
 #[allow(dead_code)] // An answer `assert` is the Rust's alone, and so is a list that the harness holds to a record.
@@ -8,7 +8,7 @@ mod script;
 #[path = "../../tests/oracle/src/text.rs"]
 mod text;
 
-use holthrimi::{Lent, Procs, Refusal, Setup, UserRegs, UserSegment, VirtRange, PAGE};
+use holthrimi::{Form, Lent, Procs, Refusal, Setup, UserRegs, UserSegment, VirtRange, PAGE};
 use script::{Answer, Calls, Record, Regs, Stop, WORDS};
 use std::fs;
 
@@ -81,10 +81,16 @@ impl Calls for World {
         Some(told(holthrimi::read_flags(lines)).map(|table| self.setup.flags = table))
     }
     fn start(&mut self, n: u64, name: &[u8], image: &[u8], args: &[&[u8]]) -> Answer<Regs> {
-        told(self.lent().start(n, image, name, &args.concat(), &lengths(args))).map(regs)
+        told(self.lent().start(n, Form::Elf, image, name, &args.concat(), &lengths(args))).map(regs)
     }
     fn replace(&mut self, n: u64, name: &[u8], image: &[u8], argv: u64) -> Answer<Regs> {
-        told(self.lent().replace(n, image, name, argv)).map(regs)
+        told(self.lent().replace(n, Form::Elf, image, name, argv)).map(regs)
+    }
+    fn start_aout(&mut self, n: u64, name: &[u8], magic: u32, image: &[u8], args: &[&[u8]]) -> Option<Answer<Regs>> {
+        Some(told(self.lent().start(n, Form::Aout(magic), image, name, &args.concat(), &lengths(args))).map(regs))
+    }
+    fn replace_aout(&mut self, n: u64, name: &[u8], magic: u32, image: &[u8], argv: u64) -> Option<Answer<Regs>> {
+        Some(told(self.lent().replace(n, Form::Aout(magic), image, name, argv)).map(regs))
     }
     fn push(&mut self, n: u64, pc: u64, top: u64, args: &[&[u8]]) -> Answer<Regs> {
         told(self.lent().push(n, pc, top, &args.concat(), &lengths(args))).map(regs)

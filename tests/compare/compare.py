@@ -1,14 +1,15 @@
 #!/usr/bin/env python3
 """Runs the same scripts through two commands and reports the first difference.
 
-    compare.py random SEED COUNT A B [--small] [--sets] [--tables]
+    compare.py random SEED COUNT A B [--small] [--sets] [--tables] [--aouts]
                                                           COUNT random calls, in histories of 40
-    compare.py directed A B [--sets] [--tables] [FILE ..] the directed scripts of tests/replay, or the files named
+    compare.py directed A B [--sets] [--tables] [--aouts] [FILE ..]
+                                                          the directed scripts of tests/replay, or the files named
     compare.py books A B                                  every word of a small book changed (books.py)
     compare.py images SEED COUNT A B                      the listing: every one-byte change and every prefix of the
                                                           184-byte image, the images of tests/replay/images.txt, and
                                                           COUNT random images
-    compare.py write SEED COUNT [--small] [--sets] [--tables]
+    compare.py write SEED COUNT [--small] [--sets] [--tables] [--aouts]
                                                           the random script on standard output
 
 A and B are commands, each in one word, that read a script on standard input and
@@ -18,7 +19,8 @@ write an answer for each line: `target/oracle/release/oracle`, `target/bin/repla
 
 --sets: other sets of the machine's numbers too, in three histories of four, and the directed scripts that have some.
 --tables: other flag tables too, in histories and directed scripts.
-The oracle has document 01's numbers and table alone, so it is compared without.
+--aouts: images that are Plan 9 a.outs too, in histories and directed scripts.
+The oracle has document 01's numbers and table and ELF alone, so it is compared without.
 
 Of the oracle's answers it counts those that are its harness's own needs of frames and not the Rust's.
 """
@@ -50,6 +52,9 @@ HISTORIES_A_RUN = 50
 TIME_LIMIT = 600
 TEN = ['start', 'replace', 'push', 'break', 'fork', 'end', 'range', 'from', 'to', 'string']
 COUNTED = TEN + ['rule', 'name']
+# What the oracle has none of: lines that hand over a set or a table, and those of an a.out.
+OPTIONS = {'--sets': re.compile(rb'numbers'), '--tables': re.compile(rb'flags'),
+           '--aouts': re.compile(rb'(start|replace) [^ ]+ [^ ]+ aout=')}
 # Forks and replaces that the oracle answered by its harness's needs of frames, with the frames of its book as they were.
 NEEDS = Counter()
 
@@ -149,7 +154,7 @@ class Count:
     """What was called and answered."""
 
     def __init__(self):
-        self.calls, self.kinds, self.sums = Counter(), Counter(), 0
+        self.calls, self.kinds, self.aouts, self.sums = Counter(), Counter(), Counter(), 0
         self.handed = {'numbers': set(), 'flags': set()}
         NEEDS.clear()
 
@@ -163,6 +168,9 @@ class Count:
                 if kind in ('refused', 'ended'):
                     kind += ' ' + words[1].decode('latin-1')
                 self.kinds[kind] += 1
+                if OPTIONS['--aouts'].match(line):
+                    self.aouts[name] += 1
+                    self.aouts[name, kind] += 1
             elif name == 'sum':
                 self.sums += 1
             elif name in self.handed and answer == b'ok':
@@ -182,23 +190,25 @@ class Count:
         print('  calls: ' + ', '.join('%s %d' % (n, self.calls[n]) for n in COUNTED if self.calls[n]))
         order = sorted(self.kinds, key=lambda k: (k.split()[0], int(k.split()[1]) if ' ' in k else 0))
         print('  answers: ' + ', '.join('%s: %d' % (k, self.kinds[k]) for k in order))
+        if self.aouts:
+            print('  of a.outs: ' + ', '.join('%s %d, %d of them ok' % (n, self.aouts[n], self.aouts[n, 'ok']) for n in TEN[:2]))
         if NEEDS:
             print('  by the needs of the harness: %d forks accepted, %d replaces ended' % (NEEDS['forks'], NEEDS['replaces']))
 
 
-def history(seed, k, small, sets, tables):
+def history(seed, k, small, sets, tables, aouts):
     r = random.Random('%s/%d' % (seed, k))
     setup = random_set(r) if sets and r.random() < 0.75 else DEPOSIT
     if tables:
         setup = setup._replace(flags=random_table(r, [TEXT]))
-    return History(r, CALLS_A_HISTORY, small, setup, tables).lines
+    return History(r, CALLS_A_HISTORY, small, setup, tables, aouts).lines
 
 
-def compare_random(seed, count, a, b, small, sets=False, tables=False, explain=True):
+def compare_random(seed, count, a, b, small, sets=False, tables=False, aouts=False, explain=True):
     begin, total = time.time(), Count()
     k = 0
     while sum(total.calls.values()) < count:
-        many = [history(seed, k + i, small, sets, tables) for i in range(HISTORIES_A_RUN)]
+        many = [history(seed, k + i, small, sets, tables, aouts) for i in range(HISTORIES_A_RUN)]
         lines = [line for h in many for line in h]
         x, y, at = difference(lines, a, b)
         if at is not None and not explain:
@@ -222,18 +232,18 @@ def script_lines(file):
         return f.read().split(b'\n')
 
 
-def directed_scripts(sets, tables):
-    """The scripts that directed.py writes: all of tests/replay but the recorded random histories. Without `sets`, those without a
-    line `numbers`; without `tables`, those without a line `flags`."""
+def directed_scripts(options):
+    """The scripts that directed.py writes: all of tests/replay but the recorded random histories. Without `--sets`, those without a
+    line `numbers`; without `--tables`, those without a line `flags`; without `--aouts`, those without an a.out."""
     names = sorted(n for n in os.listdir(REPLAY) if n.endswith('.txt') and not n.startswith('random-'))
     files = [os.path.join(REPLAY, n) for n in names]
-    left_out = (b'numbers',) * (not sets) + (b'flags',) * (not tables)
-    return [f for f in files if not any(line.startswith(left_out) for line in script_lines(f))]
+    left_out = [has for option, has in OPTIONS.items() if option not in options]
+    return [f for f in files if not any(has.match(line) for line in script_lines(f) for has in left_out)]
 
 
-def compare_directed(a, b, files, sets=False, tables=False, explain=True):
+def compare_directed(a, b, files, options=(), explain=True):
     begin, total = time.time(), Count()
-    files = files or directed_scripts(sets, tables)
+    files = files or directed_scripts(options)
     fine = True
     for file in files:
         lines = script_lines(file)
@@ -308,12 +318,13 @@ def compare_images(seed, count, a, b):
 
 
 def main(argv):
-    small, sets, tables = (option in argv for option in ('--small', '--sets', '--tables'))
-    argv = [a for a in argv if a not in ('--small', '--sets', '--tables')]
+    options = [a for a in argv if a in ('--small', *OPTIONS)]
+    argv = [a for a in argv if a not in options]
+    small, *drawn = (option in options for option in ('--small', *OPTIONS))
     if len(argv) == 5 and argv[0] == 'random':
-        return compare_random(argv[1], int(argv[2]), argv[3], argv[4], small, sets, tables)
+        return compare_random(argv[1], int(argv[2]), argv[3], argv[4], small, *drawn)
     if len(argv) >= 3 and argv[0] == 'directed':
-        return compare_directed(argv[1], argv[2], argv[3:], sets, tables)
+        return compare_directed(argv[1], argv[2], argv[3:], options)
     if len(argv) == 3 and argv[0] == 'books':
         return compare_books(argv[1], argv[2])
     if len(argv) == 5 and argv[0] == 'images':
@@ -321,7 +332,7 @@ def main(argv):
     if len(argv) == 3 and argv[0] == 'write':
         made, k = 0, 0
         while made < int(argv[2]):
-            lines = history(argv[1], k, small, sets, tables)
+            lines = history(argv[1], k, small, *drawn)
             sys.stdout.buffer.write(b'\n'.join(lines) + b'\n')
             made += sum(line.split(b' ')[0].decode() in COUNTED for line in lines)
             k += 1

@@ -1,6 +1,6 @@
 #!/usr/bin/env python3
-"""Writes the directed scripts, tests/replay/NAME.txt (boundaries/), and the files that three of them read, example.elf,
-school.numbers and partner.flags.
+"""Writes the directed scripts, tests/replay/NAME.txt (boundaries/), the files that some of them read, example.elf, example.aout,
+school.numbers and partner.flags, and tests/images/aouts.txt with the reader's answers, aouts.out.
 
     directed.py            writes them
     directed.py --check    says whether they are as it would write them
@@ -8,22 +8,26 @@ school.numbers and partner.flags.
 import os
 import sys
 
-from boundaries import (access, brk, flag_texts, flags, fork, form, frames, images, numbers, push, replace, sets, shared, start,
+import aout as plan9
+from boundaries import (access, aout, brk, flag_texts, flags, fork, form, frames, images, numbers, push, replace, sets, shared, start,
                         texts)
 from papers.flags import table_lines
 from papers.setup import written
 from random_images import EXAMPLE
 
 HERE = os.path.dirname(os.path.abspath(__file__))
-REPLAY = os.path.join(os.path.dirname(HERE), 'replay')
+REPLAY, IMAGES = (os.path.join(os.path.dirname(HERE), name) for name in ('replay', 'images'))
 SCRIPTS = [images.images, start.examples, start.args, push.push, brk.brk, frames.frames, access.access, access.strings,
            replace.replace, start.names, fork.fork, numbers.numbers, frames.sizes, brk.rule, frames.history, form.form, form.files,
-           sets.sets, texts.texts, flags.flags, flag_texts.flag_texts, shared.shared, shared.orders, shared.torn]
+           sets.sets, texts.texts, flags.flags, flag_texts.flag_texts, shared.shared, shared.orders, shared.torn, aout.aout]
 
 
 def main(argv):
-    read = {'example.elf': EXAMPLE, 'school.numbers': written(texts.SCHOOL), 'partner.flags': table_lines(flags.PARTNER)}
+    read = {'example.elf': EXAMPLE, 'example.aout': plan9.EXAMPLE, 'school.numbers': written(texts.SCHOOL),
+            'partner.flags': table_lines(flags.PARTNER)}
     files = {os.path.join(HERE, name): content for name, content in read.items()}
+    for end, lines in zip(('txt', 'out'), aout.reader()):
+        files[os.path.join(IMAGES, 'aouts.' + end)] = ''.join(line + '\n' for line in lines).encode()
     for script in SCRIPTS:
         out = script()
         files[os.path.join(REPLAY, out.name + '.txt')] = out.content().encode()

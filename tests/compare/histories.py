@@ -2,7 +2,8 @@
 
 A history is a list of script lines. The model runs along while it is made, only to know which processes live, where their
 segments lie and what the book holds, so that addresses and words are apt; no answer of the model goes into a history. A history may
-be under another set of the machine's numbers and another flag table than document 01's; the oracle has none of these.
+be under another set of the machine's numbers and another flag table than document 01's, and its images Plan 9 a.outs; the oracle has
+none of these.
 """
 import struct
 
@@ -12,7 +13,7 @@ from papers.machine import DATA, MAX, PAGE, Refused, down, up
 from papers.memory import WORDS
 from papers.names import elem
 from papers.setup import DEPOSIT, written
-from random_images import any_image, example_at, random_image
+from random_images import any_aout, any_image, example_at, random_aout, random_image
 from random_sets import near_set, near_table, random_set, random_table
 from script import Script, shown
 
@@ -40,10 +41,10 @@ def full_parts(record):
 
 class History:
     """`small` keeps images, answers and frames short, for recorded samples. The calls are under `setup`, with `tables` some of them
-    under other tables too."""
+    under other tables too; with `aouts` more than half of the images are a.outs."""
 
-    def __init__(self, r, calls, small=False, setup=DEPOSIT, tables=False):
-        self.r, self.small, self.setup = r, small, setup
+    def __init__(self, r, calls, small=False, setup=DEPOSIT, tables=False, aouts=False):
+        self.r, self.small, self.setup, self.aouts = r, small, setup, aouts
         self.constants = constants(setup)
         own_numbers = setup.numbers != DEPOSIT.numbers
         self.steps = (self.STEPS + [(History.other_numbers, 3)] * own_numbers + [(History.other_flags, 4)] * tables)
@@ -193,7 +194,14 @@ class History:
         return 'big' if self.r.random() < 0.15 else 'plain'
 
     def image(self):
+        """An image, and before an a.out the word that says so."""
+        if self.aouts and self.r.random() < 0.6:
+            return self.aout(*any_aout(self.r, self.size(), self.setup))
         return shown(any_image(self.r, self.size(), self.setup))
+
+    def aout(self, magic, image):
+        """Now and then without the word, as if it were ELF."""
+        return shown(image) if self.r.random() < 0.02 else 'aout=%d %s' % (magic, shown(image))
 
     # Calls
 
@@ -205,7 +213,9 @@ class History:
 
     def start(self, good=False):
         image = self.image()
-        if good:
+        if good and self.aouts and self.setup.utzero < 2**32 and self.r.random() < 0.6:
+            image = self.aout(*random_aout(self.r, self.size(), self.setup))
+        elif good:
             image = shown(example_at(self.setup.utzero) if self.r.random() < 0.5 and self.setup.flags[6] != REFUSED
                           else random_image(self.r, self.size(), self.setup))
         self.call('start', self.new_number(), shown(self.name()), image, *map(shown, self.args()))

@@ -3,9 +3,11 @@
 
     misread.py [--all]    --all names every script that notices an edit, and not only the first
 
-Each edit is made in a copy of the model outside the repository, and the scripts with a line `flags` are run through it.
+Each edit is made in a copy of the model outside the repository, and the scripts of its request are run through it: those with a line
+`flags` for request 7, those with an a.out for request 9, and for this the cases of its reader by itself, tests/images/aouts.txt.
 """
 import os
+import re
 import shutil
 import subprocess
 import sys
@@ -13,15 +15,20 @@ import tempfile
 
 HERE = os.path.dirname(os.path.abspath(__file__))
 ROOT = os.path.dirname(os.path.dirname(HERE))
-REPLAY = os.path.join(ROOT, 'tests', 'replay')
+REPLAY, IMAGES = (os.path.join(ROOT, 'tests', name) for name in ('replay', 'images'))
 MODEL = 'model.py', 'script.py', 'papers'
+# Of each request, a line that its scripts have.
+LINES = {'Request 7': re.compile(rb'^flags', re.M), 'Request 9': re.compile(rb'^(start|replace) [^ ]+ [^ ]+ aout=', re.M)}
 
 
 def edits():
-    """What each edit is, and its texts: file, old and new."""
+    """Each edit's request, what it is, and its texts: file, old and new."""
     with open(os.path.join(HERE, 'misreadings.txt')) as f:
         blocks = f.read().strip().split('\n\n')[1:]
     for about, *lines in (block.split('\n') for block in blocks):
+        if about.startswith('## '):
+            request = about[3:]
+            continue
         changes = []
         for line in lines:
             if line.startswith('- '):
@@ -30,17 +37,24 @@ def edits():
                 changes[-1][2].append(line[2:])
             else:
                 file = line
-        yield about[2:], [(file, old, '\n'.join(new)) for file, old, new in changes]
+        yield request, about[2:], [(file, old, '\n'.join(new)) for file, old, new in changes]
 
 
-def scripts():
-    """Each script with a line `flags`, and its recorded answers."""
+def recorded(folder, name):
+    """Lines and their answers."""
+    with open(os.path.join(folder, name), 'rb') as lines, open(os.path.join(folder, name[:-4] + '.out'), 'rb') as answers:
+        return lines.read(), answers.read()
+
+
+def scripts(request):
+    """Each script of a request by its name, how the model is asked, and lines with their recorded answers."""
     for name in sorted(os.listdir(REPLAY)):
         if name.endswith('.txt'):
-            with open(os.path.join(REPLAY, name), 'rb') as script, open(os.path.join(REPLAY, name[:-4] + '.out'), 'rb') as out:
-                lines, answers = script.read(), out.read()
-            if b'\nflags' in lines:
-                yield name, lines, answers
+            lines, answers = recorded(REPLAY, name)
+            if LINES[request].search(lines):
+                yield name, [], lines, answers
+    if request == 'Request 9':
+        yield 'aouts.txt', ['aouts'], *recorded(IMAGES, 'aouts.txt')
 
 
 def changed(folder, changes):
@@ -59,11 +73,11 @@ def changed(folder, changes):
     return os.path.join(folder, 'model.py')
 
 
-def noticed(model, every):
+def noticed(model, request, every):
     """The scripts that a changed model answers otherwise. A model that fails is no misreading."""
     names = []
-    for name, lines, answers in scripts():
-        run = subprocess.run([sys.executable, '-B', model], input=lines, capture_output=True, cwd=ROOT)
+    for name, words, lines, answers in scripts(request):
+        run = subprocess.run([sys.executable, '-B', model, *words], input=lines, capture_output=True, cwd=ROOT)
         if run.returncode != 0:
             sys.exit('a model that fails: ' + run.stderr.decode().strip())
         if run.stdout != answers:
@@ -75,9 +89,9 @@ def noticed(model, every):
 
 def main(argv):
     count = missed = 0
-    for about, changes in edits():
+    for request, about, changes in edits():
         with tempfile.TemporaryDirectory(prefix='misreading-') as folder:
-            names = noticed(changed(folder, changes), argv == ['--all'])
+            names = noticed(changed(folder, changes), request, argv == ['--all'])
         count += 1
         missed += not names
         if argv == ['--all'] or not names:

@@ -1,5 +1,6 @@
 """Random images, and damaged ones, from a generator of random numbers, linked for a set of the machine's numbers and a permission
-table."""
+table; ELF, and Plan 9 a.outs."""
+import aout
 from elf import change, example, field, header, program
 from papers.flags import BUILT_IN, REFUSED
 from papers.machine import DATA, MAX, PAGE, RODATA, TEXT, up
@@ -119,3 +120,52 @@ def any_image(r, size='plain', setup=DEPOSIT):
     if way < 0.65:
         return random_image(r, size, setup)
     return damaged(r, r.choice([example_at(setup.utzero), random_image(r, size, setup)]), setup)
+
+
+def random_aout(r, size='plain', setup=DEPOSIT):
+    """The magic and the bytes of an a.out, mostly one that loads where an entry of 32 bits can be in its text."""
+    few = 12 if size == 'small' else 48
+    text = r.randbytes(r.choice([4, 8, r.randint(1, few)]))
+    data = r.randbytes(r.choice([0, 0, 4, r.randint(0, few)]))
+    if size == 'big':
+        text += r.randbytes(r.choice([0, PAGE - 32 - len(text) + r.randint(-1, 1), r.randrange(9000)]))
+        data += r.randbytes(r.choice([0, PAGE - len(data) + r.randint(-1, 1), r.randrange(9000)]))
+    fill = -len(data) % PAGE                          # up to the end of its page
+    bss = r.choice([0, 0, 1, fill, fill + 1, r.randrange(3 * PAGE)])
+    if r.random() < 0.06:                             # at the very top
+        bss = setup.limit - up(setup.utzero + 32 + len(text)) - len(data) + r.choice([-1, 0, 0, 1])
+    if r.random() < 0.02:
+        bss = r.choice([2**31, 2**32 - 1, 2**32 - len(data), r.getrandbits(32)])
+    after = r.randbytes(r.choice([0, 0, r.randint(1, 12)]))
+    unread = {name: r.choice([0, len(after), r.getrandbits(32)]) for name in ('syms', 'spsz', 'pcsz')}
+    entry = setup.utzero + 32 + 4 * r.randrange((len(text) + 3) // 4)
+    magic = r.choice([aout.MAGIC] * 3 + [aout.MAGIC + aout.HEADER_BIT, r.getrandbits(32)])
+    return magic, aout.build(text, data, bss, after, setup.utzero, magic=magic, entry=entry, **unread)
+
+
+def damaged_aout(r, image, setup):
+    """The a.out with something wrong in it, or nothing."""
+    n, way = len(image), r.random()
+    if way < 0.25:
+        return image[:r.choice([0, 31, 32, r.randint(0, n), n - 1])]
+    if way < 0.4:
+        return change(image, r.randrange(n), 1, r.getrandbits(8))
+    name = r.choice(['magic', 'text', 'text', 'data', 'data', 'bss', 'entry', 'entry', 'entry'])
+    old = aout.word(image, name)
+    return aout.change(image, **{name: r.choice([
+        old + 1, old - 1, old + 4, old - 4, old + PAGE, old ^ 1 << r.randrange(32), 0, n, n - 32, 2**31, 2**32 - 1, 2**32 - 32,
+        2**32 - old, setup.utzero, setup.utzero + 28, setup.utzero + 32, setup.utzero + 32 + aout.word(image, 'text'),
+        r.getrandbits(32)])})
+
+
+def any_aout(r, size='plain', setup=DEPOSIT):
+    """The magic that is expected, mostly its own, and an a.out, damaged or not, or an ELF image."""
+    way = r.random()
+    magic, image = (aout.MAGIC, aout.example_at(setup.utzero)) if way < 0.2 else random_aout(r, size, setup)
+    if way > 0.97:
+        image = example_at(setup.utzero)
+    elif way > 0.7:
+        image = damaged_aout(r, image, setup)
+    if r.random() < 0.05:
+        magic = r.choice([magic ^ aout.HEADER_BIT, magic ^ 1 << r.randrange(32), r.getrandbits(32)])
+    return magic, image

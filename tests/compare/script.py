@@ -12,6 +12,8 @@ BLANK = 238
 LINE_MAX = BUFFER_MAX = 65536
 FILE_MAX = 2097152
 FRAMES_MAX = 1025
+MAGIC_MAX = 2**32 - 1
+AOUT = b'aout='
 
 
 class BadLine(Exception):
@@ -73,6 +75,16 @@ def buffer_length(word):
 
 def byte(word):
     return at_most(255, word)
+
+
+def formed(words):
+    """The words of start and replace, with None for the form, before the image, where it isn't said."""
+    return words if words[2:] and words[2].startswith(AOUT) else words[:2] + [None] + words[2:]
+
+
+def form(word):
+    """The magic of an a.out, or None for ELF."""
+    return None if word is None else at_most(MAGIC_MAX, word[len(AOUT):])
 
 
 def take(words, *kinds):
@@ -185,12 +197,12 @@ class Script:
         return 'ok pc=%d sp=%d argc=%d argv=%d' % r
 
     def start(self, words):
-        n, name, image, args = take(words, number, bytes_of, bytes, [bytes_of])
+        n, name, magic, image, args = take(formed(words), number, bytes_of, form, bytes, [bytes_of])
         image = bytes_of(image)  # comes last
-        return self.regs(self.w.start(n, name, image, args))
+        return self.regs(self.w.start(n, name, magic, image, args))
 
     def replace(self, words):
-        return self.regs(self.w.replace(*take(words, number, bytes_of, bytes_of, number)))
+        return self.regs(self.w.replace(*take(formed(words), number, bytes_of, form, bytes_of, number)))
 
     def push(self, words):
         return self.regs(self.w.push(*take(words, number, number, number, [bytes_of])))

@@ -1,6 +1,7 @@
 /*
  * An example of the library, and its test: a program of 184 bytes is started with two arguments, its break moves, it forks, parent and
- * children share its text and write to their own memory, and all end. Every answer is checked; the last line says 'N checks, 0 failed'.
+ * children share its text and write to their own memory, and all end; and a Plan 9 a.out is started too. Every answer is checked; the
+ * last line says 'N checks, 0 failed'.
  *
  *     cc example.c -I../../include ../../target/staticlib/libholthrimi.a -o example && ./example
  */
@@ -17,6 +18,10 @@ static struct holthrimi_procs procs;
 static struct holthrimi_setup setup = {65536, (uint64_t)1 << 47, 16384, (uint64_t)1 << 47, HOLTHRIMI_BUILT_IN};
 
 #define LENT setup, frames, sizeof frames, book, WORDS, &procs
+
+/* The two forms of an image, as the arguments before it name them: ELF, and Plan 9's a.out with the magic of arm64. */
+#define ELF false, 0
+#define AOUT true, 4 * 28 * 28 + 7
 
 static int checks, failed;
 
@@ -77,6 +82,26 @@ static void write_image(void) {
     header(image + 120, 6, 180, 69812, 4, 8000);
     put(image + 176, 0xd4000001, 4); /* svc #0 */
     memcpy(image + 180, "data", 4);
+}
+
+/* Plan 9's form: eight big-endian words, then text and data. Here eight bytes of text, of which the first four are code, and four of
+ * data. syms, spsz and pcsz are not read. */
+enum { PLAN9 = 44 };
+static uint8_t plan9[PLAN9];
+
+static void put_be(uint8_t *at, uint32_t value) {
+    for (int i = 0; i < 4; i++) {
+        at[i] = (uint8_t)(value >> (24 - 8 * i));
+    }
+}
+
+static void write_plan9(uint32_t magic, uint32_t text, uint32_t data, uint32_t bss, uint32_t entry) {
+    const uint32_t words[8] = {magic, text, data, bss, 0xffffffff, entry, 0x80000000, 7};
+    for (int i = 0; i < 8; i++) {
+        put_be(plan9 + 4 * i, words[i]);
+    }
+    put(plan9 + 32, 0xd4000001, 4); /* svc #0 */
+    memcpy(plan9 + 36, "textdata", 8);
 }
 
 /* One byte of a process's memory, or -1. */
@@ -230,14 +255,14 @@ static void flag_table(uint8_t row, uint8_t code) {
     note();
     setup.uaddrtop += 4096;
     CHECK(holthrimi_check(LENT) == HOLTHRIMI_SETUP && refused(holthrimi_end(LENT, 17), HOLTHRIMI_SETUP));
-    CHECK(holthrimi_plan(setup, image, IMAGE).number == HOLTHRIMI_SETUP);
+    CHECK(holthrimi_plan(setup, ELF, image, IMAGE).number == HOLTHRIMI_SETUP);
     CHECK(holthrimi_ibrk(setup, false, 0, 0, 0, 0).error == HOLTHRIMI_SETUP);
     CHECK(holthrimi_args_error(setup, &byte, 1, (const uint64_t[]){1}, 1) == HOLTHRIMI_SETUP);
     setup.uaddrtop -= 4096;
     CHECK(refused(holthrimi_end(setup, frames, sizeof frames - 1, book, WORDS, &procs, 17), HOLTHRIMI_SIZES));
-    CHECK(refused(holthrimi_start(LENT, 17, image, 63, &byte, 1, &byte, 1, (const uint64_t[]){2}, 1), HOLTHRIMI_SIZES));
-    CHECK(refused(holthrimi_start(LENT, 17, image, 63, &byte, 1, &byte, 0, (const uint64_t[]){0}, 0), HOLTHRIMI_FLAGS));
-    CHECK(refused(holthrimi_replace(LENT, 17, image, 63, &byte, 1, 0), HOLTHRIMI_FLAGS));
+    CHECK(refused(holthrimi_start(LENT, 17, ELF, image, 63, &byte, 1, &byte, 1, (const uint64_t[]){2}, 1), HOLTHRIMI_SIZES));
+    CHECK(refused(holthrimi_start(LENT, 17, ELF, image, 63, &byte, 1, &byte, 0, (const uint64_t[]){0}, 0), HOLTHRIMI_FLAGS));
+    CHECK(refused(holthrimi_replace(LENT, 17, ELF, image, 63, &byte, 1, 0), HOLTHRIMI_FLAGS));
     CHECK(refused(holthrimi_push(LENT, 17, 0, 8, &byte, 1, (const uint64_t[]){1}, 1), HOLTHRIMI_FLAGS));
     CHECK(refused(holthrimi_break(LENT, 17, 0), HOLTHRIMI_FLAGS) && refused(holthrimi_fork(LENT, 17, 17), HOLTHRIMI_FLAGS));
     CHECK(refused(holthrimi_end(LENT, 17), HOLTHRIMI_FLAGS));
@@ -245,12 +270,12 @@ static void flag_table(uint8_t row, uint8_t code) {
     CHECK(refused(holthrimi_copy_from_user(LENT, 17, &byte, 1, 0), HOLTHRIMI_FLAGS));
     CHECK(refused(holthrimi_copy_to_user(LENT, 17, 0, &byte, 1), HOLTHRIMI_FLAGS));
     CHECK(refused(holthrimi_try_copy_str_from_user(LENT, 17, &byte, 1, 0), HOLTHRIMI_FLAGS) && byte == 7);
-    CHECK(holthrimi_check(LENT) == HOLTHRIMI_FLAGS && holthrimi_plan(setup, image, IMAGE).number == HOLTHRIMI_FLAGS);
-    CHECK(holthrimi_plan(setup, image, 63).number == HOLTHRIMI_FLAGS && holthrimi_plan(setup, image, 63).elf == 0);
+    CHECK(holthrimi_check(LENT) == HOLTHRIMI_FLAGS && holthrimi_plan(setup, ELF, image, IMAGE).number == HOLTHRIMI_FLAGS);
+    CHECK(holthrimi_plan(setup, ELF, image, 63).number == HOLTHRIMI_FLAGS && holthrimi_plan(setup, ELF, image, 63).own == 0);
     CHECK(holthrimi_ibrk(setup, false, 0, 0, 0, 0).error == HOLTHRIMI_FLAGS);
     CHECK(holthrimi_args_error(setup, &byte, 1, (const uint64_t[]){2}, 1) == HOLTHRIMI_SIZES);
     CHECK(holthrimi_args_error(setup, (const uint8_t *)"", 1, (const uint64_t[]){1}, 1) == HOLTHRIMI_FLAGS);
-    CHECK(holthrimi_parse_with(setup.flags, image, 63) == HOLTHRIMI_FLAGS && holthrimi_parse(image, 63) == 11);
+    CHECK(holthrimi_parse(setup, ELF, image, 63) == HOLTHRIMI_FLAGS && holthrimi_parse(HOLTHRIMI_DEPOSIT, ELF, image, 63) == 11);
     CHECK(unchanged());
     setup.flags[row] = was;
     CHECK(holthrimi_check(LENT) == HOLTHRIMI_TORN);
@@ -264,10 +289,10 @@ static void rodata_in_row_6(void) {
     const uint8_t *name = (const uint8_t *)"lex";
     const uint64_t lengths[1] = {3};
     setup.flags[6] = HOLTHRIMI_RODATA;
-    struct holthrimi_planned plan = holthrimi_plan(setup, image, IMAGE);
+    struct holthrimi_planned plan = holthrimi_plan(setup, ELF, image, IMAGE);
     CHECK(plan.number == 0 && plan.segments[1].perm == HOLTHRIMI_RODATA && plan.pages == 7);
     CHECK(plan.bss.start == 77824 && plan.bss.end == 77824);
-    CHECK(accepted(holthrimi_start(LENT, 1, image, IMAGE, name, 3, name, 3, lengths, 1)) && free_frames() == FRAMES - 7);
+    CHECK(accepted(holthrimi_start(LENT, 1, ELF, image, IMAGE, name, 3, name, 3, lengths, 1)) && free_frames() == FRAMES - 7);
     CHECK(peek(1, 69812) == 'd' && peek(1, 77823) == 0 && peek(1, 77824) == -1);
     CHECK(holthrimi_user_range_ok(LENT, 1, 69812, 4, false).value == 1 && holthrimi_user_range_ok(LENT, 1, 69812, 4, true).value == 0);
     CHECK(accepted(holthrimi_fork(LENT, 1, 2)) && free_frames() == FRAMES - 7 - 4 && *holders(FRAMES - 2) == 2);
@@ -276,16 +301,97 @@ static void rodata_in_row_6(void) {
 
     /* Row 6 refused: 25, which a start answers with 30. Row 5 rodata: the entry is in no text. Row 4 the image does not use. */
     setup.flags[6] = 0;
-    CHECK(holthrimi_parse_with(setup.flags, image, IMAGE) == 25 && holthrimi_parse(image, IMAGE) == 0);
-    CHECK(refused(holthrimi_start(LENT, 1, image, IMAGE, name, 3, name, 3, lengths, 1), HOLTHRIMI_EBADEXEC));
+    CHECK(holthrimi_parse(setup, ELF, image, IMAGE) == 25 && holthrimi_parse(HOLTHRIMI_DEPOSIT, ELF, image, IMAGE) == 0);
+    CHECK(refused(holthrimi_start(LENT, 1, ELF, image, IMAGE, name, 3, name, 3, lengths, 1), HOLTHRIMI_EBADEXEC));
     setup.flags[6] = HOLTHRIMI_DATA;
     setup.flags[5] = HOLTHRIMI_RODATA;
-    CHECK(holthrimi_parse_with(setup.flags, image, IMAGE) == 27);
+    CHECK(holthrimi_parse(setup, ELF, image, IMAGE) == 27);
     setup.flags[5] = HOLTHRIMI_TEXT;
     setup.flags[4] = 0;
-    CHECK(holthrimi_parse_with(setup.flags, image, IMAGE) == 0 && holthrimi_plan(setup, image, IMAGE).number == 0);
+    CHECK(holthrimi_parse(setup, ELF, image, IMAGE) == 0 && holthrimi_plan(setup, ELF, image, IMAGE).number == 0);
     setup.flags[4] = HOLTHRIMI_RODATA;
     CHECK(memcmp(&setup, &HOLTHRIMI_DEPOSIT, sizeof setup) == 0);
+}
+
+/* What the reader of an a.out says; a start and a replace answer 30 for each of its numbers, and a plan tells it. */
+static uint64_t reads(uint32_t magic, uint32_t text, uint32_t data, uint32_t entry) {
+    const uint8_t *name = (const uint8_t *)"lex";
+    write_plan9(magic, text, data, 8000, entry);
+    uint64_t own = holthrimi_parse(setup, AOUT, plan9, PLAN9);
+    struct holthrimi_planned plan = holthrimi_plan(setup, AOUT, plan9, PLAN9);
+    CHECK(plan.own == own && plan.number == (own == 0 ? 0 : HOLTHRIMI_EBADEXEC));
+    if (own != 0) {
+        note();
+        CHECK(refused(holthrimi_start(LENT, 2, AOUT, plan9, PLAN9, name, 3, name, 3, (const uint64_t[]){3}, 1), HOLTHRIMI_EBADEXEC));
+        CHECK(refused(holthrimi_replace(LENT, 1, AOUT, plan9, PLAN9, name, 3, 8), HOLTHRIMI_EBADEXEC) && unchanged());
+    }
+    return own;
+}
+
+/* Plan 9's a.outs: the numbers at their boundaries, a start that reads back, and a process that goes from one form to the other. No
+ * process lives before and afterwards. */
+static void aouts(void) {
+    const uint8_t *name = (const uint8_t *)"/arm64/bin/lex";
+    const uint64_t lengths[2] = {3, 3};
+    const uint32_t magic = 4 * 28 * 28 + 7, entry = 65536 + 32;
+    CHECK(accepted(holthrimi_start(LENT, 1, ELF, image, IMAGE, name, 14, name, 6, lengths, 2)));
+
+    /* 42, 43, 19 and 27, in this order; sums are exact. */
+    CHECK(reads(magic, 8, 4, entry) == 0 && reads(magic, 8, 4, entry + 4) == 0 && reads(magic, 12, 0, entry + 8) == 0);
+    CHECK(reads(magic - 1, 9, 4, 1) == HOLTHRIMI_NOT_AOUT && reads(magic | 0x8000, 8, 4, entry) == HOLTHRIMI_NOT_AOUT);
+    CHECK(holthrimi_parse(setup, true, magic | 0x8000, plan9, PLAN9) == 0 && holthrimi_parse(setup, ELF, plan9, PLAN9) == 11);
+    CHECK(reads(magic, 9, 4, 1) == HOLTHRIMI_AOUT_OUT_OF_RANGE && reads(magic, 8, 5, entry) == HOLTHRIMI_AOUT_OUT_OF_RANGE);
+    CHECK(reads(magic, 0xffffffff, 13, entry) == HOLTHRIMI_AOUT_OUT_OF_RANGE);
+    CHECK(reads(magic, 8, 0xfffffffc, entry) == HOLTHRIMI_AOUT_OUT_OF_RANGE);
+    CHECK(reads(magic, 8, 4, 1) == 19 && reads(magic, 8, 4, entry + 2) == 19);
+    CHECK(reads(magic, 8, 4, entry - 4) == 27 && reads(magic, 8, 4, entry + 8) == 27 && reads(magic, 0, 12, entry) == 27);
+    write_plan9(magic, 8, 4, 8000, entry);
+    CHECK(holthrimi_parse(setup, AOUT, plan9, 31) == HOLTHRIMI_NOT_AOUT && holthrimi_parse(setup, AOUT, image, 0) == HOLTHRIMI_NOT_AOUT);
+    CHECK(holthrimi_parse(setup, AOUT, plan9, 32) == HOLTHRIMI_AOUT_OUT_OF_RANGE);
+    CHECK(holthrimi_parse(setup, AOUT, plan9, PLAN9 - 1) == HOLTHRIMI_AOUT_OUT_OF_RANGE);
+    CHECK(holthrimi_parse(setup, AOUT, image, IMAGE) == HOLTHRIMI_NOT_AOUT);
+
+    /* The setup comes first; the magic counts for an a.out alone; and the flag table for an ELF alone. */
+    setup.flags[7] = HOLTHRIMI_DATA;
+    CHECK(holthrimi_parse(setup, AOUT, plan9, 31) == HOLTHRIMI_FLAGS && holthrimi_plan(setup, AOUT, plan9, 31).number == HOLTHRIMI_FLAGS);
+    setup.uaddrtop += 4096;
+    CHECK(holthrimi_parse(setup, AOUT, plan9, 31) == HOLTHRIMI_SETUP && holthrimi_plan(setup, AOUT, plan9, 31).number == HOLTHRIMI_SETUP);
+    setup.uaddrtop -= 4096;
+    setup.flags[7] = 0;
+    CHECK(holthrimi_parse(setup, false, magic, image, IMAGE) == 0 && holthrimi_plan(setup, false, magic, image, IMAGE).number == 0);
+    setup.flags[5] = 0;
+    CHECK(holthrimi_parse(setup, AOUT, plan9, PLAN9) == 0 && holthrimi_parse(setup, ELF, image, IMAGE) == 25);
+    setup.flags[5] = HOLTHRIMI_TEXT;
+
+    /* Header and text at UTZERO, data on the next page, and bss behind it. */
+    struct holthrimi_planned plan = holthrimi_plan(setup, AOUT, plan9, PLAN9);
+    CHECK(plan.entry == entry && plan.count == 2 && plan.pages == 7 && plan.bss.start == 69636 && plan.bss.end == 77824);
+    CHECK(plan.segments[0].range.start == 65536 && plan.segments[0].range.end == 69632 && plan.segments[0].perm == HOLTHRIMI_TEXT);
+    CHECK(plan.segments[1].range.start == 69632 && plan.segments[1].range.end == 73728 && plan.segments[1].perm == HOLTHRIMI_DATA);
+    struct holthrimi_answer a = holthrimi_start(LENT, 2, AOUT, plan9, PLAN9, name, 14, name, 6, lengths, 2);
+    CHECK(accepted(a) && a.regs.pc == entry && a.regs.argc == 2 && memcmp(procs.all[1].text, "lex", 4) == 0);
+    for (int i = 0; i < 8192; i++) {
+        uint8_t text = i < 40 ? plan9[i] : 0, data = i < 4 ? plan9[40 + i] : 0;
+        if ((i < 4096 && peek(2, 65536 + i) != text) || peek(2, 69632 + i) != data) {
+            CHECK(!"what was loaded reads back");
+        }
+    }
+    CHECK(peek(2, 65535) == -1 && peek(2, 77824) == -1 && free_frames() == FRAMES - 7 - 7);
+    CHECK(holthrimi_user_range_ok(LENT, 2, 65536, 1, true).value == 0 && holthrimi_user_range_ok(LENT, 2, 69632, 8192, true).value == 1);
+
+    /* The ELF becomes an a.out, and the a.out an ELF. */
+    a = holthrimi_replace(LENT, 1, AOUT, plan9, PLAN9, name, 14, a.regs.argv);
+    CHECK(accepted(a) && a.regs.pc == entry && a.regs.argc == 2 && peek(1, 65536 + 36) == 't' && peek(1, 69632) == 'd');
+    a = holthrimi_replace(LENT, 2, ELF, image, IMAGE, name, 14, a.regs.argv);
+    CHECK(accepted(a) && a.regs.pc == 65712 && a.regs.argc == 2 && peek(2, 65536) == 127 && peek(2, 69812) == 'd');
+    CHECK(accepted(holthrimi_end(LENT, 2)) && accepted(holthrimi_end(LENT, 1)));
+
+    /* Without data and bss there is no data segment. */
+    write_plan9(magic, 12, 0, 0, entry);
+    plan = holthrimi_plan(setup, AOUT, plan9, PLAN9);
+    CHECK(plan.number == 0 && plan.count == 1 && plan.pages == 5 && plan.bss.start == 69632 && plan.bss.end == 69632);
+    CHECK(accepted(holthrimi_start(LENT, 1, AOUT, plan9, PLAN9, name, 14, name, 6, lengths, 2)) && peek(1, 69632) == -1);
+    CHECK(accepted(holthrimi_end(LENT, 1)) && free_frames() == FRAMES && holthrimi_check(LENT) == 0);
 }
 
 int main(void) {
@@ -299,13 +405,13 @@ int main(void) {
     CHECK(holthrimi_book_words(0) == 0 && holthrimi_book_words(HOLTHRIMI_MAX_FRAMES + 1) == 0);
 
     write_image();
-    struct holthrimi_planned plan = holthrimi_plan(setup, image, IMAGE);
+    struct holthrimi_planned plan = holthrimi_plan(setup, ELF, image, IMAGE);
     CHECK(plan.number == 0 && plan.entry == 65712 && plan.count == 2 && plan.pages == 7);
     CHECK(plan.bss.start == 69816 && plan.bss.end == 77824);
     CHECK(plan.segments[0].perm == HOLTHRIMI_TEXT && plan.segments[1].perm == HOLTHRIMI_DATA);
     CHECK(plan.segments[2].range.end == top && plan.segments[3].perm == 0);
-    CHECK(holthrimi_parse(image, IMAGE) == 0 && holthrimi_parse(image, 63) == 11);
-    CHECK(holthrimi_plan(setup, image, 63).number == 30 && holthrimi_plan(setup, image, 63).elf == 11);
+    CHECK(holthrimi_parse(setup, ELF, image, IMAGE) == 0 && holthrimi_parse(setup, ELF, image, 63) == 11);
+    CHECK(holthrimi_plan(setup, ELF, image, 63).number == 30 && holthrimi_plan(setup, ELF, image, 63).own == 11);
 
     /* The machine's numbers in four lines, written and read. */
     const char *lines = "UTZERO=65536\nUSTKTOP=140737488355328\nUSTKSIZE=16384\nUADDRTOP=140737488355328\n";
@@ -322,12 +428,15 @@ int main(void) {
     flag_lines();
     rodata_in_row_6();
 
+    /* An image of Plan 9's form. */
+    aouts();
+
     /* Start: two arguments, which end at the top of the stack. */
     const uint8_t *name = (const uint8_t *)"/bin/lex";
     const uint8_t *bytes = (const uint8_t *)"lexmot";
     const uint64_t lengths[2] = {3, 3};
     CHECK(holthrimi_args_error(setup, bytes, 6, lengths, 2) == 0 && holthrimi_stack_size(8, 2) == 40);
-    a = holthrimi_start(LENT, 1, image, IMAGE, name, 8, bytes, 6, lengths, 2);
+    a = holthrimi_start(LENT, 1, ELF, image, IMAGE, name, 8, bytes, 6, lengths, 2);
     struct holthrimi_regs regs = a.regs;
     CHECK(accepted(a) && regs.pc == 65712 && regs.argc == 2 && regs.argv == top - 32 && regs.sp == top - 32);
     CHECK(memcmp(procs.all[0].text, "lex", 4) == 0);
@@ -340,16 +449,17 @@ int main(void) {
     printf("started: pc %llu, sp %llu\n", (unsigned long long)regs.pc, (unsigned long long)regs.sp);
 
     /* Refusals change nothing. */
-    CHECK(refused(holthrimi_start(LENT, 1, image, IMAGE, name, 8, bytes, 6, lengths, 2), HOLTHRIMI_TAKEN));
-    CHECK(refused(holthrimi_start(LENT, 2, image, IMAGE, name, 8, bytes, 5, lengths, 2), HOLTHRIMI_SIZES));
-    CHECK(refused(holthrimi_start(LENT, 2, image, 63, name, 8, bytes, 6, lengths, 2), HOLTHRIMI_EBADEXEC));
+    CHECK(refused(holthrimi_start(LENT, 1, ELF, image, IMAGE, name, 8, bytes, 6, lengths, 2), HOLTHRIMI_TAKEN));
+    CHECK(refused(holthrimi_start(LENT, 2, ELF, image, IMAGE, name, 8, bytes, 5, lengths, 2), HOLTHRIMI_SIZES));
+    CHECK(refused(holthrimi_start(LENT, 2, ELF, image, 63, name, 8, bytes, 6, lengths, 2), HOLTHRIMI_EBADEXEC));
     CHECK(refused(holthrimi_end(LENT, 17), HOLTHRIMI_NUMBER) && refused(holthrimi_end(LENT, 2), HOLTHRIMI_DEAD));
     CHECK(refused(holthrimi_end(setup, frames, sizeof frames - 1, book, WORDS, &procs, 1), HOLTHRIMI_SIZES));
     CHECK(refused(holthrimi_end(setup, frames, sizeof frames, book, WORDS - 1, &procs, 1), HOLTHRIMI_SIZES));
     CHECK(refused(holthrimi_end(setup, frames, sizeof frames, book, FRAMES, &procs, 1), HOLTHRIMI_SIZES));
     setup.uaddrtop += 4096;
     CHECK(refused(holthrimi_end(LENT, 1), HOLTHRIMI_SETUP) && holthrimi_check(LENT) == HOLTHRIMI_SETUP);
-    CHECK(holthrimi_plan(setup, image, IMAGE).number == HOLTHRIMI_SETUP);
+    CHECK(holthrimi_plan(setup, ELF, image, IMAGE).number == HOLTHRIMI_SETUP);
+    CHECK(holthrimi_parse(setup, ELF, image, 63) == HOLTHRIMI_SETUP);
     CHECK(holthrimi_ibrk(setup, false, 0, 0, 0, 0).error == HOLTHRIMI_SETUP);
     CHECK(holthrimi_args_error(setup, bytes, 6, lengths, 1) == HOLTHRIMI_SIZES);
     CHECK(holthrimi_args_error(setup, bytes, 6, lengths, 2) == HOLTHRIMI_SETUP);
@@ -400,7 +510,7 @@ int main(void) {
     /* Push and replace: the arguments are read from the old memory, and the others keep the text. */
     a = holthrimi_push(LENT, 2, 65712, top, bytes, 6, lengths, 2);
     CHECK(accepted(a) && a.regs.argv == top - 32);
-    a = holthrimi_replace(LENT, 2, image, IMAGE, (const uint8_t *)"mot", 3, a.regs.argv);
+    a = holthrimi_replace(LENT, 2, ELF, image, IMAGE, (const uint8_t *)"mot", 3, a.regs.argv);
     CHECK(accepted(a) && a.regs.argc == 2 && peek(2, 77830) == -1 && memcmp(procs.all[1].text, "mot", 4) == 0);
     CHECK(*place(FRAMES - 1, 2) == 0 && *holders(FRAMES - 1) == 3 && peek(1, 65536) == 127 && peek(2, 65536) == 127);
 

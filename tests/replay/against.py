@@ -16,6 +16,7 @@ import time
 HERE = os.path.dirname(os.path.abspath(__file__))
 ROOT = os.path.dirname(os.path.dirname(HERE))
 sys.path.insert(0, os.path.join(ROOT, 'tests', 'compare'))
+import aout  # noqa: E402
 import feed  # noqa: E402
 from papers.flags import BUILT_IN, table_lines  # noqa: E402
 from papers.setup import Setup, written  # noqa: E402
@@ -96,6 +97,22 @@ def made(folder):
         b'start 1 - ' + elf, b'range 1 69632 1 w', b'flags' + b' 0' * 8, b'start 2 - ' + elf, b'flags' + b' 0' * 30000,
         b'flags' + b' 255' * 8, b'start 1 - -', b'rule 0 0 0 0', b'numbers 0 0 0 0', b'rule 0 0 0 0', b'frames 7', b'rule 0 0 0 0',
         b'start 1 - ' + elf, b'map 1', b'sum'])
+    long_text = bytes(range(1, 250)) * (FILE_MAX // 249 + 1)
+    def of_text(size):
+        return aout.build(long_text[:size - aout.HEADER])
+    said = b'aout=%d ' % aout.MAGIC
+    small, whole, cut = file('aout', aout.EXAMPLE), file('whole', of_text(FILE_MAX)), file('cut', of_text(FILE_MAX)[:-1])
+    behind = file('behind', aout.EXAMPLE + bytes(FILE_MAX - len(aout.EXAMPLE)))
+    # A line of as many bytes as there may be.
+    long_line = b"start 5 'xy " + said + of_text(32757).hex().encode()
+    yield 'aouts', b'\n'.join([
+        b'frames 600', b"start 1 'x " + said + small, b'map 1', b"start 2 'x " + said + whole, b'break 2 0', b'from 2 2162680 8',
+        b'from 2 2162687 2', b"start 2 'x " + said + cut, b"start 2 'x " + said + over, b"start 2 'x " + said + empty,
+        b"start 2 'x " + said + elf, b"start 2 'x " + said + behind + b' -' * 453, b"start 3 'x aout=" + b'0' * 60000 + said[5:] + small,
+        b"start 4 'x aout=" + b'9' * 60000 + b' ' + small, b"start 4 'x aout=" + b'0' * 66000 + said[5:] + small, long_line,
+        long_line.replace(b'start 5', b'start 55'), b'map 5', b'sum', b'replace 1 ' + name + b' ' + said + whole + b' 140737488355320',
+        b'sum', b'fork 1 6', b'sum', b'replace 2 ' + name + b' ' + said + small + b' 140737488351240', b'sum',
+        b'replace 1 ' + name + b' ' + said + cut + b' 140737488355320', b'replace 1 - ' + elf + b' 140737488355320', b'sum'])
     yield 'tails', b'frames 1\n\n\n#\nsum\nend 1\r\nsum\0\nname \'\xff\xfe\nmap 1'
     yield 'nothing', b''
     yield 'a line feed', b'\n'

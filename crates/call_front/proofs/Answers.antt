@@ -10,6 +10,7 @@ use Rattle.spec.specs.Book.{valid, free, sameSegment, used, procAt}
 use Rattle.spec.specs.Frames.{sized}
 use Rattle.spec.specs.Machine.{Ask, start, fork, plain, kind, Reply, outcome, refuse, lengthsFit, judge, weigh, call}
 use Rattle.spec.specs.World.{State, sound, taken, view, aloneFor, answer, leave, after, Does}
+use Rattle.spec.specs.declared.Form.{Form}
 use Rattle.spec.specs.declared.UserSegment.{UserSegment}
 use Rattle.spec.proofs.Bools.{or-test}
 use Rattle.spec.proofs.Lists.{same-self}
@@ -61,12 +62,12 @@ answer-plain s n q k =
     ∙ ap (orRefuse (numberError s n (lengthsFit q)) q) (step (taken s n) 4 0 q w w refl refl)
     ∙ in-order (numberError s n (lengthsFit q)) (not (taken s n) ⇒ 4 else 0) q w
 
-pub answer-start : (s : State) (n : ℕ) (image name bytes lengths : List ℕ)
-    → let q : Ask = start image name bytes lengths in
+pub answer-start : (s : State) (n : ℕ) (form : Form) (image name bytes lengths : List ℕ)
+    → let q : Ask = start form image name bytes lengths in
     answer s (call n q) ≡ orRefuse (beginError s n (lengthsFit q)) q (weigh (view s n) (free (s .store .book)) (aloneFor s (call n q)) q)
 unfolding answer judge numberError beginError
-answer-start s n image name bytes lengths =
-    let q : Ask = start image name bytes lengths in
+answer-start s n form image name bytes lengths =
+    let q : Ask = start form image name bytes lengths in
     let w : Reply = weigh (view s n) (free (s .store .book)) (aloneFor s (call n q)) q in
     let x : Reply = not (not (taken s n)) ⇒ refuse 5 q else w in
     again (sized (s .store)) (lengthsFit q) _ q _ x

@@ -7,6 +7,7 @@ use Rattle.spec.specs.Exec.{imageError}
 use Rattle.spec.specs.World.{State, stateOf}
 use Rattle.spec.specs.declared.Procs.{Procs}
 use Rattle.spec.specs.declared.Setup.{Setup}
+use Rattle.spec.specs.declared.Form.{Form}
 use Rattle.spec.specs.Frames.{store}
 use Rattle.spec.proofs.Setups.{setup-means}
 use Rattle.spec_laws.proofs.Record.{Whole}
@@ -24,8 +25,8 @@ module _ (setup : Setup) (frames book : List ℕ) (procs : Procs) (n : ℕ) (who
   passed : Passed s n true
   passed = plain-none s n true first .0
 
-  pub enterable : (image : List ℕ) (plan : Plan) → plan ≡ planOf setup image → imageError setup image ≡ 0 → Enterable setup (store frames book) n image plan
-  enterable image plan planned accepted =
+  pub enterable : (form : Form) (image : List ℕ) (plan : Plan) → plan ≡ planOf setup form image → imageError setup form image ≡ 0 → Enterable setup (store frames book) n form image plan
+  enterable form image plan planned accepted =
       let z = sizes-words frames book (passed .sizes) in
       record {
         setup-ok = setup-means setup (passed .setup);

@@ -11,13 +11,14 @@ use Rattle.spec.specs.Numbers.{SetupOk, maxFrames}
 use Rattle.spec.specs.Book.{valid, frameCount, free, alone, zeroProc, pageCount}
 use Rattle.spec.specs.Frames.{Store, release}
 use Rattle.spec.specs.Sound.{Mappings}
-use Rattle.spec.specs.Elf.{entry}
+use Rattle.spec.specs.Program.{Program}
 use Rattle.spec.specs.Exec.{imageError, startPieces, registers}
 use Rattle.spec.specs.World.{procOf}
 use Rattle.spec.specs.declared.Answer.{Answer}
 use Rattle.spec.specs.declared.Answer.the-variants.{Regs, Ended}
 use Rattle.spec.specs.declared.Proc.{Proc}
 use Rattle.spec.specs.declared.Setup.{Setup}
+use Rattle.spec.specs.declared.Form.{Form}
 use Rattle.exec.specs.Plan.{planOf}
 use Rattle.exec.specs.declared.Plan.{Plan}
 use Rattle.exec_load.specs.Installing.{installed}
@@ -28,26 +29,26 @@ freed m n = release m n (λ page. true)
 
 -- an image may be entered by process n: the setup is accepted, frames are 4,096 bytes and seventeen words each and at most 1,024, the
 -- book's mappings are in order, n is 1 to 16, the plan is the image's, and the image is accepted
-pub record Enterable (setup : Setup) (m : Store) (n : ℕ) (image : List ℕ) (plan : Plan) : Type 0 where
+pub record Enterable (setup : Setup) (m : Store) (n : ℕ) (form : Form) (image : List ℕ) (plan : Plan) : Type 0 where
   pub setup-ok : SetupOk setup
   pub sizes : length (m .frames) ≡ 4096 * frameCount (m .book)
   pub words : length (m .book) ≡ 17 * frameCount (m .book)
   pub most : frameCount (m .book) ≤ maxFrames
   pub mappings : Mappings setup (m .book)
   pub number : valid n ≡ true
-  pub planned : plan ≡ planOf setup image
-  pub accepted : imageError setup image ≡ 0
+  pub planned : plan ≡ planOf setup form image
+  pub accepted : imageError setup form image ≡ 0
 
 -- the frames that it holds alone and the free ones don't suffice
-abbrev pub short : Setup → Store → ℕ → List ℕ → Bool
-short setup m n image = pageCount (startPieces setup image) above alone (m .book) n + free (m .book)
+abbrev pub short : Setup → Store → ℕ → Program → Bool
+short setup m n program = pageCount (startPieces setup program) above alone (m .book) n + free (m .book)
 
 -- what is left, the record, and the answer: then the process ends with 33
-abbrev pub entered : Setup → Store → ℕ → List ℕ → List (List ℕ) → Store
-entered setup m n image args = short setup m n image ⇒ freed m n else installed setup (freed m n) n image args
+abbrev pub entered : Setup → Store → ℕ → Program → List (List ℕ) → Store
+entered setup m n program args = short setup m n program ⇒ freed m n else installed setup (freed m n) n program args
 
-abbrev pub next : Setup → Store → ℕ → List ℕ → List ℕ → Proc
-next setup m n image name = short setup m n image ⇒ zeroProc else procOf setup image name
+abbrev pub next : Setup → Store → ℕ → Program → List ℕ → Proc
+next setup m n program name = short setup m n program ⇒ zeroProc else procOf setup program name
 
-abbrev pub entering : Setup → Store → ℕ → List ℕ → List (List ℕ) → Answer
-entering setup m n image args = short setup m n image ⇒ Ended 33 else Regs (registers (entry image) (setup .ustktop) args)
+abbrev pub entering : Setup → Store → ℕ → Program → List (List ℕ) → Answer
+entering setup m n program args = short setup m n program ⇒ Ended 33 else Regs (registers (program .entry) (setup .ustktop) args)

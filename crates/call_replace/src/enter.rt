@@ -4,11 +4,13 @@
 ghost use mathlib.Core.Path.{_≡_};
 ghost use mathlib.Core.List.{List};
 ghost use Prim.Native.Nat.{ℕ};
+ghost use Rattle.spec.specs.Image.{programOf};
 ghost use Rattle.spec.specs.Frames.{store};
 ghost use Rattle.exec_load.specs.Installing.{Fitting};
 ghost use Rattle.call_replace.specs.Entering.{Enterable, entered, next, entering};
 use exec::Plan;
 use spec::Answer;
+use spec::Form;
 use spec::Proc;
 use spec::Setup;
 
@@ -25,6 +27,7 @@ pub fn enter(
     frames: &mut [u8],
     book: &mut [u64],
     number: u64,
+    form: Form,
     image: &[u8],
     plan: Plan,
     name: &[u8],
@@ -32,10 +35,10 @@ pub fn enter(
     size: usize,
     nargs: usize,
 ) -> Entered
-    requires { ⌜ Enterable setup (store (now frames) (now book)) number (now image) plan ⌝ }
+    requires { ⌜ Enterable setup (store (now frames) (now book)) number form (now image) plan ⌝ }
     requires { ⌜ ((args : List (List ℕ)) × Fitting setup args (now buf) size nargs) ⌝ }
-    ensures { λ r. ⌜ r .proc ≡ next setup (store (now (frames .entry)) (now (book .entry))) number (now (image .entry)) (now (name .entry)) ⌝ }
-    ensures { λ r. ⌜ ((args : List (List ℕ)) → Fitting setup args (now (buf .entry)) size nargs → (store (now (frames .exit)) (now (book .exit)) ≡ entered setup (store (now (frames .entry)) (now (book .entry))) number (now (image .entry)) args) × (r .answer ≡ entering setup (store (now (frames .entry)) (now (book .entry))) number (now (image .entry)) args)) ⌝ }
+    ensures { λ r. ⌜ r .proc ≡ next setup (store (now (frames .entry)) (now (book .entry))) number (programOf setup form (now (image .entry))) (now (name .entry)) ⌝ }
+    ensures { λ r. ⌜ ((args : List (List ℕ)) → Fitting setup args (now (buf .entry)) size nargs → (store (now (frames .exit)) (now (book .exit)) ≡ entered setup (store (now (frames .entry)) (now (book .entry))) number (programOf setup form (now (image .entry))) args) × (r .answer ≡ entering setup (store (now (frames .entry)) (now (book .entry))) number (programOf setup form (now (image .entry))) args)) ⌝ }
 {
     let own = book::alone_count(book, number) as u64;
     let free = book::free_count(book) as u64;
@@ -47,7 +50,18 @@ pub fn enter(
             answer: Answer::Ended(spec::ENOVMEM),
         };
     }
-    let regs = exec_load::install(setup, frames, book, number, image, plan, buf, size, nargs);
+    let regs = exec_load::install(
+        setup,
+        frames,
+        book,
+        number,
+        form,
+        image,
+        plan,
+        buf,
+        size,
+        nargs,
+    );
     Entered {
         proc: exec_load::record_of(plan, name),
         answer: Answer::Regs(regs),

@@ -4,6 +4,7 @@
 mod enter;
 
 ghost use mathlib.Core.Path.{_≡_};
+ghost use Rattle.spec.specs.Image.{programOf};
 ghost use Rattle.spec.specs.Frames.{memOf, store};
 ghost use Rattle.spec.specs.Exec.{copyArgv};
 ghost use Rattle.spec.specs.Machine.{replace, plainly, call};
@@ -14,6 +15,7 @@ ghost use Rattle.call_replace.specs.Becoming.{Became};
 use crate::enter::Entered;
 use exec::Plan;
 use spec::Answer;
+use spec::Form;
 use spec::Left;
 use spec::Proc;
 use spec::Procs;
@@ -30,14 +32,15 @@ fn enter_argv(
     table: &[u16; 1024],
     p: Proc,
     number: u64,
+    form: Form,
     image: &[u8],
     plan: Plan,
     name: &[u8],
     argv: u64,
 ) -> Entered
     requires { ⌜ Ready (now book) number (now tags) (now bases) (now table) ⌝ }
-    requires { ⌜ Enterable setup (store (now frames) (now book)) number (now image) plan ⌝ }
-    ensures { λ r. ⌜ Became setup (store (now (frames .entry)) (now (book .entry))) p number (now (image .entry)) (now (name .entry)) (copyArgv setup (memOf (store (now (frames .entry)) (now (book .entry))) number) argv) (store (now (frames .exit)) (now (book .exit))) r ⌝ }
+    requires { ⌜ Enterable setup (store (now frames) (now book)) number form (now image) plan ⌝ }
+    ensures { λ r. ⌜ Became setup (store (now (frames .entry)) (now (book .entry))) p number (programOf setup form (now (image .entry))) (now (name .entry)) (copyArgv setup (memOf (store (now (frames .entry)) (now (book .entry))) number) argv) (store (now (frames .exit)) (now (book .exit))) r ⌝ }
 {
     let mut buf = [0u8; exec_args::BUFFER_SIZE];
     let read = exec_argv::copy_argv(
@@ -72,6 +75,7 @@ fn enter_argv(
         frames,
         book,
         number,
+        form,
         image,
         plan,
         name,
@@ -81,7 +85,7 @@ fn enter_argv(
     )
 }
 
-// Replaces the program of process `number` by an image, with the last element of `name` as its name and with the arguments that the
+// Replaces the program of process `number` by an image of the form that the caller names, with the last element of `name` as its name and with the arguments that the
 // array of pointers at user address `argv` points to. Refused with 1, 38, 39 or 2 to 4, with 30 or 31 for its image, or with 33 for its
 // arguments, it changes nothing. A bad address among the arguments, 35, ends the process, and so does 33 if the frames that
 // it holds alone and the free ones don't hold the image's pages.
@@ -91,11 +95,12 @@ pub fn replace(
     book: &mut [u64],
     procs: Procs,
     number: u64,
+    form: Form,
     image: &[u8],
     name: &[u8],
     argv: u64,
 ) -> Left
-    ensures { λ r. ⌜ Does (stateOf setup (now (frames .entry)) (now (book .entry)) procs) (call number (replace (now (image .entry)) (now (name .entry)) argv)) (stateOf setup (now (frames .exit)) (now (book .exit)) (r .procs)) (plainly (r .answer)) ⌝ }
+    ensures { λ r. ⌜ Does (stateOf setup (now (frames .entry)) (now (book .entry)) procs) (call number (replace form (now (image .entry)) (now (name .entry)) argv)) (stateOf setup (now (frames .exit)) (now (book .exit)) (r .procs)) (plainly (r .answer)) ⌝ }
 {
     let mut tags = [0u64; 272];
     let mut bases = [0u64; 273];
@@ -117,7 +122,7 @@ pub fn replace(
             answer: Answer::Refused(e),
         };
     }
-    let plan = exec::plan_of(setup, image);
+    let plan = exec::plan_of(setup, form, image);
     if plan.number != 0 {
         return Left {
             procs: procs,
@@ -134,6 +139,7 @@ pub fn replace(
         &table,
         p,
         number,
+        form,
         image,
         plan,
         name,

@@ -19,7 +19,7 @@ use Rattle.spec_laws.proofs.Headers.{Header, header-means}
 
 -- its segment
 pub checked : (flags image : List ℕ) (end : ℕ) (p : Phdr) → Header flags image end p → Checked (length image) (segmentFrom flags p)
-checked flags image end p h = record { file = h .file; within = h .inside; aligned = h .congruent; end = h .fits }
+checked flags image end p h = record { file = h .file; within = h .inside; end = h .fits }
 
 -- every segment of headers that pass has passed
 abbrev pub AllChecked : List ℕ → ℕ → List Phdr → Type 0

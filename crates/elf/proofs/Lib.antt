@@ -3,6 +3,5 @@ pub mod Walk
 pub mod Errors
 pub mod Checked
 pub mod HeaderAt
-pub mod Indexed
 pub mod Tables
 pub mod FlagTable

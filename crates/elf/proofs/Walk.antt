@@ -11,7 +11,8 @@ use lib.ListN.{length, take, drop}
 use borrow.Author.Tests.{ne-eqb}
 use Rattle.spec.specs.Tests.{_is_, _⇒_else_, _orElse_, any, filter, within}
 use Rattle.spec.specs.Numbers.{pageUp}
-use Rattle.spec.specs.Elf.{Phdr, phoff, phnum, phdrs, phdrAt, phdrsFrom, loads, flagPerm, phdrError, Segment, segmentOf, segmentsOf}
+use Rattle.spec.specs.Program.{Segment}
+use Rattle.spec.specs.Elf.{Phdr, phoff, phnum, phdrs, phdrAt, phdrsFrom, loads, flagPerm, phdrError, segmentOf, segmentsOf}
 use Rattle.spec.proofs.Bools.{split}
 use Rattle.elf.specs.Reader.{inText, left, keep, scanError, stepError, Steps, loadOf, CheckedLoad}
 use Rattle.elf.specs.declared.Segment.{Segment as Held}
@@ -50,9 +51,6 @@ front image (Taken g) gs = segmentIn image g ∷ gs
 -- the segments of the headers that are left
 abbrev pub segs : List ℕ → List ℕ → ℕ → ℕ → List Segment
 segs flags image at k = map (segmentOf flags image) (left image at k)
-
-pub segs-none : (flags image : List ℕ) (at k : ℕ) → k ≤ 0 → segs flags image at k ≡ []
-segs-none flags image at k h = rw (left-none image at k h)
 
 pub segs-some : (flags image : List ℕ) (at k : ℕ) (l : Load) → 0 < k → l ≡ loadOf flags (phdrAt image at) → segs flags image at k ≡ front image l (segs flags image (at + 56) (k - 1))
 segs-some flags image at k l h e =

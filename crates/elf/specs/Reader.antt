@@ -7,7 +7,8 @@ use mathlib.Core.Bool.{Bool, false, _&&_, _||_}
 use mathlib.Core.List.{List, [], _∷_, map}
 use lib.ListN.{length, take, drop}
 use Rattle.spec.specs.Tests.{_is_, _above_, _⇒_else_, _orElse_, any, filter}
-use Rattle.spec.specs.Elf.{Phdr, Segment as Loadable, phdrsFrom, loads, flagPerm, phdrAt, phdrError, segmentOf, inFile, errorNumber, entry, phoff, phnum}
+use Rattle.spec.specs.Program.{Segment as Loadable, inFile}
+use Rattle.spec.specs.Elf.{Phdr, phdrsFrom, loads, flagPerm, phdrAt, phdrError, segmentOf, errorNumber, entry, phoff, phnum}
 use Rattle.elf_header.specs.declared.header.Ehdr.{Ehdr}
 use Rattle.elf_header.specs.Header.{fieldsError}
 use Rattle.elf.specs.declared.Seen.{Seen}
@@ -46,7 +47,6 @@ loadIn flags table i = 56 * i + 56 above length table ⇒ Skip else loadOf flags
 pub record Checked (n : ℕ) (g : Held) : Type 0 where
   pub file : g .filesz ≤ g .memsz
   pub within : g .offset + g .filesz ≤ n
-  pub aligned : g .vaddr % 4096 ≡ g .offset % 4096
   pub end : g .vaddr + g .memsz ≤ 2 ^ 64 - 4096
 
 abbrev pub CheckedLoad : ℕ → Load → Type 0

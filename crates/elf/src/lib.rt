@@ -192,7 +192,7 @@ fn segment_in(flags: [u8; 8], table: &[u8], i: usize) -> Load
 }
 
 // `n` bytes of an image from a place on, or none where they leave the image.
-fn part<'a>(image: &'a [u8], from: usize, n: usize) -> &'a [u8]
+pub fn part<'a>(image: &'a [u8], from: usize, n: usize) -> &'a [u8]
     ensures { λ r. ⌜ now r ≡ partOf (now (image .entry)) from n ⌝ }
 {
     if from > image.len() {

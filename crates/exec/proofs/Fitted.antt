@@ -10,13 +10,15 @@ use lib.Seq.{length-take-le}
 use borrow.Author.Tests.{ne-eqb}
 use Rattle.spec.specs.Tests.{_is_, _below_, _above_, _⇒_else_}
 use Rattle.spec.specs.Numbers.{limit}
-use Rattle.spec.specs.Elf.{Segment, phdrAt}
+use Rattle.spec.specs.Program.{Segment}
 use Rattle.spec.specs.Exec.{layoutOk, bssOf}
-use Rattle.elf.specs.Reader.{Checked, CheckedLoad, loadOf}
 use Rattle.elf.specs.declared.Segment.{Segment as Held}
 use Rattle.elf.specs.declared.Load.{Load}
 use Rattle.elf.specs.declared.Load.the-variants.{Skip, Segment as Taken}
-use Rattle.elf.proofs.Walk.{segmentIn, front, segs, segs-none, segs-some}
+use Rattle.elf.proofs.Walk.{segmentIn, front}
+use Rattle.image.specs.Places.{places, loadAt}
+use Rattle.image.proofs.Places.{WithinLoad, rest, rest-some, rest-none}
+use Rattle.spec.specs.declared.Form.{Form}
 use Rattle.spec.proofs.Bools.{split}
 use Rattle.spec.specs.declared.Setup.{Setup}
 use Rattle.exec.specs.Fits.{laid, fitOf, nothing, lastOf, fits}
@@ -37,9 +39,9 @@ order false true high last none rest x y = refl
 order false false true last none rest x y = refl
 order false false false last none rest x y = refl
 
--- a segment's file bytes are as many as its header says
-pub file-long : (image : List ℕ) (g : Held) → Checked (length image) g → length (segmentIn image g .file) ≡ g .filesz
-file-long image g c = length-take-le (g .filesz) (drop (g .offset) image) (omega (arith, length-drop (g .offset) image, c .within))
+-- a segment that lies in the image has as many file bytes as it says
+file-long : (image : List ℕ) (g : Held) → g .offset + g .filesz ≤ length image → length (segmentIn image g .file) ≡ g .filesz
+file-long image g c = length-take-le (g .filesz) (drop (g .offset) image) (omega (arith, length-drop (g .offset) image))
 
 choose : (b : Bool) (x y : Fit) (f : Fit → Fit) → f (b ⇒ x else y) ≡ (b ⇒ f x else f y)
 choose true x y f = refl
@@ -47,31 +49,31 @@ choose false x y f = refl
 
 module _ (setup : Setup) where
   -- one segment of a layout
-  fits-one : (image : List ℕ) (before : Laid) (g : Held) (gs : List Segment) → Checked (length image) g → fits setup before (segmentIn image g ∷ gs) ≡ then setup (fitOf setup before (Taken g)) gs
+  fits-one : (image : List ℕ) (before : Laid) (g : Held) (gs : List Segment) → g .offset + g .filesz ≤ length image → fits setup before (segmentIn image g ∷ gs) ≡ then setup (fitOf setup before (Taken g)) gs
   fits-one image before g gs c =
       rw (file-long image g c, ne-eqb (suc (length gs)) 0 (λ z. omega arith))
       (order (before .closed) (g .vaddr below setup .utzero) (g .vaddr + g .memsz above limit setup) (g .perm is 3) (length gs is 0) (layoutOk setup gs) (Fits (lastOf (laid g) gs)) Refused
       ∙ sym (choose (before .closed || g .vaddr below setup .utzero || g .vaddr + g .memsz above limit setup) Refused (Fits (laid g)) (λ f. then setup f gs)))
 
-  pub fits-load : (image : List ℕ) (before : Laid) (l : Load) (gs : List Segment) → CheckedLoad (length image) l → fits setup before (front image l gs) ≡ then setup (fitOf setup before l) gs
+  pub fits-load : (image : List ℕ) (before : Laid) (l : Load) (gs : List Segment) → WithinLoad (length image) l → fits setup before (front image l gs) ≡ then setup (fitOf setup before l) gs
   fits-load image before Skip gs c = refl
   fits-load image before (Taken g) gs c = fits-one image before g gs c
 
-  -- one header of a layout
-  pub fits-some : (flags image : List ℕ) (at k : ℕ) (before : Laid) (f : Fit) → 0 < k → CheckedLoad (length image) (loadOf flags (phdrAt image at)) → f ≡ fitOf setup before (loadOf flags (phdrAt image at))
-      → fits setup before (segs flags image at k) ≡ then setup f (segs flags image (at + 56) (k - 1))
-  fits-some flags image at k before f h a e =
-      let l = loadOf flags (phdrAt image at) in
-      ap (fits setup before) (segs-some flags image at k l h refl) ∙ fits-load image before l (segs flags image (at + 56) (k - 1)) a
-      ∙ ap (λ (x : Fit). then setup x (segs flags image (at + 56) (k - 1))) (sym e)
+  -- one place of a layout
+  pub fits-some : (form : Form) (image : List ℕ) (i : ℕ) (before : Laid) (f : Fit) → i < places form image → WithinLoad (length image) (loadAt setup form image i) → f ≡ fitOf setup before (loadAt setup form image i)
+      → fits setup before (rest setup form image i) ≡ then setup f (rest setup form image (i + 1))
+  fits-some form image i before f h w e =
+      let l = loadAt setup form image i in
+      ap (fits setup before) (rest-some setup form image i h) ∙ fits-load image before l (rest setup form image (i + 1)) w
+      ∙ ap (λ (x : Fit). then setup x (rest setup form image (i + 1))) (sym e)
 
-  -- no more headers
-  pub fits-end : (flags image : List ℕ) (at k : ℕ) (before : Laid) → k ≤ 0 → fits setup before (segs flags image at k) ≡ Fits before
-  fits-end flags image at k before h = ap (fits setup before) (segs-none flags image at k h) ∙ split (before .closed) (λ q. rw q) (λ q. rw q)
+  -- no more places
+  pub fits-end : (form : Form) (image : List ℕ) (i : ℕ) (before : Laid) → places form image ≤ i → fits setup before (rest setup form image i) ≡ Fits before
+  fits-end form image i before h = ap (fits setup before) (rest-none setup form image i h) ∙ split (before .closed) (λ q. rw q) (λ q. rw q)
 
 -- ---- the whole layout
 
--- the bss of what the last segment leaves is the image's
+-- the bss of what the last segment leaves is the program's
 pub last-bss : (before : Laid) (g : Segment) (gs : List Segment) → lastOf before (g ∷ gs) .bss ≡ bssOf (g ∷ gs)
 last-bss before g [] = refl
 last-bss before g (h ∷ gs) = last-bss (record { closed = g .perm is 3; bss = bssOf (g ∷ []) }) h gs

@@ -11,7 +11,7 @@ use borrow.Author.Tests.{lt-ltb, le-ltb}
 use Rattle.spec.proofs.Bools.{split}
 use Rattle.spec.specs.Tests.{_below_}
 use Rattle.spec.specs.Book.{zeroSegment}
-use Rattle.spec.specs.Elf.{Segment}
+use Rattle.spec.specs.Program.{Segment}
 use Rattle.spec.specs.Exec.{kept}
 use Rattle.spec.specs.declared.VirtRange.{VirtRange}
 use Rattle.spec.specs.declared.UserSegment.{UserSegment}
@@ -22,7 +22,7 @@ use Rattle.elf.proofs.Walk.{front}
 use Rattle.exec.specs.Pages.{pagesIn, pushed, recordedWith, recorded}
 use Rattle.exec.specs.declared.recorded.Recorded.{Recorded}
 
--- what one header adds
+-- what one place adds
 abbrev pub added : List ℕ → VirtRange → Load → List UserSegment
 added image bss l = kept bss (front image l [])
 

@@ -1,4 +1,4 @@
--- What the layout of an image comes to: whether its segments fit, and the bss behind them. The code goes header by header, so that
+-- What the layout of a program comes to: whether its segments fit, and the bss behind them. The code goes place by place, so that
 -- it is stated for one more segment and for all; `fits` is the specification's `layoutOk` with `bssOf`.
 -- Assumes nothing.
 use Prim.Native.Nat.{_+_}
@@ -8,7 +8,7 @@ use lib.ListN.{length}
 use Rattle.spec.specs.Tests.{_is_, _below_, _above_, _⇒_else_}
 use Rattle.spec.specs.Numbers.{limit, pageUp}
 use Rattle.spec.specs.Book.{range}
-use Rattle.spec.specs.Elf.{Segment}
+use Rattle.spec.specs.Program.{Segment}
 use Rattle.spec.specs.Exec.{layoutOk, bssOf}
 use Rattle.spec.specs.declared.Setup.{Setup}
 use Rattle.elf.specs.declared.Segment.{Segment as Held}

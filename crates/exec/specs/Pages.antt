@@ -1,4 +1,4 @@
--- The segments of a record that an image's pages make. The code goes header by header and fills an array, so that it is stated for
+-- The segments of a record that a program's pages make. The code goes place by place and fills an array, so that it is stated for
 -- one more segment and for all.
 -- Assumes nothing.
 use Prim.Native.Nat.{_+_, _-_}

@@ -6,27 +6,29 @@ use mathlib.Core.List.{List, _∷_, _++_}
 use lib.ListN.{length, replicate}
 use Rattle.spec.specs.Tests.{_isnt_, _⇒_else_}
 use Rattle.spec.specs.Book.{range, zeroSegment, stack, pageCount}
-use Rattle.spec.specs.Elf.{entry, elfError}
-use Rattle.spec.specs.Exec.{imageSegments, imageBss, imageError, startPieces}
+use Rattle.spec.specs.Program.{Program}
+use Rattle.spec.specs.Image.{readError, programOf}
+use Rattle.spec.specs.Exec.{programSegments, programBss, imageError, startPieces}
 use Rattle.spec.specs.declared.Setup.{Setup}
+use Rattle.spec.specs.declared.Form.{Form}
 use Rattle.exec.specs.declared.Plan.{Plan}
 
 -- a refusal answers zeros but for its numbers
 abbrev pub refusedPlan : ℕ → ℕ → Plan
-refusedPlan number elf = record { number = number; elf = elf; entry = 0; segments = replicate 16 zeroSegment; count = 0; bss = range 0 0; pages = 0 }
+refusedPlan number own = record { number = number; own = own; entry = 0; segments = replicate 16 zeroSegment; count = 0; bss = range 0 0; pages = 0 }
 
--- an accepted image answers its entry point, segments, bss and pages
-abbrev pub acceptedPlan : Setup → List ℕ → Plan
-acceptedPlan setup image = record {
+-- an accepted program answers its entry point, segments, bss and pages
+abbrev pub acceptedPlan : Setup → Program → Plan
+acceptedPlan setup p = record {
   number = 0;
-  elf = 0;
-  entry = entry image;
-  segments = imageSegments setup image ++ stack setup ∷ replicate (15 - length (imageSegments setup image)) zeroSegment;
-  count = length (imageSegments setup image);
-  bss = imageBss setup image;
-  pages = pageCount (startPieces setup image);
+  own = 0;
+  entry = p .entry;
+  segments = programSegments p ++ stack setup ∷ replicate (15 - length (programSegments p)) zeroSegment;
+  count = length (programSegments p);
+  bss = programBss p;
+  pages = pageCount (startPieces setup p);
 }
 
 -- what a start needs of an image
-unfoldable pub planOf : Setup → List ℕ → Plan
-planOf setup image = imageError setup image isnt 0 ⇒ refusedPlan (imageError setup image) (elfError (setup .flags) image) else acceptedPlan setup image
+unfoldable pub planOf : Setup → Form → List ℕ → Plan
+planOf setup form image = imageError setup form image isnt 0 ⇒ refusedPlan (imageError setup form image) (readError setup form image) else acceptedPlan setup (programOf setup form image)

@@ -2,12 +2,14 @@
 // follows data, and the bss is what the last segment leaves behind it. It is the second half of refusal 30.
 
 ghost use mathlib.Core.Path.{_≡_};
-ghost use Prim.Native.Nat.{_+_, _-_, _*_, _^_, _≤_, _<_};
-ghost use Rattle.spec.specs.Elf.{phoff, phnum, phdrAt, elfError, segmentsOf};
-ghost use Rattle.elf.specs.Reader.{loadOf};
+ghost use Prim.Native.Nat.{_+_, _-_, _^_, _≤_, _<_};
+ghost use Rattle.spec.specs.Numbers.{SetupOk};
+ghost use Rattle.spec.specs.Image.{readError, programOf};
+ghost use Rattle.image.specs.Places.{places, loadAt};
 ghost use Rattle.exec.specs.Fits.{fitOf, nothing, fits};
 use elf::Load;
 use elf::Segment;
+use spec::Form;
 use spec::Setup;
 use spec::VirtRange;
 
@@ -52,32 +54,31 @@ fn lay(setup: Setup, before: Laid, g: Segment) -> Fit
     })
 }
 
-// The layout with the segment of one more program header, if it has one.
-fn lay_header(setup: Setup, image: &[u8], i: usize, before: Laid) -> Fit
-    requires { ⌜ (elfError (setup .flags) (now image) ≡ 0) × (i < phnum (now image)) ⌝ }
-    ensures { λ r. ⌜ r ≡ fitOf setup before (loadOf (setup .flags) (phdrAt (now (image .entry)) (phoff (now (image .entry)) + 56 * i))) ⌝ }
+// The layout with the segment at one more place, if there is one.
+fn lay_at(setup: Setup, form: Form, image: &[u8], i: usize, before: Laid) -> Fit
+    requires { ⌜ (readError setup form (now image) ≡ 0) × (i < places form (now image)) × SetupOk setup ⌝ }
+    ensures { λ r. ⌜ r ≡ fitOf setup before (loadAt setup form (now (image .entry)) i) ⌝ }
 {
-    let flags = setup.flags;
-    let l = elf::segment_of(flags, image, i);
+    let l = image::segment_of(setup, form, image, i);
     match l {
         Load::Skip => Fit::Fits(before),
         Load::Segment(g) => lay(setup, before, g),
     }
 }
 
-// Checks that an accepted image fits the user address space, as text and rodata, then at most one data segment, which the bss follows.
-pub fn layout(setup: Setup, image: &[u8]) -> Fit
-    requires { ⌜ elfError (setup .flags) (now image) ≡ 0 ⌝ }
-    ensures { λ r. ⌜ r ≡ fits setup nothing (segmentsOf (setup .flags) (now (image .entry))) ⌝ }
+// Checks that an accepted image's program fits the user address space, as text and rodata, then at most one data segment, which the bss follows.
+pub fn layout(setup: Setup, form: Form, image: &[u8]) -> Fit
+    requires { ⌜ (readError setup form (now image) ≡ 0) × SetupOk setup ⌝ }
+    ensures { λ r. ⌜ r ≡ fits setup nothing (programOf setup form (now (image .entry)) .segments) ⌝ }
 {
     let mut seen = Laid {
         closed: false,
         bss: VirtRange { start: 0, end: 0 },
     };
-    let n = elf::count_of(image);
+    let n = image::count_of(setup, form, image);
     let mut k = 0;
     while k < n {
-        let f = lay_header(setup, image, k, seen);
+        let f = lay_at(setup, form, image, k, seen);
         k += 1;
         match f {
             Fit::Refused => {

@@ -3,12 +3,15 @@
 
 ghost use mathlib.Core.Path.{_≡_};
 ghost use Prim.Native.Nat.{_+_, _-_, _*_, _^_, _≤_, _<_};
-ghost use Rattle.spec.specs.Elf.{phoff, phnum, phdrAt, elfError, segmentsOf};
+ghost use Rattle.spec.specs.Numbers.{SetupOk};
+ghost use Rattle.spec.specs.Image.{readError, programOf};
 ghost use Rattle.spec.specs.Exec.{kept};
-ghost use Rattle.elf.specs.Reader.{loadOf};
+ghost use Rattle.image.specs.Places.{places, loadAt};
 ghost use Rattle.exec.specs.Pages.{pagesIn, pushed, recordedWith, recorded};
 use elf::Load;
 use elf::Segment;
+use spec::Form;
+use spec::Setup;
 use spec::UserSegment;
 use spec::VirtRange;
 
@@ -63,24 +66,31 @@ fn push(before: Recorded, u: UserSegment) -> Recorded
     }
 }
 
-// The recorded segments with that of one more program header, if it has one.
-fn push_header(flags: [u8; 8], image: &[u8], i: usize, bss: VirtRange, before: Recorded) -> Recorded
-    requires { ⌜ (elfError flags (now image) ≡ 0) × (i < phnum (now image)) ⌝ }
+// The recorded segments with that at one more place, if there is one.
+fn push_at(
+    setup: Setup,
+    form: Form,
+    image: &[u8],
+    i: usize,
+    bss: VirtRange,
+    before: Recorded,
+) -> Recorded
+    requires { ⌜ (readError setup form (now image) ≡ 0) × (i < places form (now image)) × SetupOk setup ⌝ }
     requires { ⌜ (bss .start ≤ 2 ^ 64 - 4096) × (before .count < 2 ^ 63) ⌝ }
-    ensures { λ r. ⌜ r ≡ recordedWith bss before (loadOf flags (phdrAt (now (image .entry)) (phoff (now (image .entry)) + 56 * i))) ⌝ }
+    ensures { λ r. ⌜ r ≡ recordedWith bss before (loadAt setup form (now (image .entry)) i) ⌝ }
 {
-    let l = elf::segment_of(flags, image, i);
+    let l = image::segment_of(setup, form, image, i);
     match l {
         Load::Skip => before,
         Load::Segment(g) => push(before, user_segment(bss, g)),
     }
 }
 
-// The segments that an accepted image's pages make under a flag table, given its bss, as Plan 9's TSEG and DSEG.
-pub fn segments(flags: [u8; 8], image: &[u8], bss: VirtRange) -> Recorded
-    requires { ⌜ elfError flags (now image) ≡ 0 ⌝ }
+// The segments that an accepted image's pages make, given its bss, as Plan 9's TSEG and DSEG.
+pub fn segments(setup: Setup, form: Form, image: &[u8], bss: VirtRange) -> Recorded
+    requires { ⌜ (readError setup form (now image) ≡ 0) × SetupOk setup ⌝ }
     requires { ⌜ bss .start ≤ 2 ^ 64 - 4096 ⌝ }
-    ensures { λ r. ⌜ r ≡ recorded (kept bss (segmentsOf flags (now (image .entry)))) ⌝ }
+    ensures { λ r. ⌜ r ≡ recorded (kept bss (programOf setup form (now (image .entry)) .segments)) ⌝ }
 {
     let zero = UserSegment {
         range: VirtRange { start: 0, end: 0 },
@@ -88,10 +98,10 @@ pub fn segments(flags: [u8; 8], image: &[u8], bss: VirtRange) -> Recorded
     };
     let segments = [zero; 16];
     let mut seen = Recorded { segments, count: 0 };
-    let n = elf::count_of(image);
+    let n = image::count_of(setup, form, image);
     let mut k = 0;
     while k < n {
-        seen = push_header(flags, image, k, bss, seen);
+        seen = push_at(setup, form, image, k, bss, seen);
         k += 1;
     }
     seen

@@ -7,11 +7,11 @@ use mathlib.Core.List.{List, [], _∷_}
 use lib.ListN.{length, getD}
 use Rattle.spec.specs.Tests.{_is_, within, _⇒_else_}
 use Rattle.spec.specs.Numbers.{pageUp, pageDown}
-use Rattle.spec.specs.Elf.{Segment, inFile}
+use Rattle.spec.specs.Program.{Segment, inFile}
 use Rattle.spec.specs.Exec.{fileByte, bssOf}
 use Rattle.spec.proofs.Bools.{split, within-means, within-not}
 use Rattle.pagealloc.specs.Contents.{fileAt}
-use Rattle.spec_laws.proofs.Headers.{Loads, AllLoad}
+use Rattle.spec_laws.proofs.Loads.{Loads, AllLoad}
 
 -- below all segments there is no file byte
 file-low : (e : ℕ) (gs : List Segment) → AllLoad e gs → (x : ℕ) → x < e → fileByte gs x ≡ 0

@@ -3,5 +3,5 @@ pub mod Installed
 pub mod Pushing
 pub mod FileBytes
 pub mod Segments
-pub mod Headers
+pub mod Places
 pub mod Whole

@@ -1,4 +1,4 @@
--- The pages that a start places are those of the image's segments, each with its own file bytes, then zero pages for bss and stack.
+-- The pages that a start places are those of the program's segments, each with its own file bytes, then zero pages for bss and stack.
 use Prim.Native.Nat.{ℕ, zero, suc, _+_, _*_, _-_, _/_, _≤_, _<_}
 use native.Mathlib.Omega.{arith}
 use mathlib.Core.Path.{_≡_, refl, sym, ap, ap₂, _∙_}
@@ -10,16 +10,16 @@ use Rattle.spec.specs.Tests.{_is_, _⇒_else_}
 use Rattle.spec.specs.Numbers.{pageUp, pageDown, bytesFrom, pageBytes, zeroPage, SetupOk}
 use Rattle.spec.specs.Book.{stack, bssSegment}
 use Rattle.spec.specs.Frames.{Page, pagesFrom, pagesOf}
-use Rattle.spec.specs.Elf.{Segment, segmentsOf}
-use Rattle.spec.specs.Exec.{layoutOk, userSegment, imageSegments, imageBss, imageError, startPieces, fileByte, kept}
+use Rattle.spec.specs.Program.{Segment, Program}
+use Rattle.spec.specs.Exec.{layoutOk, userSegment, programSegments, programBss, startPieces, fileByte, kept}
 use Rattle.spec.specs.declared.VirtRange.{VirtRange}
 use Rattle.spec.specs.declared.UserSegment.{UserSegment}
 use Rattle.spec.proofs.Bools.{split}
 use Rattle.spec.specs.declared.Setup.{Setup}
 use Rattle.spec_laws.proofs.Lists.{Each}
 use Rattle.spec_laws.proofs.Pages.{pages-append}
-use Rattle.spec_laws.proofs.Accepted.{accepted-means, nonEmpty, image-recorded, layout-first, no-data}
-use Rattle.spec_laws.proofs.Headers.{AllLoad, elf-loads}
+use Rattle.spec_laws.proofs.Accepted.{Accepted, nonEmpty, program-recorded, layout-first, no-data}
+use Rattle.spec_laws.proofs.Loads.{AllLoad}
 use Rattle.pagealloc.specs.Contents.{fileAt}
 use Rattle.exec_load.specs.Pages.{onePages, segmentPages}
 use Rattle.exec_load.proofs.FileBytes.{file-head, file-tail, file-high}
@@ -71,7 +71,7 @@ pages-kept f u us =
     (λ q. rw q (pages-append f (u ∷ []) us))
     (λ q. rw q (sym (ap (λ (l : List Page). l ++ pagesOf f us) (no-pages f u q))))
 
--- ---- an image's segments
+-- ---- a program's segments
 
 kept-above : (bss : VirtRange) (e : ℕ) (gs : List Segment) → AllLoad e gs → Each (λ u. e ≤ u .range .start) (kept bss gs)
 kept-above bss e [] l = tt
@@ -85,19 +85,19 @@ kept-above bss e (g ∷ gs) l =
     weaken [] b = tt
     weaken (u ∷ us) b = let o = l .0 .ordered in let x = b .0 in (omega arith, weaken us (b .1))
 
-image-pages : (setup : Setup) (bss : VirtRange) (e : ℕ) (gs : List Segment) → AllLoad e gs → layoutOk setup gs ≡ true → pagesOf (pageBytes (fileByte gs)) (kept bss gs) ≡ segmentPages bss gs
+program-pages : (setup : Setup) (bss : VirtRange) (e : ℕ) (gs : List Segment) → AllLoad e gs → layoutOk setup gs ≡ true → pagesOf (pageBytes (fileByte gs)) (kept bss gs) ≡ segmentPages bss gs
 unfolding segmentPages
-image-pages setup bss e [] l y = refl
-image-pages setup bss e (g ∷ []) l y =
+program-pages setup bss e [] l y = refl
+program-pages setup bss e (g ∷ []) l y =
     pages-kept (pageBytes (fileByte (g ∷ []))) (userSegment bss g) []
-image-pages setup bss e (g ∷ k ∷ gs) l y =
+program-pages setup bss e (g ∷ k ∷ gs) l y =
     let f : ℕ → List ℕ = pageBytes (fileByte (g ∷ k ∷ gs)) in
     let top : ℕ = pageUp (g .vaddr + g .memsz) in
     pages-kept f (userSegment bss g) (kept bss (k ∷ gs))
     ∙ ap₂ _++_ (own (no-data setup g k gs y))
     (pages-above f (pageBytes (fileByte (k ∷ gs))) top (kept bss (k ∷ gs)) (kept-above bss top (k ∷ gs) (l .1))
     (λ a h. page-same (fileByte (g ∷ k ∷ gs)) (fileByte (k ∷ gs)) a (λ x u v. file-tail e g (k ∷ gs) (l .0) x (omega arith)))
-    ∙ image-pages setup bss top (k ∷ gs) (l .1) (layout-first setup g (k ∷ gs) y .2))
+    ∙ program-pages setup bss top (k ∷ gs) (l .1) (layout-first setup g (k ∷ gs) y .2))
   where
     own : (g .perm is 3) ≡ false → pagesOf (pageBytes (fileByte (g ∷ k ∷ gs))) (userSegment bss g ∷ []) ≡ onePages bss g
     own q =
@@ -109,17 +109,16 @@ image-pages setup bss e (g ∷ k ∷ gs) l y =
 
 -- ---- the whole of a start
 
-pub start-pages : (setup : Setup) (ok : SetupOk setup) (image : List ℕ) → imageError setup image ≡ 0
-    → pagesOf (pageBytes (fileByte (segmentsOf (setup .flags) image))) (startPieces setup image)
-    ≡ segmentPages (imageBss setup image) (segmentsOf (setup .flags) image) ++ (pagesOf zeroPage (bssSegment (imageBss setup image) ∷ []) ++ pagesOf zeroPage (stack setup ∷ []))
-start-pages setup ok image z =
-    let a = accepted-means setup image z in
-    let l = elf-loads (setup .flags) image (ok .table) (a .elf) in
-    let f : ℕ → List ℕ = pageBytes (fileByte (segmentsOf (setup .flags) image)) in
-    let bound : ℕ = pageUp (imageBss setup image .start) in
-    let b = image-recorded setup ok image z .bss-ok in
-    pages-append f (imageSegments setup image) (bssSegment (imageBss setup image) ∷ stack setup ∷ [])
-    ∙ ap₂ _++_ (image-pages setup (imageBss setup image) 0 (segmentsOf (setup .flags) image) l (a .layout))
-    (pages-above f zeroPage bound (bssSegment (imageBss setup image) ∷ stack setup ∷ []) (omega arith, (omega (arith, b .order, b .aligned, b .low), tt))
-    (λ p h. page-same (fileByte (segmentsOf (setup .flags) image)) (λ x. 0) p (λ x u v. file-high 0 (segmentsOf (setup .flags) image) l x (omega arith)) ∙ page-zero p)
-    ∙ pages-append zeroPage (bssSegment (imageBss setup image) ∷ []) (stack setup ∷ []))
+pub start-pages : (setup : Setup) (ok : SetupOk setup) (p : Program) → Accepted setup p
+    → pagesOf (pageBytes (fileByte (p .segments))) (startPieces setup p)
+    ≡ segmentPages (programBss p) (p .segments) ++ (pagesOf zeroPage (bssSegment (programBss p) ∷ []) ++ pagesOf zeroPage (stack setup ∷ []))
+start-pages setup ok p a =
+    let l = a .read .loads in
+    let f : ℕ → List ℕ = pageBytes (fileByte (p .segments)) in
+    let bound : ℕ = pageUp (programBss p .start) in
+    let b = program-recorded setup ok p a .bss-ok in
+    pages-append f (programSegments p) (bssSegment (programBss p) ∷ stack setup ∷ [])
+    ∙ ap₂ _++_ (program-pages setup (programBss p) 0 (p .segments) l (a .layout))
+    (pages-above f zeroPage bound (bssSegment (programBss p) ∷ stack setup ∷ []) (omega arith, (omega (arith, b .order, b .aligned, b .low), tt))
+    (λ page h. page-same (fileByte (p .segments)) (λ x. 0) page (λ x u v. file-high 0 (p .segments) l x (omega arith)) ∙ page-zero page)
+    ∙ pages-append zeroPage (bssSegment (programBss p) ∷ []) (stack setup ∷ []))

@@ -6,7 +6,7 @@ use mathlib.Core.List.{List, [], _∷_, _++_}
 use lib.ListN.{take, drop}
 use Rattle.spec.specs.Numbers.{maxTop, pageBytes}
 use Rattle.spec.specs.Frames.{Page, pagesOf}
-use Rattle.spec.specs.Elf.{Segment}
+use Rattle.spec.specs.Program.{Segment}
 use Rattle.spec.specs.Exec.{userSegment}
 use Rattle.spec.specs.declared.VirtRange.{VirtRange}
 use Rattle.elf.specs.declared.Load.{Load}
@@ -22,7 +22,7 @@ unfoldable pub segmentPages : VirtRange → List Segment → List Page
 segmentPages bss [] = []
 segmentPages bss (g ∷ gs) = onePages bss g ++ segmentPages bss gs
 
--- the pages that one program header gives, and what its segment must keep to
+-- the pages that one place gives, and what its segment must keep to
 abbrev pub loadPages : List ℕ → VirtRange → Load → List Page
 loadPages image bss Skip = []
 loadPages image bss (Taken g) = pagesOf (pageBytes (fileAt (g .vaddr) (take (g .filesz) (drop (g .offset) image)))) (pagesIn bss g ∷ [])

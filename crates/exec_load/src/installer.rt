@@ -9,12 +9,13 @@ ghost use lib.ListN.{length};
 ghost use Rattle.spec.specs.Numbers.{SetupOk};
 ghost use Rattle.spec.specs.Book.{frameCount};
 ghost use Rattle.spec.specs.Frames.{store};
-ghost use Rattle.spec.specs.Elf.{entry};
+ghost use Rattle.spec.specs.Image.{programOf};
 ghost use Rattle.spec.specs.Exec.{registers};
 ghost use Rattle.spec.specs.World.{pushIn};
 ghost use Rattle.pagealloc.specs.Lent.{Mapped};
 ghost use Rattle.exec_load.specs.Installing.{Installable, Fitting, installed, recordOf};
 use exec::Plan;
+use spec::Form;
 use spec::Proc;
 use spec::Setup;
 use spec::UserRegs;
@@ -47,7 +48,7 @@ fn push_args(
     regs
 }
 
-// The record of an image by its plan, with the last element of `name`, as `set_text`.
+// The record of a program by its plan, with the last element of `name`, as `set_text`.
 pub fn record_of(plan: Plan, name: &[u8]) -> Proc
     ensures { λ r. ⌜ r ≡ recordOf plan (now (name .entry)) ⌝ }
 {
@@ -71,17 +72,18 @@ pub fn install(
     frames: &mut [u8],
     book: &mut [u64],
     number: u64,
+    form: Form,
     image: &[u8],
     plan: Plan,
     buf: &[u8],
     size: usize,
     nargs: usize,
 ) -> UserRegs
-    requires { ⌜ Installable setup (store (now frames) (now book)) number (now image) plan ⌝ }
+    requires { ⌜ Installable setup (store (now frames) (now book)) number form (now image) plan ⌝ }
     requires { ⌜ ((args : List (List ℕ)) × Fitting setup args (now buf) size nargs) ⌝ }
-    ensures { λ r. ⌜ ((args : List (List ℕ)) → Fitting setup args (now (buf .entry)) size nargs → (store (now (frames .exit)) (now (book .exit)) ≡ installed setup (store (now (frames .entry)) (now (book .entry))) number (now (image .entry)) args) × (r ≡ registers (entry (now (image .entry))) (setup .ustktop) args)) ⌝ }
+    ensures { λ r. ⌜ ((args : List (List ℕ)) → Fitting setup args (now (buf .entry)) size nargs → (store (now (frames .exit)) (now (book .exit)) ≡ installed setup (store (now (frames .entry)) (now (book .entry))) number (programOf setup form (now (image .entry))) args) × (r ≡ registers (programOf setup form (now (image .entry)) .entry) (setup .ustktop) args)) ⌝ }
 {
     let bss = plan.bss;
-    crate::loader::load(setup, frames, book, number, image, bss);
+    crate::loader::load(setup, frames, book, number, form, image, bss);
     push_args(setup, frames, book, number, plan.entry, buf, size, nargs)
 }

@@ -6,69 +6,69 @@ ghost use mathlib.Core.Path.{_≡_};
 ghost use mathlib.Core.Bool.{true};
 ghost use Prim.Native.Nat.{_+_, _*_, _-_, _≤_, _<_};
 ghost use lib.ListN.{length};
-ghost use Rattle.spec.specs.Flags.{flagsOk};
 ghost use Rattle.spec.specs.Numbers.{maxTop, SetupOk, pageBytes};
-ghost use Rattle.spec.specs.declared.Setup.{Setup};
 ghost use Rattle.spec.specs.Book.{frameCount};
 ghost use Rattle.spec.specs.Frames.{pagesOf, place, store};
-ghost use Rattle.spec.specs.Elf.{phoff, phnum, phdrAt, elfError, segmentsOf};
-ghost use Rattle.spec.specs.Exec.{layoutOk, imageBss, imageError, startPieces, fileByte};
-ghost use Rattle.elf.specs.Reader.{loadOf};
+ghost use Rattle.spec.specs.Image.{readError, programOf};
+ghost use Rattle.spec.specs.Exec.{layoutOk, programBss, imageError, startPieces, fileByte};
+ghost use Rattle.image.specs.Places.{places, loadAt};
 ghost use Rattle.pagealloc.specs.Lent.{Passed};
 ghost use Rattle.exec_load.specs.Pages.{segmentPages, loadPages, LaidLoad};
 use elf::Load;
+use spec::Form;
 use spec::Setup;
 use spec::VirtRange;
 
-// Places the pages of one program header's segment under a flag table, if it has one. Frames from `top` on are none free; the answer is the next such.
-fn load_header(
-    flags: [u8; 8],
+// Places the pages of the segment at one place of an image, if there is one. Frames from `top` on are none free; the answer is the next such.
+fn load_at(
+    setup: Setup,
     frames: &mut [u8],
     book: &mut [u64],
     top: usize,
     owner: u64,
+    form: Form,
     image: &[u8],
     i: usize,
     bss: VirtRange,
 ) -> usize
-    requires { ⌜ (length (now frames) ≡ 4096 * frameCount (now book)) × (1 ≤ owner) × (owner ≤ 16) × (elfError flags (now image) ≡ 0) × (i < phnum (now image)) × (bss .start ≤ maxTop) × (flagsOk flags ≡ true) ⌝ }
-    requires { ⌜ LaidLoad (loadOf flags (phdrAt (now image) (phoff (now image) + 56 * i))) ⌝ }
+    requires { ⌜ (length (now frames) ≡ 4096 * frameCount (now book)) × (1 ≤ owner) × (owner ≤ 16) × (readError setup form (now image) ≡ 0) × (i < places form (now image)) × (bss .start ≤ maxTop) × SetupOk setup ⌝ }
+    requires { ⌜ LaidLoad (loadAt setup form (now image) i) ⌝ }
     requires { ⌜ Passed top (now book) ⌝ }
-    ensures { λ _. ⌜ store (now (frames .exit)) (now (book .exit)) ≡ place (store (now (frames .entry)) (now (book .entry))) owner (loadPages (now (image .entry)) bss (loadOf flags (phdrAt (now (image .entry)) (phoff (now (image .entry)) + 56 * i)))) ⌝ }
+    ensures { λ _. ⌜ store (now (frames .exit)) (now (book .exit)) ≡ place (store (now (frames .entry)) (now (book .entry))) owner (loadPages (now (image .entry)) bss (loadAt setup form (now (image .entry)) i)) ⌝ }
     ensures { λ r. ⌜ Passed r (now (book .exit)) ⌝ }
 {
-    let l = elf::segment_of(flags, image, i);
+    let l = image::segment_of(setup, form, image, i);
     match l {
         Load::Skip => top,
         Load::Segment(g) => {
             let recorded = exec::user_segment(bss, g);
             let vaddr = g.vaddr;
-            let file = elf::file_of(flags, image, g);
+            let file = image::file_of(setup, form, image, g);
             pagealloc::place::load_segment(frames, book, top, owner, recorded, vaddr, file)
         }
     }
 }
 
-// Places the pages of an image's segments under a flag table, in table order.
+// Places the pages of an image's segments, in order.
 fn load_segments(
-    flags: [u8; 8],
+    setup: Setup,
     frames: &mut [u8],
     book: &mut [u64],
     owner: u64,
+    form: Form,
     image: &[u8],
     bss: VirtRange,
 ) -> usize
     requires { ⌜ (length (now frames) ≡ 4096 * frameCount (now book)) × (1 ≤ owner) × (owner ≤ 16) × (bss .start ≤ maxTop) ⌝ }
-    requires { ⌜ (elfError flags (now image) ≡ 0) × (flagsOk flags ≡ true) ⌝ }
-    requires { ⌜ ((setup : Setup) × SetupOk setup × (layoutOk setup (segmentsOf flags (now image)) ≡ true)) ⌝ }
-    ensures { λ _. ⌜ store (now (frames .exit)) (now (book .exit)) ≡ place (store (now (frames .entry)) (now (book .entry))) owner (segmentPages bss (segmentsOf flags (now (image .entry)))) ⌝ }
+    requires { ⌜ (readError setup form (now image) ≡ 0) × (layoutOk setup (programOf setup form (now image) .segments) ≡ true) × SetupOk setup ⌝ }
+    ensures { λ _. ⌜ store (now (frames .exit)) (now (book .exit)) ≡ place (store (now (frames .entry)) (now (book .entry))) owner (segmentPages bss (programOf setup form (now (image .entry)) .segments)) ⌝ }
     ensures { λ r. ⌜ Passed r (now (book .exit)) ⌝ }
 {
     let mut top = book.len() / 17;
-    let n = elf::count_of(image);
+    let n = image::count_of(setup, form, image);
     let mut i = 0;
     while i < n {
-        top = load_header(flags, frames, book, top, owner, image, i, bss);
+        top = load_at(setup, frames, book, top, owner, form, image, i, bss);
         i += 1;
     }
     top
@@ -80,19 +80,19 @@ pub fn load(
     frames: &mut [u8],
     book: &mut [u64],
     owner: u64,
+    form: Form,
     image: &[u8],
     bss: VirtRange,
 )
-    requires { ⌜ (length (now frames) ≡ 4096 * frameCount (now book)) × (1 ≤ owner) × (owner ≤ 16) × (imageError setup (now image) ≡ 0) × (bss ≡ imageBss setup (now image)) × SetupOk setup ⌝ }
-    ensures { λ _. ⌜ store (now (frames .exit)) (now (book .exit)) ≡ place (store (now (frames .entry)) (now (book .entry))) owner (pagesOf (pageBytes (fileByte (segmentsOf (setup .flags) (now (image .entry))))) (startPieces setup (now (image .entry)))) ⌝ }
+    requires { ⌜ (length (now frames) ≡ 4096 * frameCount (now book)) × (1 ≤ owner) × (owner ≤ 16) × (imageError setup form (now image) ≡ 0) × (bss ≡ programBss (programOf setup form (now image))) × SetupOk setup ⌝ }
+    ensures { λ _. ⌜ store (now (frames .exit)) (now (book .exit)) ≡ place (store (now (frames .entry)) (now (book .entry))) owner (pagesOf (pageBytes (fileByte (programOf setup form (now (image .entry)) .segments))) (startPieces setup (programOf setup form (now (image .entry))))) ⌝ }
 {
-    let flags = setup.flags;
     let ustktop = setup.ustktop;
     let stack = VirtRange {
         start: ustktop - setup.ustksize,
         end: ustktop,
     };
-    let top = load_segments(flags, frames, book, owner, image, bss);
+    let top = load_segments(setup, frames, book, owner, form, image, bss);
     let start = mem::page_up(bss.start);
     let end = bss.end;
     let next = pagealloc::place::map_zeroed(frames, book, top, owner, VirtRange { start, end });

@@ -152,7 +152,7 @@ module _ {M : Type 1} (𝓤 : URA M) (H : Heap 𝓤) (Z : Setting 𝓤 H) (n : �
   abbrev reference : Fml
   reference = MutRef (named 2) (κs .1 .1 .0) P.the-row .own (a .1 .1 .1 .0) (ptr-vals (a .1 .1 .1 .0))
 
-  abbrev opened : Opening 𝓤
+  abbrev pub opened : Opening 𝓤
   opened =
       opening 𝓤 H Z n ps κs qs a (MutSlice (named 0) (κs .0) u8 .own (a .1 .0) (slice-vals (a .1 .0))) (MutSlice (named 1) (κs .1 .0) u64 .own (a .1 .1 .0) (slice-vals (a .1 .1 .0))) reference
 
@@ -162,7 +162,7 @@ module _ {M : Type 1} (𝓤 : URA M) (H : Heap 𝓤) (Z : Setting 𝓤 H) (n : �
   abbrev last-of : RefT (List ℕ) → (List ℕ → Fml) → List ℕ → Fml
   last-of r finals ys = fsep (finals ys) (feq ℕ (length ys) (length (r .now)))
 
-  abbrev said-with : List ℕ → List ℕ → Fml → Xs → Fml
+  abbrev pub said-with : List ℕ → List ℕ → Fml → Xs → Fml
   said-with fs bs P xs =
       fsep ftrue
       (fsep (last-of xf (finally u8 (xf .name)) fs) (fsep (last-of xb (finally u64 (xb .name)) bs) (fsep P (lastsOf κs (slots ps) (all yes (slots ps)) (a .1 .1 .1 .1) xs))))
@@ -170,19 +170,19 @@ module _ {M : Type 1} (𝓤 : URA M) (H : Heap 𝓤) (Z : Setting 𝓤 H) (n : �
   -- the call, and its lent buffer afterwards
   module _ (c : Call) (buffer : Xs → List ℕ) where
     -- what the call gives: its result, and at some last values what it did
-    abbrev Ws : Type 0
+    abbrev pub Ws : Type 0
     Ws = Unit {0} × (List ℕ × (List ℕ × (Unit {0} × Xs)))
 
-    abbrev Did : Ws → Left → Type 0
+    abbrev pub Did : Ws → Left → Type 0
     Did ws r = Does s c (stateOf (a .0) (ws .1 .0) (ws .1 .1 .0) (r .procs)) (record { says = r .answer; buffer = buffer (ws .1 .1 .1 .1) })
 
-    abbrev Rest : Left → SProp 𝓤
+    abbrev pub Rest : Left → SProp 𝓤
     Rest r = ex 𝓤 (λ (ws : Ws). sep 𝓤 (means (said-with (ws .1 .0) (ws .1 .1 .0) ftrue (ws .1 .1 .1 .1))) (fact 𝓤 (Did ws r)))
 
-    abbrev result : Val → Left → Fml
+    abbrev pub result : Val → Left → Fml
     result v r = L.the-row .own r (v ∷ [])
 
-    abbrev Gives : Val → SProp 𝓤
+    abbrev pub Gives : Val → SProp 𝓤
     Gives v = H .⇛ (ex 𝓤 (λ (r : Left). sep 𝓤 (sep 𝓤 Tokens (means (result v r))) (Rest r)))
 
     -- what the exported function gives: the same, with the records' last value and the answer told

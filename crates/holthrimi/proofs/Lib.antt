@@ -5,4 +5,5 @@ pub mod Params
 pub mod Telling
 pub mod Opening
 pub mod Kept
+pub mod Formed
 pub mod Looked

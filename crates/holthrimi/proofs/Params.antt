@@ -2,12 +2,13 @@
 -- and that the value is of the type.
 -- Assumes nothing.
 use Prim.Native.Nat.{ℕ}
+use native.Mathlib.Omega.{arith}
 use mathlib.Core.Path.{sym, subst}
 use mathlib.Core.Bool.{true}
 use mathlib.Core.List.{List, [], _∷_}
 use lib.Dec.{T}
 use lib.ListN.{length}
-use mir.Syntax.{w64, tyArray}
+use mir.Syntax.{w32, w64, tyArray}
 use mir.Val.{Val, vint, vbool, vptr, WT, hasTy}
 use prog.Align.{both}
 use contract.Lifetimes.{Lfts, Within}
@@ -17,15 +18,20 @@ use denote.Laws.{Is, Ises, Are, Tells, Tellss, Spells, Typed, valss}
 use denote.Signature.{Slot, plain, nameOf, meetAt, typesAt}
 use denote.Array.{array-typed}
 use denote.Plain.{uint-tells, bool-tells}
-use denote.Builtin.{u8, u64, bool, Ref, RefMut, SliceRef, SliceRefMut}
+use denote.Builtin.{u8, u32, u64, bool, Ref, RefMut, SliceRef, SliceRefMut}
 use denote.Ref.{mut-tells, shr-tells}
 use denote.Slice.{sliceVal, mut-slice-tells, shr-slice-tells}
 use denote.Struct.Laws as LL
+use denote.Enum.Laws as EL
 use Rattle.spec.proofs.Procs as P
 use Rattle.spec.proofs.UserSegment as G
 use Rattle.spec.specs.declared.Setup.{Setup}
 use Rattle.spec.proofs.Setup as S
 use Rattle.spec.proofs.Setup.Laws as S′
+use Rattle.spec.specs.declared.Form.{Form}
+use Rattle.spec.specs.declared.Form.the-variants.{Elf, Aout}
+use Rattle.spec.proofs.Form as F
+use Rattle.spec.proofs.Form.Laws as F′
 
 pub record Par (n : ℕ) : Type 2 where
   pub slot : Slot n
@@ -49,8 +55,16 @@ setup-typed x is =
     let t = array-typed u8 byte-typed 8 table (v ∷ []) (o .1 .1 .1 .1 .0) .0 in
     (both (hasTy (tyArray (lone (u8 .mir)) 8) v) true (t .0) tt, (record { fits = o .0 .1 }, (record { fits = o .1 .0 .1 }, (record { fits = o .1 .1 .0 .1 }, (record { fits = o .1 .1 .1 .0 .1 }, (t .1, tt))))))
 
+-- and of a form
+abbrev pub of-form : Form → Val
+of-form x = EL.val F.the-type F′.the-laws x
+
+pub form-typed : (x : Form) → Is F.the-row x (of-form x ∷ []) → T (hasTy (lone (F.the-row .mir)) (of-form x)) × WT (of-form x)
+form-typed Elf is = (tt, (record { fits = omega arith }, tt))
+form-typed (Aout m) is = (tt, (record { fits = omega arith }, (record { fits = EL.owed F.the-type F′.the-laws (Aout m) _ is .0 .1 }, tt)))
+
 module _ {n : ℕ} where
-  -- a number, and a bool
+  -- a number, one of 32 bits, and a bool
   abbrev pub number : Par n
   number = record {
     slot = plain (λ _. u64);
@@ -59,8 +73,25 @@ module _ {n : ℕ} where
     typed = λ κs x is. (tt, record { fits = is .1 });
   }
 
+  abbrev pub magic : Par n
+  magic = record {
+    slot = plain (λ _. u32);
+    val = λ κs x. vint w32 x;
+    tells = λ κs. uint-tells w32;
+    typed = λ κs x is. (tt, record { fits = is .1 });
+  }
+
   abbrev pub flag : Par n
   flag = record { slot = plain (λ _. bool); val = λ κs x. vbool x; tells = λ κs. bool-tells; typed = λ κs x is. (tt, tt) }
+
+  -- the form of an image; no exported function has it
+  abbrev pub form : Par n
+  form = record {
+    slot = plain (λ _. F.the-row);
+    val = λ κs x. of-form x;
+    tells = λ κs. EL.tells F.the-type F′.the-laws;
+    typed = λ κs x is. form-typed x is;
+  }
 
   -- the setup, by value
   abbrev pub setup : Par n

@@ -1,6 +1,7 @@
--- What the exported functions that are no calls answer. C has no options, so that an optional bss is a mark and a range. Those that
--- are handed a setup judge it, 38 and 39, after their own 1 (02, 5/13 and 7/13); beyond that they answer what the specification's
--- `ibrk`, `argsError` and the plan say.
+-- What the exported functions that are no calls answer. C has neither options nor an enum that holds a number, so that an optional bss
+-- is a mark and a range, and the form of an image a mark and a magic, in the calls too (02, 9/13). Those that are handed a setup judge
+-- it, 38 and 39, after their own 1 (02, 5/13 and 7/13); beyond that they answer what the specification's `ibrk`, `argsError`,
+-- `readError` and the plan say.
 -- Assumes nothing.
 use Prim.Native.Nat.{ℕ, _+_, _*_}
 use mathlib.Core.Bool.{Bool, not}
@@ -8,20 +9,25 @@ use mathlib.Core.List.{List}
 use mathlib.Core.Option.{Option, none, some}
 use lib.ListN.{length}
 use Rattle.spec.specs.Tests.{_isnt_, within, _⇒_else_, _orElse_, sum}
-use Rattle.spec.specs.Flags.{flagsOk}
 use Rattle.spec.specs.Numbers.{maxFrames, setupError}
 use Rattle.spec.specs.Book.{range}
 use Rattle.spec.specs.Frames.{sized}
-use Rattle.spec.specs.Elf.{elfError}
+use Rattle.spec.specs.Image.{readError}
 use Rattle.spec.specs.Exec.{argsOf, argsError}
 use Rattle.spec.specs.Segment.{Break, ibrk}
 use Rattle.spec.specs.World.{State, sound}
 use Rattle.spec.specs.declared.Setup.{Setup}
+use Rattle.spec.specs.declared.Form.{Form}
+use Rattle.spec.specs.declared.Form.the-variants.{Elf, Aout}
 use Rattle.spec.specs.declared.VirtRange.{VirtRange}
 use Rattle.exec.specs.Plan.{refusedPlan, planOf}
 use Rattle.exec.specs.declared.Plan.{Plan}
 use Rattle.holthrimi.specs.declared.rules.Rule.{Rule}
 use Rattle.holthrimi.specs.declared.rules.Planned.{Planned}
+
+-- the form of an image, as a mark and the magic that an a.out is to have
+abbrev pub formOf : Bool → ℕ → Form
+formOf aout magic = aout ⇒ Aout magic else Elf
 
 -- an optional bss, as a mark and a range
 abbrev pub bssOf : Bool → VirtRange → Option VirtRange
@@ -47,17 +53,17 @@ argsIn setup bytes lengths =
     setupError setup orElse
     argsError setup (argsOf bytes lengths)
 
--- the ELF reader's number under a flag table, or 39 for one that is refused
-abbrev pub parseIn : List ℕ → List ℕ → ℕ
-parseIn flags image = not (flagsOk flags) ⇒ 39 else elfError flags image
+-- the number of the form's reader under a setup, or 38 or 39 for a setup that is not accepted; or 0
+abbrev pub parseIn : Setup → Form → List ℕ → ℕ
+parseIn setup form image = setupError setup orElse readError setup form image
 
 -- the plan of an image under a setup, or 38 or 39 for a setup that is not accepted
-abbrev pub planIn : Setup → List ℕ → Plan
-planIn setup image = setupError setup isnt 0 ⇒ refusedPlan (setupError setup) 0 else planOf setup image
+abbrev pub planIn : Setup → Form → List ℕ → Plan
+planIn setup form image = setupError setup isnt 0 ⇒ refusedPlan (setupError setup) 0 else planOf setup form image
 
 -- a plan, field by field
 abbrev pub plannedOf : Plan → Planned
-plannedOf p = record { number = p .number; elf = p .elf; entry = p .entry; segments = p .segments; count = p .count; bss = p .bss; pages = p .pages }
+plannedOf p = record { number = p .number; own = p .own; entry = p .entry; segments = p .segments; count = p .count; bss = p .bss; pages = p .pages }
 
 -- 02, 10/13: the words of the book of so many frames, seventeen a frame; 0 for a number of frames that no call takes
 abbrev pub bookWords : ℕ → ℕ

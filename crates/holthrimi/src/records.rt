@@ -1,11 +1,12 @@
 // The calls that change frames, book or records. Each copies the records from behind their reference, makes the call of its name in
-// that call's own crate (`call_start::start`; the copies in access) with the other arguments as they are, puts back the records that it
-// leaves, and tells its answer.
+// that call's own crate (`call_start::start`; the copies in access) with the other arguments as they are, but for an image's form, puts
+// back the records that it leaves, and tells its answer.
 
 ghost use mathlib.Core.List.{[]};
 ghost use Rattle.spec.specs.Book.{used, procAt};
 ghost use Rattle.spec.specs.Machine.{start, replace, push, break, fork, end, copy-from-user, copy-to-user, call};
 ghost use Rattle.spec.specs.World.{stateOf};
+ghost use Rattle.holthrimi.specs.Rules.{formOf};
 ghost use Rattle.holthrimi.specs.Tells.{Tells};
 use crate::told::Told;
 use spec::Procs;
@@ -19,20 +20,24 @@ pub extern "C" fn holthrimi_start(
     book: &mut [u64],
     procs: &mut Procs,
     number: u64,
+    aout: bool,
+    magic: u32,
     image: &[u8],
     name: &[u8],
     bytes: &[u8],
     lengths: &[u64],
 ) -> Told
-    ensures { λ r. ⌜ Tells (stateOf setup (now (frames .entry)) (now (book .entry)) (now (procs .entry))) (call number (start (now (image .entry)) (now (name .entry)) (now (bytes .entry)) (now (lengths .entry)))) (stateOf setup (now (frames .exit)) (now (book .exit)) (now (procs .exit))) r [] ⌝ }
+    ensures { λ r. ⌜ Tells (stateOf setup (now (frames .entry)) (now (book .entry)) (now (procs .entry))) (call number (start (formOf aout magic) (now (image .entry)) (now (name .entry)) (now (bytes .entry)) (now (lengths .entry)))) (stateOf setup (now (frames .exit)) (now (book .exit)) (now (procs .exit))) r [] ⌝ }
 {
     let before = *procs;
+    let form = crate::form::form_of(aout, magic);
     let left = call_start::start(
         setup,
         frames,
         book,
         before,
         number,
+        form,
         image,
         name,
         bytes,
@@ -49,14 +54,17 @@ pub extern "C" fn holthrimi_replace(
     book: &mut [u64],
     procs: &mut Procs,
     number: u64,
+    aout: bool,
+    magic: u32,
     image: &[u8],
     name: &[u8],
     argv: u64,
 ) -> Told
-    ensures { λ r. ⌜ Tells (stateOf setup (now (frames .entry)) (now (book .entry)) (now (procs .entry))) (call number (replace (now (image .entry)) (now (name .entry)) argv)) (stateOf setup (now (frames .exit)) (now (book .exit)) (now (procs .exit))) r [] ⌝ }
+    ensures { λ r. ⌜ Tells (stateOf setup (now (frames .entry)) (now (book .entry)) (now (procs .entry))) (call number (replace (formOf aout magic) (now (image .entry)) (now (name .entry)) argv)) (stateOf setup (now (frames .exit)) (now (book .exit)) (now (procs .exit))) r [] ⌝ }
 {
     let before = *procs;
-    let left = call_replace::replace(setup, frames, book, before, number, image, name, argv);
+    let form = crate::form::form_of(aout, magic);
+    let left = call_replace::replace(setup, frames, book, before, number, form, image, name, argv);
     *procs = left.procs;
     crate::told::tell(left.answer)
 }

@@ -3,8 +3,6 @@
 ghost use mathlib.Core.Path.{_≡_};
 ghost use lib.ListN.{length};
 ghost use Rattle.spec.specs.Book.{range};
-ghost use Rattle.spec.specs.Flags.{builtIn};
-ghost use Rattle.spec.specs.Elf.{elfError};
 ghost use Rattle.spec.specs.Exec.{stackSize};
 ghost use Rattle.spec.specs.Name.{kstrcpy};
 ghost use Rattle.spec.specs.SetupText.{readSetup};
@@ -17,12 +15,13 @@ ghost use Rattle.setup.specs.Text.{setupIn};
 ghost use Rattle.setup_flags.specs.Rows.{told as toldFlags};
 ghost use Rattle.setup_flags.specs.Texts.{flagsIn};
 ghost use Rattle.exec_args.specs.Sizes.{saturated};
-ghost use Rattle.holthrimi.specs.Rules.{bssOf, ruleOf, ibrkIn, argsIn, planIn, plannedOf, parseIn, bookWords, bookError};
+ghost use Rattle.holthrimi.specs.Rules.{formOf, bssOf, ruleOf, ibrkIn, argsIn, planIn, plannedOf, parseIn, bookWords, bookError};
 use exec::Plan;
 use segment::Break;
 use segment::Bss;
 use setup::SetupRead;
 use setup_flags::FlagsRead;
+use spec::Form;
 use spec::Procs;
 use spec::Setup;
 use spec::UserSegment;
@@ -36,13 +35,13 @@ pub struct Rule {
     pub bss: VirtRange,
 }
 
-// What a start needs of an image: the number that it is refused with, 38 or 39 for its setup, 30 or 31, or 0, and with 30 the image's
-// own number, 11 to 27, or 0 for the layout; its entry point; its record's segments, `count` of the image, then the stack; its bss;
-// and the pages that it takes with the stack. A refused image's are zeros.
+// What a start needs of an image: the number that it is refused with, 38 or 39 for its setup, 30 or 31, or 0, and with 30 the number of
+// its form's reader, 11 to 27 for an ELF, 42, 43, 19 or 27 for an a.out, or 0 for the layout; its entry point; its record's segments,
+// `count` of the image, then the stack; its bss; and the pages that it takes with the stack. A refused image's are zeros.
 #[repr(C)]
 pub struct Planned {
     pub number: u64,
-    pub elf: u64,
+    pub own: u64,
     pub entry: u64,
     pub segments: [UserSegment; 16],
     pub count: usize,
@@ -171,29 +170,22 @@ pub extern "C" fn holthrimi_kstrcpy(dst: &mut [u8; 28], src: &[u8])
     kstr::kstrcpy(dst, src);
 }
 
-// The number that the ELF reader refuses an image with under the built-in flag table, 11 to 27, or 0.
+// The number that the reader of its form refuses an image with, or 38 or 39 for a setup that is not accepted; or 0.
 #[no_mangle]
-pub extern "C" fn holthrimi_parse(image: &[u8]) -> u64
-    ensures { λ r. ⌜ r ≡ elfError builtIn (now (image .entry)) ⌝ }
+pub extern "C" fn holthrimi_parse(setup: Setup, aout: bool, magic: u32, image: &[u8]) -> u64
+    ensures { λ r. ⌜ r ≡ parseIn setup (formOf aout magic) (now (image .entry)) ⌝ }
 {
-    elf::number_of(setup::BUILT_IN, image)
-}
-
-// The same under a flag table of one's own, or 39 for one that is refused.
-#[no_mangle]
-pub extern "C" fn holthrimi_parse_with(flags: &[u8; 8], image: &[u8]) -> u64
-    ensures { λ r. ⌜ r ≡ parseIn (now (flags .entry)) (now (image .entry)) ⌝ }
-{
-    let table = *flags;
-    if !setup::flags_ok(table) {
-        return spec::FLAGS;
+    let e = setup::setup_error(setup);
+    if e != 0 {
+        return e;
     }
-    elf::number_of(table, image)
+    let form = crate::form::form_of(aout, magic);
+    image::number_of(setup, form, image)
 }
 
 // The plan of an image, or 38 or 39 for a setup that is not accepted.
-fn plan_in(setup: Setup, image: &[u8]) -> Plan
-    ensures { λ r. ⌜ r ≡ planIn setup (now (image .entry)) ⌝ }
+fn plan_in(setup: Setup, form: Form, image: &[u8]) -> Plan
+    ensures { λ r. ⌜ r ≡ planIn setup form (now (image .entry)) ⌝ }
 {
     let e = setup::setup_error(setup);
     if e != 0 {
@@ -204,7 +196,7 @@ fn plan_in(setup: Setup, image: &[u8]) -> Plan
         let segments = [zero; 16];
         return Plan {
             number: e,
-            elf: 0,
+            own: 0,
             entry: 0,
             segments,
             count: 0,
@@ -212,19 +204,20 @@ fn plan_in(setup: Setup, image: &[u8]) -> Plan
             pages: 0,
         };
     }
-    exec::plan_of(setup, image)
+    exec::plan_of(setup, form, image)
 }
 
 #[no_mangle]
-pub extern "C" fn holthrimi_plan(setup: Setup, image: &[u8]) -> Planned
-    ensures { λ r. ⌜ r ≡ plannedOf (planIn setup (now (image .entry))) ⌝ }
+pub extern "C" fn holthrimi_plan(setup: Setup, aout: bool, magic: u32, image: &[u8]) -> Planned
+    ensures { λ r. ⌜ r ≡ plannedOf (planIn setup (formOf aout magic) (now (image .entry))) ⌝ }
 {
-    let p = plan_in(setup, image);
+    let form = crate::form::form_of(aout, magic);
+    let p = plan_in(setup, form, image);
     let segments = p.segments;
     let bss = p.bss;
     Planned {
         number: p.number,
-        elf: p.elf,
+        own: p.own,
         entry: p.entry,
         segments,
         count: p.count,

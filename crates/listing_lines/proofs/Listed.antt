@@ -12,12 +12,15 @@ use Rattle.spec.specs.Tests.{_isnt_, _above_, _⇒_else_, ascii}
 use Rattle.spec.specs.Flags.{builtIn}
 use Rattle.spec.specs.Numbers.{deposit}
 use Rattle.spec.specs.Book.{zeroSegment, stack, pageCount}
-use Rattle.spec.specs.Elf.{entry, elfError}
-use Rattle.spec.specs.Exec.{imageError, imageSegments, imageBss, startPieces}
-use Rattle.spec.specs.Listing.{listError, decimal, segmentLines, rangeText, listing}
+use Rattle.spec.specs.Program.{Program}
+use Rattle.spec.specs.Elf.{elfError, elfProgram}
+use Rattle.spec.specs.Exec.{imageError, programSegments, programBss, startPieces}
+use Rattle.spec.specs.Listing.{listError, decimal, segmentLines, rangeText, programText, listing}
 use Rattle.spec.specs.declared.UserSegment.{UserSegment}
+use Rattle.spec.specs.declared.Form.the-variants.{Elf}
+use Rattle.spec.proofs.Setups.{deposit-ok}
 use Rattle.exec.specs.declared.Plan.{Plan}
-use Rattle.exec.specs.Plan.{planOf}
+use Rattle.exec.specs.Plan.{acceptedPlan, planOf}
 use Rattle.exec.proofs.Planned.{plan-accepted}
 use Rattle.text.specs.Text.{numberText, fieldText}
 use Rattle.listing_lines.specs.Lines.{spanText, linesText}
@@ -34,7 +37,7 @@ module _ (image : List ℕ) where
   unfolding listError
   error-elf h n = rw (le-ltb 32768 (length image) h, ne-eqb (elfError builtIn image) 0 n)
 
-  pub error-image : length image ≤ 32768 → elfError builtIn image ≡ 0 → imageError deposit image ≡ listError image
+  pub error-image : length image ≤ 32768 → elfError builtIn image ≡ 0 → imageError deposit Elf image ≡ listError image
   unfolding listError
   error-image h e = rw (le-ltb 32768 (length image) h, eq-eqb (elfError builtIn image) 0 e)
 
@@ -58,19 +61,19 @@ otherwise : (t : Bool) (x y : List ℕ) → t ≡ false → (t ⇒ x else y) ≡
 otherwise true x y e = let z : _≡_ {A = Bool} true false = e in cc
 otherwise false x y e = refl
 
-accepted-lines : (image : List ℕ) → 0 ≡ listError image → listing image ≡ lines (decimal (entry image)) (segmentLines (imageSegments deposit image)) (rangeText (imageBss deposit image)) (decimal (pageCount (startPieces deposit image)))
+accepted-text : (image : List ℕ) → 0 ≡ listError image → listing image ≡ programText (elfProgram builtIn image)
 unfolding listing
-accepted-lines image z = otherwise (listError image isnt 0) _ _ (ap (λ (n : ℕ). n isnt 0) (sym z))
+accepted-text image z = otherwise (listError image isnt 0) _ _ (ap (λ (n : ℕ). n isnt 0) (sym z))
 
-shut : (image : List ℕ) → lines (numberText (entry image)) (linesText (imageSegments deposit image)) (spanText (imageBss deposit image)) (numberText (pageCount (startPieces deposit image)))
-    ≡ lines (decimal (entry image)) (segmentLines (imageSegments deposit image)) (rangeText (imageBss deposit image)) (decimal (pageCount (startPieces deposit image)))
+shut : (p : Program) → lines (numberText (p .entry)) (linesText (programSegments p)) (spanText (programBss p)) (numberText (pageCount (startPieces deposit p))) ≡ programText p
 unfolding numberText linesText spanText
-shut image = refl
+shut p = refl
 
-pub plan-text : (image : List ℕ) → 0 ≡ listError image → imageError deposit image ≡ 0 → planText (planOf deposit image) ≡ listing image
-plan-text image z e =
-    let us = imageSegments deposit image in
-    ap planText (plan-accepted deposit image e)
-    ∙ ap (λ (vs : List UserSegment). fieldText (ascii "entry=") (entry image) ++ linesText vs ++ ascii "bss=" ++ spanText (imageBss deposit image) ++ fieldText (ascii "pages=") (pageCount (startPieces deposit image))) (take-append-seam us (stack deposit ∷ replicate (15 - length us) zeroSegment))
-    ∙ as-put (numberText (entry image)) (linesText us) (spanText (imageBss deposit image)) (numberText (pageCount (startPieces deposit image)))
-    ∙ shut image ∙ sym (accepted-lines image z)
+accepted-plan : (p : Program) → planText (acceptedPlan deposit p) ≡ programText p
+accepted-plan p =
+    let us = programSegments p in
+    ap (λ (vs : List UserSegment). fieldText (ascii "entry=") (p .entry) ++ linesText vs ++ ascii "bss=" ++ spanText (programBss p) ++ fieldText (ascii "pages=") (pageCount (startPieces deposit p))) (take-append-seam us (stack deposit ∷ replicate (15 - length us) zeroSegment))
+    ∙ as-put (numberText (p .entry)) (linesText us) (spanText (programBss p)) (numberText (pageCount (startPieces deposit p))) ∙ shut p
+
+pub plan-text : (image : List ℕ) → 0 ≡ listError image → imageError deposit Elf image ≡ 0 → planText (planOf deposit Elf image) ≡ listing image
+plan-text image z e = ap planText (plan-accepted deposit Elf image deposit-ok e) ∙ accepted-plan (elfProgram builtIn image) ∙ sym (accepted-text image z)

@@ -10,6 +10,7 @@ ghost use Rattle.spec.specs.Listing.{listing};
 ghost use Rattle.text.specs.Text.{Puts};
 ghost use Rattle.listing_lines.specs.Plan.{planText, listingIn};
 use exec::Plan;
+use spec::Form;
 use text::put;
 use text::put_field;
 
@@ -30,7 +31,7 @@ fn put_plan(out: &mut [u8], p: Plan) -> usize
     put_field(out, d, b"pages=", p.pages)
 }
 
-// Puts the whole listing of an image, as the listing program prints it: a refusal's number, or its entry point, segments, bss and pages,
+// Puts the whole listing of an ELF image, as the listing program prints it: a refusal's number, or its entry point, segments, bss and pages,
 // by the deposit machine's numbers and the built-in flag table. Images of over 32,768 bytes aren't listed.
 fn put_listing(image: &[u8], out: &mut [u8]) -> usize
     requires { ⌜ 1024 ≤ length (now out) ⌝ }
@@ -39,9 +40,9 @@ fn put_listing(image: &[u8], out: &mut [u8]) -> usize
     if image.len() > 32768 {
         return put_field(out, 0, b"refused=", spec::SIZES);
     }
-    let p = exec::plan_of(setup::deposit(), image);
-    if p.elf != 0 {
-        return put_field(out, 0, b"refused=", p.elf);
+    let p = exec::plan_of(setup::deposit(), Form::Elf, image);
+    if p.own != 0 {
+        return put_field(out, 0, b"refused=", p.own);
     }
     if p.number != 0 {
         return put_field(out, 0, b"refused=", p.number);

@@ -2,15 +2,14 @@
 use Prim.Native.Nat.{ℕ, suc, _+_, _*_, _-_, _^_, _≤_, _<_}
 use native.Mathlib.Omega.{arith}
 use native.Mathlib.Numerals.{add-one}
-use mathlib.Core.Path.{_≡_, refl, sym, ap}
-use mathlib.Core.Bool.{true, false}
+use mathlib.Core.Path.{_≡_, refl}
+use mathlib.Core.Bool.{true}
 use mathlib.Core.List.{List, [], _∷_}
 use lib.ListN.{length, getD, drop, drop-of-length-le}
 use lib.Seq.{drop-cons}
-use borrow.Author.Tests.{eqb-true, eq-eqb, ne-eqb, lt-ltb, le-ltb}
-use Rattle.spec.specs.Tests.{_is_, within, same}
-use Rattle.spec.proofs.Bools.{split, within-test, within-not}
-use Rattle.spec.proofs.Lists.{same-means}
+use borrow.Author.Tests.{eq-eqb, ne-eqb, lt-ltb, le-ltb}
+use Rattle.spec.specs.Tests.{within}
+use Rattle.spec.proofs.Bools.{within-test, within-not}
 use Rattle.replay_buffers.specs.declared.words.Number.the-variants.{Is, Bad}
 use Rattle.replay_buffers.specs.Words.{before, spacesIn, numberFrom, numberOf}
 
@@ -66,18 +65,3 @@ number-none (x ∷ s) h = absurd (omega arith)
 pub number-some : (s : List ℕ) → (length s ≡ 0 → ⊥) → numberOf s ≡ numberFrom 0 s
 number-some [] h = absurd (h refl)
 number-some (x ∷ s) h = refl
-
--- ---- equal words
-
-pub same-sizes : (a b : List ℕ) → (length a ≡ length b → ⊥) → false ≡ same _is_ a b
-same-sizes a b h = split (same _is_ a b) (λ t. absurd (h (ap length (same-means _is_ eqb-true a b t)))) (λ t. sym t)
-
-module _ (a b : List ℕ) (i : ℕ) where
-  pub same-more : i < length a → i < length b → getD a i 0 ≡ getD b i 0 → same _is_ (drop i a) (drop i b) ≡ same _is_ (drop (i + 1) a) (drop (i + 1) b)
-  same-more h g e = rw (add-one i, drop-cons a i 0 h, drop-cons b i 0 g, eq-eqb (getD a i 0) (getD b i 0) e)
-
-  pub same-other : i < length a → i < length b → (getD a i 0 ≡ getD b i 0 → ⊥) → same _is_ (drop i a) (drop i b) ≡ false
-  same-other h g e = rw (drop-cons a i 0 h, drop-cons b i 0 g, ne-eqb (getD a i 0) (getD b i 0) e)
-
-  pub same-end : length a ≤ i → length b ≤ i → same _is_ (drop i a) (drop i b) ≡ true
-  same-end h g = rw (drop-of-length-le a h, drop-of-length-le b g)

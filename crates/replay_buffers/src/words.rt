@@ -1,6 +1,5 @@
 // Words of a line, separated by one space each, and the decimal numbers that they are.
 ghost use mathlib.Core.Path.{_≡_};
-ghost use Rattle.spec.specs.Tests.{_is_, same};
 ghost use Rattle.replay_buffers.specs.Words.{endOf, wordAt, nextOf, placeOf, spacesIn, numberOf};
 use crate::room::part;
 
@@ -72,23 +71,6 @@ pub fn spaces(line: &[u8]) -> usize
         }
     }
     n
-}
-
-// Whether two words are equal.
-pub fn same(a: &[u8], b: &[u8]) -> bool
-    ensures { λ r. ⌜ r ≡ same _is_ (now (a .entry)) (now (b .entry)) ⌝ }
-{
-    if a.len() != b.len() {
-        return false;
-    }
-    let mut i = 0;
-    while i < a.len() {
-        if a[i] != b[i] {
-            return false;
-        }
-        i += 1;
-    }
-    true
 }
 
 // A word as a number: digits only, and at least one.

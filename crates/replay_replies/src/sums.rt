@@ -21,10 +21,8 @@ fn step(sum: u32, b: u8) -> u32 {
 // The sum with more bytes.
 fn bytes_sum(sum: u32, bytes: &[u8]) -> u32 {
     let mut r = sum;
-    let mut i = 0;
-    while i < bytes.len() {
+    for i in 0..bytes.len() {
         r = step(r, bytes[i]);
-        i += 1;
     }
     r
 }
@@ -45,10 +43,8 @@ fn word_sum(sum: u32, w: u64) -> u32 {
 // The sum with more words.
 fn words_sum(sum: u32, words: &[u64]) -> u32 {
     let mut r = sum;
-    let mut i = 0;
-    while i < words.len() {
+    for i in 0..words.len() {
         r = word_sum(r, words[i]);
-        i += 1;
     }
     r
 }
@@ -56,13 +52,11 @@ fn words_sum(sum: u32, words: &[u64]) -> u32 {
 // The sum with sixteen segments: start, end and permission of each.
 fn segments_sum(sum: u32, segments: [spec::UserSegment; 16]) -> u32 {
     let mut r = sum;
-    let mut i = 0;
-    while i < 16 {
+    for i in 0..16 {
         let s = segments[i];
         r = word_sum(r, s.range.start);
         r = word_sum(r, s.range.end);
         r = word_sum(r, s.perm);
-        i += 1;
     }
     r
 }
@@ -79,11 +73,9 @@ fn record_sum(sum: u32, p: spec::Proc) -> u32 {
 fn records_sum(sum: u32, procs: spec::Procs) -> u32 {
     let all = procs.all;
     let mut r = sum;
-    let mut i = 0;
-    while i < 16 {
+    for i in 0..16 {
         let p = all[i];
         r = record_sum(r, p);
-        i += 1;
     }
     r
 }

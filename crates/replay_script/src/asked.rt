@@ -39,7 +39,8 @@ pub enum Kind {
     Map,
 }
 
-// A line's numbers, in order; its flag table; where in the space name, arguments and other bytes end (taken.rt); the list's length.
+// A line's numbers, in order; its flag table; whether its image is an a.out, of which magic, and not ELF; where in the space name,
+// arguments and other bytes end (taken.rt); the list's length.
 pub struct Asked {
     pub kind: Kind,
     pub number: u64,
@@ -47,6 +48,8 @@ pub struct Asked {
     pub third: u64,
     pub fourth: u64,
     pub flags: [u8; 8],
+    pub aout: bool,
+    pub magic: u32,
     pub name: usize,
     pub args: usize,
     pub bytes: usize,
@@ -62,6 +65,8 @@ pub(crate) fn with(kind: Kind, numbers: [u64; 4]) -> Asked {
         third: numbers[2],
         fourth: numbers[3],
         flags: [0; 8],
+        aout: false,
+        magic: 0,
         name: 0,
         args: 0,
         bytes: 0,
@@ -78,25 +83,19 @@ pub(crate) fn wrong(why: Why) -> Asked {
 pub(crate) fn plain(line: &[u8], kind: Kind, last: usize) -> Asked {
     let mut numbers = [0u64; 4];
     let mut at = words::next(line, 0);
-    let n = replay_buffers::room::least(last, 4);
-    let mut i = 0;
-    while i < n {
+    for i in 0..replay_buffers::room::least(last, 4) {
         let words::Number::Is(x) = words::decimal(words::word_at(line, at)) else {
             return wrong(Why::Bad);
         };
         numbers[i] = x;
         at = words::next(line, at);
-        i += 1;
     }
     with(kind, numbers)
 }
 
 // What is asked if it is within its limits.
 pub(crate) fn limited(a: Asked, within: bool) -> Asked {
-    if within {
-        return a;
-    }
-    wrong(Why::Bad)
+    if within { a } else { wrong(Why::Bad) }
 }
 
 // Whether a word was read that says why the line is no call.

@@ -1,9 +1,11 @@
 // What each line asks for. A line is known by its first word and by how many words stand behind it. A new line of a call is a case of
 // `Kind` and a line here; words that are no numbers are taken in taken.rt.
+ghost use Prim.Native.Nat.{_≤_};
 use crate::asked;
 use crate::asked::Asked;
 use crate::asked::FRAMES_MAX;
 use crate::asked::Kind;
+use replay_buffers::room;
 use replay_buffers::words;
 
 // The longest buffer that a copy is lent.
@@ -11,7 +13,7 @@ const BUFFER_MAX: u64 = 65536;
 
 // What a line asks for if its first word is `key` with so many words behind it, the first n of them numbers; or else `a`.
 fn form(a: Asked, line: &[u8], key: &[u8], min: usize, max: usize, kind: Kind, n: usize) -> Asked {
-    if words::same(words::word(line, 0), key) {
+    if check::same(words::word(line, 0), key) {
         let count = words::spaces(line);
         if (min <= count) & (count <= max) {
             return asked::plain(line, kind, n);
@@ -20,11 +22,20 @@ fn form(a: Asked, line: &[u8], key: &[u8], min: usize, max: usize, kind: Kind, n
     a
 }
 
+// Which word the image of a start or replace is: the third, or the fourth behind one that says the form, `aout=MAGIC`.
+pub(crate) fn image(line: &[u8]) -> usize
+    ensures { λ r. ⌜ r ≤ 4 ⌝ }
+{
+    let front = room::part(words::word(line, 3), 0, 5);
+    if check::same(front, b"aout=") { 4 } else { 3 }
+}
+
 // The lines of a script: calls, rules by themselves, and what calls are handed and lent.
 fn known(line: &[u8]) -> Asked {
+    let image = image(line);
     let mut a = asked::wrong(replay_buffers::bytes::Why::Bad);
-    a = form(a, line, b"start", 3, asked::LINE_MAX, Kind::Start, 1);
-    a = form(a, line, b"replace", 4, 4, Kind::Replace, 1);
+    a = form(a, line, b"start", image, asked::LINE_MAX, Kind::Start, 1);
+    a = form(a, line, b"replace", image + 1, image + 1, Kind::Replace, 1);
     a = form(a, line, b"push", 3, asked::LINE_MAX, Kind::Push, 3);
     a = form(a, line, b"break", 2, 2, Kind::Break, 2);
     a = form(a, line, b"fork", 2, 2, Kind::Fork, 2);
@@ -69,7 +80,7 @@ fn within(a: Asked, bytes: usize, words: usize) -> Asked {
 
 // What a line asks for by its first word and its numbers, of so many bytes of frames and words of book.
 pub(crate) fn asks(line: &[u8], bytes: usize, words: usize) -> Asked {
-    if (line.len() == 0) | words::same(replay_buffers::room::part(line, 0, 1), b"#") {
+    if (line.len() == 0) | check::same(room::part(line, 0, 1), b"#") {
         return asked::with(Kind::Nothing, [0; 4]);
     }
     if asked::LINE_MAX < line.len() {

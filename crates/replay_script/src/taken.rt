@@ -69,14 +69,14 @@ fn add(space: &mut [u8], list: &mut List, a: Asked, word: &[u8]) -> Asked {
     next
 }
 
-// With the words behind the first four as arguments.
-fn args(space: &mut [u8], list: &mut List, line: &[u8], a: Asked) -> Asked {
+// With the words behind word `last` as arguments.
+fn args(space: &mut [u8], list: &mut List, line: &[u8], last: usize, a: Asked) -> Asked {
     *list = [0u64; ARGS];
     let mut next = a;
     next.args = ARGS_AT;
-    let mut at = words::place(line, 4);
+    let mut at = words::next(line, words::place(line, last));
     let mut left = words::spaces(line);
-    while 3 < left {
+    while last < left {
         next = add(space, list, next, words::word_at(line, at));
         at = words::next(line, at);
         left -= 1;
@@ -84,21 +84,41 @@ fn args(space: &mut [u8], list: &mut List, line: &[u8], a: Asked) -> Asked {
     next
 }
 
-// start NUMBER NAME IMAGE [ARG ..]
-fn start(space: &mut [u8], list: &mut List, line: &[u8], a: Asked) -> Asked {
-    let named = name(space, line, a);
-    let b = args(space, list, line, named);
-    take_at(space, BYTES_AT, words::word(line, 3), b)
+// With the form that word 3 says, if it says one.
+fn form(line: &[u8], a: Asked) -> Asked {
+    if asked::fails(a) | (lines::image(line) == 3) {
+        return a;
+    }
+    let magic = room::part(words::word(line, 3), 5, line.len());
+    let words::Number::Is(n) = words::decimal(magic) else {
+        return asked::wrong(bytes::Why::Bad);
+    };
+    if n > u32::MAX as u64 {
+        return asked::wrong(bytes::Why::Bad);
+    }
+    let mut next = a;
+    next.aout = true;
+    next.magic = n as u32;
+    next
 }
 
-// replace NUMBER NAME IMAGE ARGV
+// start NUMBER NAME [aout=MAGIC] IMAGE [ARG ..]
+fn start(space: &mut [u8], list: &mut List, line: &[u8], a: Asked) -> Asked {
+    let image = lines::image(line);
+    let named = form(line, name(space, line, a));
+    let b = args(space, list, line, image, named);
+    take_at(space, BYTES_AT, words::word(line, image), b)
+}
+
+// replace NUMBER NAME [aout=MAGIC] IMAGE ARGV
 fn replace(space: &mut [u8], line: &[u8], a: Asked) -> Asked {
-    let named = name(space, line, a);
-    let mut next = take_at(space, BYTES_AT, words::word(line, 3), named);
+    let image = lines::image(line);
+    let named = form(line, name(space, line, a));
+    let mut next = take_at(space, BYTES_AT, words::word(line, image), named);
     if asked::fails(next) {
         return next;
     }
-    let words::Number::Is(n) = words::decimal(words::word(line, 4)) else {
+    let words::Number::Is(n) = words::decimal(words::word(line, image + 1)) else {
         return asked::wrong(bytes::Why::Bad);
     };
     next.second = n;
@@ -142,8 +162,7 @@ fn numbers(space: &mut [u8], line: &[u8], a: Asked) -> Asked {
 fn codes(line: &[u8], a: Asked) -> Asked {
     let mut next = a;
     let mut at = 0;
-    let mut i = 0;
-    while i < 8 {
+    for i in 0..8 {
         at = words::next(line, at);
         let words::Number::Is(x) = words::decimal(words::word_at(line, at)) else {
             return asked::wrong(bytes::Why::Bad);
@@ -152,7 +171,6 @@ fn codes(line: &[u8], a: Asked) -> Asked {
             return asked::wrong(bytes::Why::Bad);
         }
         next.flags[i] = x as u8;
-        i += 1;
     }
     next
 }
@@ -174,17 +192,15 @@ fn flags(space: &mut [u8], line: &[u8], a: Asked) -> Asked {
 
 // range NUMBER ADDRESS LENGTH r|w: the fourth number is 1 for w.
 fn range(line: &[u8], a: Asked) -> Asked {
+    let write = check::same(words::word(line, 4), b"w");
     let mut next = a;
-    if words::same(words::word(line, 4), b"w") {
-        next.fourth = 1;
-        return next;
-    }
-    asked::limited(next, words::same(words::word(line, 4), b"r"))
+    next.fourth = write as u64;
+    asked::limited(next, write | check::same(words::word(line, 4), b"r"))
 }
 
 // rule START END FREE ADDRESS, or rule none none FREE ADDRESS
 fn rule(line: &[u8]) -> Asked {
-    if words::same(words::word(line, 1), b"none") & words::same(words::word(line, 2), b"none") {
+    if check::same(words::word(line, 1), b"none") & check::same(words::word(line, 2), b"none") {
         let rest = room::part(line, words::place(line, 2), line.len());
         return asked::plain(rest, Kind::RuleNone, 2);
     }
@@ -198,7 +214,7 @@ pub fn read(space: &mut [u8], list: &mut List, line: &[u8], bytes: usize, words:
     match kind {
         Kind::Start => start(space, list, line, a),
         Kind::Replace => replace(space, line, a),
-        Kind::Push => args(space, list, line, a),
+        Kind::Push => args(space, list, line, 3, a),
         Kind::ForkList => triples(list, line, a),
         Kind::To => take_at(space, BYTES_AT, words::word(line, 3), a),
         Kind::Name => take_at(space, BYTES_AT, words::word(line, 1), a),

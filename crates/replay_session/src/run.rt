@@ -7,6 +7,7 @@ use replay_script::asked::Asked;
 use replay_script::asked::Kind;
 use replay_script::taken::BYTES_AT;
 use spec::Answer;
+use spec::Form;
 use spec::Left;
 
 // What every byte of a buffer that a copy is lent first is.
@@ -19,10 +20,8 @@ fn same(procs: spec::Procs, answer: Answer) -> Left {
 
 // Makes every byte `b`.
 fn fill(bytes: &mut [u8], b: u8) {
-    let mut i = 0;
-    while i < bytes.len() {
+    for i in 0..bytes.len() {
         bytes[i] = b;
-        i += 1;
     }
 }
 
@@ -71,12 +70,14 @@ fn enter(
     let name = room::part(space, 0, a.name);
     let args = room::part(space, replay_script::taken::ARGS_AT, a.args);
     let image = room::part(space, BYTES_AT, a.bytes);
+    let magic = a.magic;
+    let form = if a.aout { Form::Aout(magic) } else { Form::Elf };
     let m = s.setup;
     let p = s.procs;
     let kind = a.kind;
     match kind {
-        Kind::Start => call::start(m, frames, book, p, a.number, image, name, args, list),
-        Kind::Replace => call::replace(m, frames, book, p, a.number, image, name, a.second),
+        Kind::Start => call::start(m, frames, book, p, a.number, form, image, name, args, list),
+        Kind::Replace => call::replace(m, frames, book, p, a.number, form, image, name, a.second),
         Kind::Push => call::push(m, frames, book, p, a.number, a.second, a.third, args, list),
         _ => crate::listed::fork_triples(m, frames, book, p, a.number, a.second, list),
     }

@@ -2,20 +2,22 @@
 use mathlib.Core.Path.{_≡_, refl}
 use mathlib.Core.Bool.{Bool, true, false, _&&_}
 use mathlib.Core.Option.{Option, none, some}
-use mathlib.Core.List.{List, [], _∷_, _++_, map}
+use mathlib.Core.List.{List, [], _∷_, _++_, reverse}
 use Prim.Native.Nat.{ℕ, zero, suc, _+_, _-_, _^_}
-use lib.ListN.{replicate, length, set}
+use lib.ListN.{replicate, length, take, set}
 use Rattle.spec.specs.Tests.{_is_, _⇒_else_, all, same, ascii}
 use Rattle.spec.specs.Flags.{builtIn}
 use Rattle.spec.specs.Numbers.{deposit, limit, leBytes}
 use Rattle.spec.specs.Name.{elem, kstrcpy}
 use Rattle.spec.specs.Book.{range, segment, sameSegment, pageCount}
-use Rattle.spec.specs.Elf.{ehdrError, phdrs, phdrError, segmentsOf, elfError, entry}
-use Rattle.spec.specs.Exec.{imageError, imageSegments, imageBss, startPieces, argsError, argvAt, registers, loaded, pushed, Argv, argBuffer, copyArgv}
+use Rattle.spec.specs.Program.{Program}
+use Rattle.spec.specs.Elf.{ehdrError, phdrs, phdrError, segmentsOf, elfError, elfProgram}
+use Rattle.spec.specs.Aout.{aoutError, aoutProgram}
+use Rattle.spec.specs.Exec.{imageError, programSegments, programBss, startPieces, fileByte, argsError, argvAt, registers, loaded, pushed, Argv, argBuffer, copyArgv}
 use Rattle.spec.specs.Access.{userRangeOk, copyStr}
 use Rattle.spec.specs.Segment.{ibrk}
 use Rattle.spec.specs.Listing.{listError, listing}
-use Rattle.spec.specs.declared.Setup.{Setup}
+use Rattle.spec.specs.declared.Form.the-variants.{Elf, Aout}
 
 -- an ELF header whose unlisted fields are valid or 0, and a program header
 abbrev ehdr : ℕ → ℕ → ℕ → List ℕ
@@ -43,9 +45,24 @@ texts (suc k) vaddr = phdr 5 0 vaddr 120 120 ++ texts k (vaddr + 4096)
 abbrev pub many : ℕ → List ℕ
 many k = ehdr 65652 64 k ++ texts k 65536
 
--- a table that has constants which a build marks writable as rodata (02, 7/13)
-abbrev partner : Setup
-partner = record { utzero = 65536; ustktop = 2 ^ 47; ustksize = 16384; uaddrtop = 2 ^ 47; flags = set builtIn 6 2 }
+-- its program; and with a table that has constants which a build marks writable as rodata (02, 7/13)
+abbrev program : Program
+program = elfProgram builtIn image184
+
+abbrev partners : Program
+partners = elfProgram (set builtIn 6 2) image184
+
+-- 02, 9/13: an a.out of two instructions, which is entered at its first, with 8 bytes of data and a bss of 8,000; syms, spsz and pcsz are
+-- nonsense. Plan 9's magic for arm64 is 4 × 28 × 28 + 7.
+abbrev word : ℕ → List ℕ
+word n = reverse (leBytes 4 n)
+
+abbrev pub aout : ℕ → ℕ → ℕ → ℕ → List ℕ
+aout text data-size bss-size entry =
+    (word 3143 ++ word text ++ word data-size ++ word bss-size ++ word (2 ^ 32 - 1) ++ word entry ++ word 77 ++ word (2 ^ 31)) ++ replicate 8 170 ++ replicate 8 187
+
+abbrev plan9 : Program
+plan9 = aoutProgram deposit (aout 8 8 8000 65568)
 
 abbrev lex-mot : List (List ℕ)
 lex-mot = ascii "lex" ∷ ascii "mot" ∷ []
@@ -74,7 +91,7 @@ starred =
 -- pushed arguments read back as given
 abbrev readsBack : List (List ℕ) → Bool
 readsBack args =
-    let read : Argv = copyArgv deposit (pushed (deposit .ustktop) args (loaded deposit image184)) (argvAt (deposit .ustktop) args) in
+    let read : Argv = copyArgv deposit (pushed (deposit .ustktop) args (loaded deposit program)) (argvAt (deposit .ustktop) args) in
     read .error is 0 && same (same _is_) (read .args) args
 
 -- the others, and the listing
@@ -105,25 +122,50 @@ unstarred =
     ∷ (elfError builtIn (set image184 137 0), 26)
     ∷ (elfError builtIn (one 5 0 65536 117 120), 0)
     ∷ (elfError builtIn (one 5 0 65536 116 120), 27)
-    ∷ (imageError deposit (set image184 137 0), 30)
-    ∷ (imageError deposit (ehdr 116 64 1 ++ phdr 5 0 0 120 120), 30)
-    ∷ (imageError deposit (one 5 0 65536 120 (limit deposit - 65536)), 0)
-    ∷ (imageError deposit (one 5 0 65536 120 (limit deposit - 65535)), 30)
-    ∷ (imageError deposit (ehdr 73844 64 2 ++ phdr 6 0 65536 120 120 ++ phdr 5 0 73728 120 120), 30)
-    ∷ (imageError deposit (many 15), 0)
-    ∷ (imageError deposit (many 16), 31)
+    ∷ (imageError deposit Elf (set image184 137 0), 30)
+    ∷ (imageError deposit Elf (ehdr 116 64 1 ++ phdr 5 0 0 120 120), 30)
+    ∷ (imageError deposit Elf (one 5 0 65536 120 (limit deposit - 65536)), 0)
+    ∷ (imageError deposit Elf (one 5 0 65536 120 (limit deposit - 65535)), 30)
+    ∷ (imageError deposit Elf (ehdr 73844 64 2 ++ phdr 6 0 65536 120 120 ++ phdr 5 0 73728 120 120), 30)
+    ∷ (imageError deposit Elf (many 15), 0)
+    ∷ (imageError deposit Elf (many 16), 31)
     ∷ (length image184, 184)
-    ∷ (imageError deposit image184, 0)
-    ∷ (entry image184, 65712)
-    ∷ (pageCount (startPieces deposit image184), 7)
-    ∷ (imageBss deposit image184 .start, 69816)
-    ∷ (imageBss deposit image184 .end, 77824)
-    ∷ (same sameSegment (imageSegments deposit image184) (segment 65536 69632 1 ∷ segment 69632 73728 3 ∷ []) ⇒ 1 else 0, 1)
-    ∷ (same sameSegment (imageSegments partner image184) (segment 65536 69632 1 ∷ segment 69632 77824 2 ∷ []) ⇒ 1 else 0, 1)
-    ∷ (imageBss partner image184 .start, 77824)
+    ∷ (imageError deposit Elf image184, 0)
+    ∷ (program .entry, 65712)
+    ∷ (pageCount (startPieces deposit program), 7)
+    ∷ (programBss program .start, 69816)
+    ∷ (programBss program .end, 77824)
+    ∷ (same sameSegment (programSegments program) (segment 65536 69632 1 ∷ segment 69632 73728 3 ∷ []) ⇒ 1 else 0, 1)
+    ∷ (same sameSegment (programSegments partners) (segment 65536 69632 1 ∷ segment 69632 77824 2 ∷ []) ⇒ 1 else 0, 1)
+    ∷ (programBss partners .start, 77824)
     ∷ (readsBack lex-mot ⇒ 1 else 0, 1)
     ∷ (readsBack [] ⇒ 1 else 0, 1)
     ∷ (readsBack ([] ∷ (65 ∷ []) ∷ [] ∷ replicate 9 66 ∷ []) ⇒ 1 else 0, 1)
+    ∷ []
+
+-- 02, 9/13
+abbrev aouts : List (ℕ × ℕ)
+aouts =
+    (aoutError deposit 3143 (take 31 (aout 8 8 0 65568)), 42)
+    ∷ (aoutError deposit 3142 (aout 8 8 0 65568), 42)
+    ∷ (aoutError deposit 3143 (aout 8 8 0 65568), 0)
+    ∷ (aoutError deposit 3143 (aout 8 9 0 65569), 43)
+    ∷ (aoutError deposit 3143 (aout (2 ^ 32 - 1) 1 0 65568), 43)
+    ∷ (aoutError deposit 3143 (aout 8 8 0 65569), 19)
+    ∷ (aoutError deposit 3143 (aout 8 8 0 65564), 27)
+    ∷ (aoutError deposit 3143 (aout 8 8 0 65572), 0)
+    ∷ (aoutError deposit 3143 (aout 8 8 0 65576), 27)
+    ∷ (aoutError deposit 3143 (aout 0 16 0 65568), 27)
+    ∷ (imageError deposit (Aout 3143) (aout 8 8 8000 65568), 0)
+    ∷ (imageError deposit (Aout 3142) (aout 8 8 8000 65568), 30)
+    ∷ (plan9 .entry, 65568)
+    ∷ (pageCount (startPieces deposit plan9), 7)
+    ∷ (programBss plan9 .start, 69640)
+    ∷ (programBss plan9 .end, 77824)
+    ∷ (same sameSegment (programSegments plan9) (segment 65536 69632 1 ∷ segment 69632 73728 3 ∷ []) ⇒ 1 else 0, 1)
+    ∷ (fileByte (aoutProgram deposit (aout 8 4 8000 65568) .segments) 69635, 187)
+    ∷ (fileByte (aoutProgram deposit (aout 8 4 8000 65568) .segments) 69636, 0)
+    ∷ (length (aoutProgram deposit (aout 16 0 0 65568) .segments), 1)
     ∷ []
 
 -- the listing's five lines
@@ -153,6 +195,10 @@ starred-hold = refl
 pub unstarred-hold : agree unstarred ≡ true
 unfolding ehdrError phdrs phdrError segmentsOf elfError ibrk argBuffer copyArgv
 unstarred-hold = refl
+
+pub aouts-hold : agree aouts ≡ true
+unfolding aoutError
+aouts-hold = refl
 
 pub listing-holds : listing image184 ≡ lines184
 unfolding ehdrError phdrs phdrError segmentsOf elfError listError listing

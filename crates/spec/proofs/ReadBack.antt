@@ -19,10 +19,13 @@ use Rattle.spec.specs.Tests.{_is_, _above_, within, _⇒_else_, any, has
 use Rattle.spec.specs.Numbers.{argLimit, pageDown, le, leBytes, bytesFrom, SetupOk}
 use Rattle.spec.specs.Frames.{Cell, Mem}
 use Rattle.spec.specs.Access.{cellOk, userRangeOk, byteOf, bytesAt, rewrite, write, Str, longer, copyStr}
+use Rattle.spec.specs.Program.{Program}
+use Rattle.spec.specs.Image.{programOf}
 use Rattle.spec.specs.Exec.{loaded, argsOf, strings, stackSize, argsError, stringsAt, argvAt, registers, belowZero, pointers, pushOk, pushed, Argv, argBuffer, argvFrom, copyArgv}
 use Rattle.spec.specs.Machine.{start, replace, push, Machine, run}
 use Rattle.spec.specs.History.{ArgsAt, ArgsRead}
 use Rattle.spec.specs.declared.Setup.{Setup}
+use Rattle.spec.specs.declared.Form.{Form}
 
 -- ---- writes
 
@@ -289,20 +292,20 @@ module _ (setup : Setup) (ok : SetupOk setup) where
 -- ---- of calls
 
 -- the stack of a program that has just been loaded may be written
-pub record Stacked (setup : Setup) (image : List ℕ) (args : List (List ℕ)) : Type 0 where
+pub record Stacked (setup : Setup) (program : Program) (args : List (List ℕ)) : Type 0 where
   pub accepted : SetupOk setup
-  pub whole : (a : ℕ) → cellOk true (loaded setup image a) ≡ cellOk true (loaded setup image (pageDown a))
+  pub whole : (a : ℕ) → cellOk true (loaded setup program a) ≡ cellOk true (loaded setup program (pageDown a))
   pub fit : argsError setup args ≡ 0
-  pub room : pushOk setup (loaded setup image) (setup .ustktop) args ≡ true
+  pub room : pushOk setup (loaded setup program) (setup .ustktop) args ≡ true
 
 module _ (m : Machine) (pc : ℕ) where
-  pub start-args : (image name bytes lengths : List ℕ) → Stacked (m .setup) image (argsOf bytes lengths)
-      → ArgsRead m (start image name bytes lengths) (run m (start image name bytes lengths) .mem) (registers pc (m .setup .ustktop) (argsOf bytes lengths))
-  start-args image name bytes lengths s = args-at (m .setup) (s .accepted) (loaded (m .setup) image) pc (m .setup .ustktop) (argsOf bytes lengths) (s .whole) (omega (arith, s .accepted)) (s .fit) (s .room)
+  pub start-args : (form : Form) (image name bytes lengths : List ℕ) → Stacked (m .setup) (programOf (m .setup) form image) (argsOf bytes lengths)
+      → ArgsRead m (start form image name bytes lengths) (run m (start form image name bytes lengths) .mem) (registers pc (m .setup .ustktop) (argsOf bytes lengths))
+  start-args form image name bytes lengths s = args-at (m .setup) (s .accepted) (loaded (m .setup) (programOf (m .setup) form image)) pc (m .setup .ustktop) (argsOf bytes lengths) (s .whole) (omega (arith, s .accepted)) (s .fit) (s .room)
 
-  pub replace-args : (image name : List ℕ) (argv : ℕ) → Stacked (m .setup) image (copyArgv (m .setup) (m .mem) argv .args)
-      → ArgsRead m (replace image name argv) (run m (replace image name argv) .mem) (registers pc (m .setup .ustktop) (copyArgv (m .setup) (m .mem) argv .args))
-  replace-args image name argv s = args-at (m .setup) (s .accepted) (loaded (m .setup) image) pc (m .setup .ustktop) (copyArgv (m .setup) (m .mem) argv .args) (s .whole) (omega (arith, s .accepted)) (s .fit) (s .room)
+  pub replace-args : (form : Form) (image name : List ℕ) (argv : ℕ) → Stacked (m .setup) (programOf (m .setup) form image) (copyArgv (m .setup) (m .mem) argv .args)
+      → ArgsRead m (replace form image name argv) (run m (replace form image name argv) .mem) (registers pc (m .setup .ustktop) (copyArgv (m .setup) (m .mem) argv .args))
+  replace-args form image name argv s = args-at (m .setup) (s .accepted) (loaded (m .setup) (programOf (m .setup) form image)) pc (m .setup .ustktop) (copyArgv (m .setup) (m .mem) argv .args) (s .whole) (omega (arith, s .accepted)) (s .fit) (s .room)
 
   pub push-args : SetupOk (m .setup) → (top : ℕ) (bytes lengths : List ℕ) → ((a : ℕ) → cellOk true (m .mem a) ≡ cellOk true (m .mem (pageDown a)))
       → top % 16 ≡ 0 → argsError (m .setup) (argsOf bytes lengths) ≡ 0 → pushOk (m .setup) (m .mem) top (argsOf bytes lengths) ≡ true

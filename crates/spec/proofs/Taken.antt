@@ -12,11 +12,13 @@ use Rattle.spec.proofs.Free.{free-place, length-pages, pokes-book}
 use Rattle.spec.specs.Tests.{_is_, _isnt_, _above_, _⇒_else_, sum}
 use Rattle.spec.specs.Book.{valid, free, pageCount}
 use Rattle.spec.specs.Numbers.{setupError, pageBytes}
-use Rattle.spec.specs.Elf.{segmentsOf, entry}
+use Rattle.spec.specs.Program.{Program}
+use Rattle.spec.specs.Image.{programOf}
 use Rattle.spec.specs.Exec.{startPieces, fileByte, argsOf, argsError, imageError, registers}
 use Rattle.spec.specs.Machine.{Ask, start, Call, accepted, refused, Reply, outcome, outcomeOf, refuse, plainly, lengthsFit, judge}
 use Rattle.spec.specs.World.{State, sound, taken, answer, after, load}
 use Rattle.spec.specs.Frames.{sized, pagesOf}
+use Rattle.spec.specs.declared.Form.{Form}
 use Rattle.spec.specs.declared.Answer.{Answer}
 use Rattle.spec.specs.declared.Answer.the-variants.{Regs, Refused}
 
@@ -28,12 +30,12 @@ pub bad-setup : (s : State) (c : Call) → sized (s .store) ≡ true → lengths
 unfolding answer
 bad-setup s c p q r = rw (p, q, ne-eqb (setupError (s .setup)) 0 r)
 
-loaded-frames : (s : State) (n : ℕ) (image name : List ℕ) (args : List (List ℕ)) → n ≤ 16 → pageCount (startPieces (s .setup) image) ≤ free (s .store .book)
-    → free (load s n image name args .store .book) + pageCount (startPieces (s .setup) image) ≡ free (s .store .book)
-loaded-frames s n image name args h l =
-    let f : ℕ → List ℕ = pageBytes (fileByte (segmentsOf (s .setup .flags) image)) in
-    let e = length-pages f (startPieces (s .setup) image) in
-    let p = free-place (s .store) n (pagesOf f (startPieces (s .setup) image)) h (rw e l) in
+loaded-frames : (s : State) (n : ℕ) (program : Program) (name : List ℕ) (args : List (List ℕ)) → n ≤ 16 → pageCount (startPieces (s .setup) program) ≤ free (s .store .book)
+    → free (load s n program name args .store .book) + pageCount (startPieces (s .setup) program) ≡ free (s .store .book)
+loaded-frames s n program name args h l =
+    let f : ℕ → List ℕ = pageBytes (fileByte (program .segments)) in
+    let e = length-pages f (startPieces (s .setup) program) in
+    let p = free-place (s .store) n (pagesOf f (startPieces (s .setup) program)) h (rw e l) in
     rw (pokes-book, pokes-book, ← e) p
 
 -- ---- a start that is accepted
@@ -46,16 +48,16 @@ passed-answer : (t : Bool) (k : ℕ) (b : Answer) → outcomeOf (t ⇒ Refused k
 passed-answer true k b e = absurd (let z : _≡_ {A = ℕ} 0 1 = cc in omega arith)
 passed-answer false k b e = (refl, e)
 
-pub start-takes : (s : State) (n : ℕ) (image name bytes lengths : List ℕ)
-    → let c : Call = record { number = n; ask = start image name bytes lengths } in
-    outcome (answer s c) ≡ accepted → free (after s c .store .book) + pageCount (startPieces (s .setup) image) ≡ free (s .store .book)
+pub start-takes : (s : State) (n : ℕ) (form : Form) (image name bytes lengths : List ℕ)
+    → let c : Call = record { number = n; ask = start form image name bytes lengths } in
+    outcome (answer s c) ≡ accepted → free (after s c .store .book) + pageCount (startPieces (s .setup) (programOf (s .setup) form image)) ≡ free (s .store .book)
 unfolding answer judge after
-start-takes s n image name bytes lengths e =
-    let q : Ask = start image name bytes lengths in
+start-takes s n form image name bytes lengths e =
+    let q : Ask = start form image name bytes lengths in
     let args : List (List ℕ) = argsOf bytes lengths in
-    let a8 : Answer = Regs (registers (entry image) (s .setup .ustktop) args) in
-    let a7 : Answer = pageCount (startPieces (s .setup) image) above free (s .store .book) ⇒ Refused 33 else a8 in
-    let a6 : Answer = imageError (s .setup) image isnt 0 ⇒ Refused (imageError (s .setup) image) else a7 in
+    let a8 : Answer = Regs (registers (programOf (s .setup) form image .entry) (s .setup .ustktop) args) in
+    let a7 : Answer = pageCount (startPieces (s .setup) (programOf (s .setup) form image)) above free (s .store .book) ⇒ Refused 33 else a8 in
+    let a6 : Answer = imageError (s .setup) form image isnt 0 ⇒ Refused (imageError (s .setup) form image) else a7 in
     let a5 : Reply = plainly (argsError (s .setup) args isnt 0 ⇒ Refused (argsError (s .setup) args) else a6) in
     let a4 : Reply = not (not (taken s n)) ⇒ refuse 5 q else a5 in
     let a3 : Reply = not (valid n) ⇒ refuse 3 q else a4 in
@@ -69,7 +71,7 @@ start-takes s n image name bytes lengths e =
     let p4 = passed (not (valid n)) 3 q a4 (p3 .1) in
     let p5 = passed (not (not (taken s n))) 5 q a5 (p4 .1) in
     let p6 = passed-answer (argsError (s .setup) args isnt 0) (argsError (s .setup) args) a6 (p5 .1) in
-    let p7 = passed-answer (imageError (s .setup) image isnt 0) (imageError (s .setup) image) a7 (p6 .1) in
-    let p8 = passed-answer (pageCount (startPieces (s .setup) image) above free (s .store .book)) 33 a8 (p7 .1) in
+    let p7 = passed-answer (imageError (s .setup) form image isnt 0) (imageError (s .setup) form image) a7 (p6 .1) in
+    let p8 = passed-answer (pageCount (startPieces (s .setup) (programOf (s .setup) form image)) above free (s .store .book)) 33 a8 (p7 .1) in
     let hi : n ≤ 16 = omega (arith, within-means 1 17 n (un-not (valid n) (p4 .0)) .1) in
-    rw e (loaded-frames s n image name args hi (ltb-false _ _ (p8 .0)))
+    rw e (loaded-frames s n (programOf (s .setup) form image) name args hi (ltb-false _ _ (p8 .0)))

@@ -5,8 +5,9 @@ use Prim.Native.Nat.{ℕ, zero, suc, _+_, _*_, _-_, _%_, _^_}
 use mathlib.Core.Bool.{Bool, true, false, not, _&&_, _||_}
 use mathlib.Core.List.{List, [], _∷_, map}
 use lib.ListN.{length, take, drop, getD}
-use Rattle.spec.specs.Tests.{_is_, _isnt_, _below_, _above_, within, _⇒_else_, _orElse_, all, any, filter, same}
+use Rattle.spec.specs.Tests.{_is_, _isnt_, _below_, _above_, _⇒_else_, _orElse_, all, any, filter, same}
 use Rattle.spec.specs.Numbers.{pageUp, pageDown, le}
+use Rattle.spec.specs.Program.{Segment, inFile, Program}
 use Rattle.spec.specs.declared.ElfError.{ElfError}
 use Rattle.spec.specs.declared.ElfError.the-variants.{Truncated, BadMagic, NotElf64, NotLittleEndian, BadVersion, NotExecutable, NotAarch64, BadPhentsize, MisalignedEntry, PhdrsOutOfRange, FileszOverMemsz, SegmentOutOfRange, Misaligned, Overflow, BadFlags, Unordered, EntryNotInText}
 
@@ -108,13 +109,6 @@ phdrError flags image end (p ∷ ps) =
     pageDown (p .vaddr) below end ⇒ 26 else
     phdrError flags image (pageUp (p .vaddr + p .memsz)) ps
 
--- a loadable segment: `memsz` bytes at `vaddr`, of which the first are `file`, and the rest zero
-pub record Segment : Type 0 where
-  pub vaddr : ℕ
-  pub memsz : ℕ
-  pub file : List ℕ
-  pub perm : ℕ
-
 -- the segment that a header describes, and all that an image has
 abbrev pub segmentOf : List ℕ → List ℕ → Phdr → Segment
 segmentOf flags image p = record { vaddr = p .vaddr; memsz = p .memsz; file = take (p .filesz) (drop (p .offset) image); perm = flagPerm flags p }
@@ -122,10 +116,6 @@ segmentOf flags image p = record { vaddr = p .vaddr; memsz = p .memsz; file = ta
 unfoldable pub segmentsOf : List ℕ → List ℕ → List Segment
 unfolding phdrs
 segmentsOf flags image = map (segmentOf flags image) (phdrs image)
-
--- an address lies in the file bytes of a segment
-abbrev pub inFile : ℕ → Segment → Bool
-inFile a g = within (g .vaddr) (g .vaddr + length (g .file)) a
 
 -- the entry must lie in the file bytes of some text segment
 abbrev pub entryInText : List ℕ → List ℕ → Bool
@@ -137,3 +127,7 @@ elfError flags image =
     ehdrError image orElse
     phdrError flags image 0 (phdrs image) orElse
     (entryInText flags image ⇒ 0 else 27)
+
+-- the program that an accepted image holds
+abbrev pub elfProgram : List ℕ → List ℕ → Program
+elfProgram flags image = record { entry = entry image; segments = segmentsOf flags image }

@@ -11,8 +11,10 @@ use Rattle.spec.specs.Numbers.{limit, argLimit, pageUp, pageDown, le, le
 use Rattle.spec.specs.Book.{range, segment, stack, bssSegment, permAt}
 use Rattle.spec.specs.Frames.{Cell, Mem}
 use Rattle.spec.specs.Access.{userRangeOk, bytesAt, write, Str, copyStr}
-use Rattle.spec.specs.Elf.{Segment, segmentsOf, elfError, inFile}
+use Rattle.spec.specs.Program.{Segment, inFile, Program}
+use Rattle.spec.specs.Image.{readError, programOf}
 use Rattle.spec.specs.declared.Setup.{Setup}
+use Rattle.spec.specs.declared.Form.{Form}
 use Rattle.spec.specs.declared.VirtRange.{VirtRange}
 use Rattle.spec.specs.declared.UserSegment.{UserSegment}
 use Rattle.spec.specs.declared.UserRegs.{UserRegs}
@@ -26,7 +28,7 @@ layoutOk setup (g ∷ gs) =
     not (g .vaddr below setup .utzero) && not (g .vaddr + g .memsz above limit setup) && (g .perm isnt 3 || length gs is 0) && layoutOk setup gs
 
 -- bss: from data's address + file size to the page end of data's memory; without data, empty at the page end of the last segment
--- (an image with no segment is refused with 27)
+-- (every program has a segment: an image with none is refused with 27)
 abbrev pub bssOf : List Segment → VirtRange
 bssOf [] = range 0 0
 bssOf (g ∷ []) = range (g .perm is 3 ⇒ g .vaddr + length (g .file) else pageUp (g .vaddr + g .memsz)) (pageUp (g .vaddr + g .memsz))
@@ -39,37 +41,41 @@ userSegment bss g = segment (pageDown (g .vaddr)) (g .perm is 3 ⇒ pageUp (bss 
 abbrev pub kept : VirtRange → List Segment → List UserSegment
 kept bss gs = filter (λ s. s .range .start below s .range .end) (map (userSegment bss) gs)
 
-abbrev pub imageSegments : Setup → List ℕ → List UserSegment
-imageSegments setup image = kept (bssOf (segmentsOf (setup .flags) image)) (segmentsOf (setup .flags) image)
+-- the bss of a program
+abbrev pub programBss : Program → VirtRange
+programBss p = bssOf (p .segments)
 
--- the bss of an image
-abbrev pub imageBss : Setup → List ℕ → VirtRange
-imageBss setup image = bssOf (segmentsOf (setup .flags) image)
+-- and the segments that are recorded of it
+abbrev pub programSegments : Program → List UserSegment
+programSegments p = kept (programBss p) (p .segments)
 
--- 30 for any of 11 to 27 or the layout; 31 for over 15 recorded segments; or 0
-abbrev pub imageError : Setup → List ℕ → ℕ
-imageError setup image =
-    elfError (setup .flags) image isnt 0 ⇒ 30 else
-    not (layoutOk setup (segmentsOf (setup .flags) image)) ⇒ 30 else
-    length (imageSegments setup image) above 15 ⇒ 31 else
+-- 30 for the layout; 31 for over 15 recorded segments; or 0
+abbrev pub layoutError : Setup → Program → ℕ
+layoutError setup p =
+    not (layoutOk setup (p .segments)) ⇒ 30 else
+    length (programSegments p) above 15 ⇒ 31 else
     0
 
--- the pages that a start takes, ascending: the image's, the bss's, the stack's
-abbrev pub startPieces : Setup → List ℕ → List UserSegment
-startPieces setup image = imageSegments setup image ++ bssSegment (imageBss setup image) ∷ stack setup ∷ []
+-- what an image is refused with by start and replace: 30 for any number of its reader's, then what its program is refused with; or 0
+abbrev pub imageError : Setup → Form → List ℕ → ℕ
+imageError setup form image = readError setup form image isnt 0 ⇒ 30 else layoutError setup (programOf setup form image)
+
+-- the pages that a start takes, ascending: the recorded segments', the bss's, the stack's
+abbrev pub startPieces : Setup → Program → List UserSegment
+startPieces setup p = programSegments p ++ bssSegment (programBss p) ∷ stack setup ∷ []
 
 -- a page holds its file bytes and zero elsewhere
 abbrev pub fileByte : List Segment → ℕ → ℕ
 fileByte [] a = 0
 fileByte (g ∷ gs) a = inFile a g ⇒ getD (g .file) (a - g .vaddr) 0 else fileByte gs a
 
--- what stands at each address of an image's pages before arguments are pushed
+-- what stands at each address of a program's pages before arguments are pushed
 abbrev pub cellOf : ℕ → Option ℕ → Option Cell
 cellOf byte none = none
 cellOf byte (some perm) = some (record { perm = perm; byte = byte })
 
-abbrev pub loaded : Setup → List ℕ → Mem
-loaded setup image a = cellOf (fileByte (segmentsOf (setup .flags) image) a) (permAt (startPieces setup image) a)
+abbrev pub loaded : Setup → Program → Mem
+loaded setup p a = cellOf (fileByte (p .segments) a) (permAt (startPieces setup p) a)
 
 -- ---- arguments
 

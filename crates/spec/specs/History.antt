@@ -152,8 +152,8 @@ pub record ArgsAt (setup : Setup) (mem : Mem) (top : ℕ) (args : List (List ℕ
 -- what registers that were answered tell of memory after the call: of start and push the arguments given, of replace those that it
 -- read before; no other call answers registers
 abbrev pub ArgsRead : Machine → Ask → Mem → UserRegs → Type 0
-ArgsRead m (start image name bytes lengths) mem regs = ArgsAt (m .setup) mem (m .setup .ustktop) (argsOf bytes lengths) regs
-ArgsRead m (replace image name argv) mem regs = ArgsAt (m .setup) mem (m .setup .ustktop) (copyArgv (m .setup) (m .mem) argv .args) regs
+ArgsRead m (start form image name bytes lengths) mem regs = ArgsAt (m .setup) mem (m .setup .ustktop) (argsOf bytes lengths) regs
+ArgsRead m (replace form image name argv) mem regs = ArgsAt (m .setup) mem (m .setup .ustktop) (copyArgv (m .setup) (m .mem) argv .args) regs
 ArgsRead m (push pc top bytes lengths) mem regs = ArgsAt (m .setup) mem top (argsOf bytes lengths) regs
 ArgsRead m (break addr) mem regs = ⊥
 ArgsRead m (fork child segments) mem regs = ⊥

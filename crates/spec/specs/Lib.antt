@@ -8,7 +8,10 @@ pub mod Book
 pub mod Frames
 pub mod Sound
 pub mod Access
+pub mod Program
 pub mod Elf
+pub mod Aout
+pub mod Image
 pub mod Exec
 pub mod Segment
 pub mod Machine
@@ -19,3 +22,4 @@ pub mod Listing
 pub mod SetupText
 pub mod FlagsText
 pub mod Tables
+pub mod AoutPages

@@ -1,5 +1,6 @@
 -- The listing program: what it prints for an image. It is the reader's half of the scope that a user sees without starting a
--- process. It keeps the deposit machine's numbers and the built-in flag table.
+-- process. It reads ELF, and keeps the deposit machine's numbers and the
+-- built-in flag table.
 -- Assumes nothing.
 use Prim.Native.Nat.{ℕ, zero, suc, _+_, _/_, _%_}
 use mathlib.Core.List.{List, [], _∷_, _++_}
@@ -8,17 +9,19 @@ use Rattle.spec.specs.Tests.{_is_, _isnt_, _below_, _above_, _⇒_else_,
 use Rattle.spec.specs.Flags.{builtIn}
 use Rattle.spec.specs.Numbers.{deposit}
 use Rattle.spec.specs.Book.{pageCount}
-use Rattle.spec.specs.Elf.{entry, elfError}
-use Rattle.spec.specs.Exec.{imageError, imageSegments, imageBss, startPieces}
+use Rattle.spec.specs.Program.{Program}
+use Rattle.spec.specs.Elf.{elfError, elfProgram}
+use Rattle.spec.specs.Exec.{imageError, programSegments, programBss, startPieces}
 use Rattle.spec.specs.declared.UserSegment.{UserSegment}
 use Rattle.spec.specs.declared.VirtRange.{VirtRange}
+use Rattle.spec.specs.declared.Form.the-variants.{Elf}
 
 -- over 32,768 bytes 1; otherwise 11 to 27, 30 or 31; or 0
 unfoldable pub listError : List ℕ → ℕ
 listError image =
     length image above 32768 ⇒ 1 else
     elfError builtIn image isnt 0 ⇒ elfError builtIn image else
-    imageError deposit image
+    imageError deposit Elf image
 
 -- a number in decimal, of at most k digits; 20 digits hold every number below 2^64
 abbrev pub decimalOf : ℕ → ℕ → List ℕ
@@ -44,10 +47,15 @@ abbrev pub segmentLines : List UserSegment → List ℕ
 segmentLines [] = []
 segmentLines (g ∷ gs) = ascii "segment=" ++ kindText (g .perm) ++ rangeText (g .range) ++ segmentLines gs
 
--- a refusal's number; or entry; segments; bss; pages with stack
+-- entry; segments; bss; pages with stack
+abbrev pub programText : Program → List ℕ
+programText p =
+    (ascii "entry=" ++ decimal (p .entry) ++ 10 ∷ segmentLines (programSegments p)
+    ++ ascii "bss=" ++ rangeText (programBss p)
+    ++ ascii "pages=" ++ decimal (pageCount (startPieces deposit p)) ++ 10 ∷ [])
+
+-- a refusal's number; or the program
 unfoldable pub listing : List ℕ → List ℕ
 listing image =
     listError image isnt 0 ⇒ ascii "refused=" ++ decimal (listError image) ++ 10 ∷ [] else
-    (ascii "entry=" ++ decimal (entry image) ++ 10 ∷ segmentLines (imageSegments deposit image)
-    ++ ascii "bss=" ++ rangeText (imageBss deposit image)
-    ++ ascii "pages=" ++ decimal (pageCount (startPieces deposit image)) ++ 10 ∷ [])
+    programText (elfProgram builtIn image)

@@ -10,10 +10,12 @@ use Rattle.spec.specs.Numbers.{pageUp}
 use Rattle.spec.specs.Book.{valid, range, stack, sameSegment, dataOnly, pieces, pageCount}
 use Rattle.spec.specs.Frames.{Mem}
 use Rattle.spec.specs.Access.{userRangeOk, bytesAt, write, Str, copyStr}
-use Rattle.spec.specs.Elf.{entry}
-use Rattle.spec.specs.Exec.{imageError, imageSegments, imageBss, startPieces, loaded, argsOf, argsError, registers, pushOk, pushed, Argv, copyArgv}
+use Rattle.spec.specs.Program.{Program}
+use Rattle.spec.specs.Image.{programOf}
+use Rattle.spec.specs.Exec.{imageError, programSegments, programBss, startPieces, loaded, argsOf, argsError, registers, pushOk, pushed, Argv, copyArgv}
 use Rattle.spec.specs.Segment.{Break, ibrk, moved}
 use Rattle.spec.specs.declared.Setup.{Setup}
+use Rattle.spec.specs.declared.Form.{Form}
 use Rattle.spec.specs.declared.VirtRange.{VirtRange}
 use Rattle.spec.specs.declared.UserSegment.{UserSegment}
 use Rattle.spec.specs.declared.UserRegs.{UserRegs}
@@ -22,10 +24,10 @@ use Rattle.spec.specs.declared.Answer.the-variants.{Regs, Value, Done, R
 
 -- ---- calls and answers
 
--- the ten calls with their arguments: bytes of lent buffers and fork's lent list among them
+-- the ten calls with their arguments: bytes of lent buffers, fork's lent list, and the form of an image (02, 9/13) among them
 pub data Ask : Type 0 where
-  start : (image name bytes lengths : List ℕ) → Ask
-  replace : (image name : List ℕ) (argv : ℕ) → Ask
+  start : (form : Form) (image name bytes lengths : List ℕ) → Ask
+  replace : (form : Form) (image name : List ℕ) (argv : ℕ) → Ask
   push : (pc top : ℕ) (bytes lengths : List ℕ) → Ask
   break : (addr : ℕ) → Ask
   fork : (child : ℕ) (segments : List UserSegment) → Ask
@@ -91,8 +93,8 @@ valueOf (Ended number) = 0
 
 -- the buffer that a call is lent
 abbrev pub lent : Ask → List ℕ
-lent (start image name bytes lengths) = []
-lent (replace image name argv) = []
+lent (start form image name bytes lengths) = []
+lent (replace form image name argv) = []
 lent (push pc top bytes lengths) = []
 lent (break addr) = []
 lent (fork child segments) = []
@@ -127,8 +129,8 @@ off setup = record { setup = setup; segments = []; bss = range 0 0; mem = λ a. 
 
 -- 1: argument lengths sum to their bytes
 abbrev pub lengthsFit : Ask → Bool
-lengthsFit (start image name bytes lengths) = sum lengths is length bytes
-lengthsFit (replace image name argv) = true
+lengthsFit (start form image name bytes lengths) = sum lengths is length bytes
+lengthsFit (replace form image name argv) = true
 lengthsFit (push pc top bytes lengths) = sum lengths is length bytes
 lengthsFit (break addr) = true
 lengthsFit (fork child segments) = true
@@ -145,8 +147,8 @@ pub data Kind : Type 0 where
   plain : Kind
 
 abbrev pub kind : Ask → Kind
-kind (start image name bytes lengths) = begins
-kind (replace image name argv) = plain
+kind (start form image name bytes lengths) = begins
+kind (replace form image name argv) = plain
 kind (push pc top bytes lengths) = plain
 kind (break addr) = plain
 kind (fork child segments) = forks child segments
@@ -186,8 +188,8 @@ copied m = pageCount (dataOnly (pieces (m .segments) (m .bss)))
 
 -- 02, 10/13: whether a call is a replace, the only one that weighs the frames that its process holds alone
 abbrev pub replaces : Ask → Bool
-replaces (start image name bytes lengths) = false
-replaces (replace image name argv) = true
+replaces (start form image name bytes lengths) = false
+replaces (replace form image name argv) = true
 replaces (push pc top bytes lengths) = false
 replaces (break addr) = false
 replaces (fork child segments) = false
@@ -197,23 +199,23 @@ replaces (copy-from-user buffer src) = false
 replaces (copy-to-user dst bytes) = false
 replaces (try-copy-str-from-user buffer src) = false
 
--- start (`exec`): 32, 33 arguments, 30, 31, 33 frames
-abbrev pub weighStart : Setup → ℕ → List ℕ → List (List ℕ) → Answer
-weighStart setup free image args =
+-- start (`exec`), by its image's number and its program: 32, 33 arguments, 30, 31, 33 frames
+abbrev pub weighStart : Setup → ℕ → ℕ → Program → List (List ℕ) → Answer
+weighStart setup free error program args =
     argsError setup args isnt 0 ⇒ Refused (argsError setup args) else
-    imageError setup image isnt 0 ⇒ Refused (imageError setup image) else
-    pageCount (startPieces setup image) above free ⇒ Refused 33 else
-    Regs (registers (entry image) (setup .ustktop) args)
+    error isnt 0 ⇒ Refused error else
+    pageCount (startPieces setup program) above free ⇒ Refused 33 else
+    Regs (registers (program .entry) (setup .ustktop) args)
 
 -- replace (`sysexec` after reading): 30, 31, then `copy_argv`'s 35 or 33 in reading order, then 33 if the frames that it holds alone
 -- and the free ones don't suffice; 35 and the last 33 end the process
-abbrev pub weighReplace : Setup → ℕ → ℕ → List ℕ → Argv → Answer
-weighReplace setup free alone image read =
-    imageError setup image isnt 0 ⇒ Refused (imageError setup image) else
+abbrev pub weighReplace : Setup → ℕ → ℕ → ℕ → Program → Argv → Answer
+weighReplace setup free alone error program read =
+    error isnt 0 ⇒ Refused error else
     read .error is 35 ⇒ Ended 35 else
     read .error is 33 ⇒ Refused 33 else
-    pageCount (startPieces setup image) above alone + free ⇒ Ended 33 else
-    Regs (registers (entry image) (setup .ustktop) (read .args))
+    pageCount (startPieces setup program) above alone + free ⇒ Ended 33 else
+    Regs (registers (program .entry) (setup .ustktop) (read .args))
 
 -- push: 36, 32, 33, 35
 abbrev pub weighPush : Machine → ℕ → ℕ → List (List ℕ) → Answer
@@ -237,8 +239,8 @@ weighStr s =
 
 -- after 1 to 5, each call's own numbers in its order
 abbrev pub weigh : Machine → ℕ → ℕ → Ask → Reply
-weigh m free alone (start image name bytes lengths) = plainly (weighStart (m .setup) free image (argsOf bytes lengths))
-weigh m free alone (replace image name argv) = plainly (weighReplace (m .setup) free alone image (copyArgv (m .setup) (m .mem) argv))
+weigh m free alone (start form image name bytes lengths) = plainly (weighStart (m .setup) free (imageError (m .setup) form image) (programOf (m .setup) form image) (argsOf bytes lengths))
+weigh m free alone (replace form image name argv) = plainly (weighReplace (m .setup) free alone (imageError (m .setup) form image) (programOf (m .setup) form image) (copyArgv (m .setup) (m .mem) argv))
 weigh m free alone (push pc top bytes lengths) = plainly (weighPush m pc top (argsOf bytes lengths))
 weigh m free alone (break addr) = plainly (weighBreak (ibrk (m .setup) (some (m .bss)) addr free))
 weigh m free alone (fork child segments) = plainly (copied m above free ⇒ Refused 33 else Done)
@@ -267,13 +269,13 @@ judge m free alone taken c =
 abbrev pub withMem : Machine → Mem → Machine
 withMem m mem = record { setup = m .setup; segments = m .segments; bss = m .bss; mem = mem }
 
--- start: segments, bss and stack of an image, file bytes in place, 0 elsewhere; then the arguments pushed
-abbrev pub begun : Setup → List ℕ → List (List ℕ) → Machine
-begun setup image args = record {
+-- start: segments, bss and stack of a program, file bytes in place, 0 elsewhere; then the arguments pushed
+abbrev pub begun : Setup → Program → List (List ℕ) → Machine
+begun setup program args = record {
   setup = setup;
-  segments = imageSegments setup image ++ stack setup ∷ [];
-  bss = imageBss setup image;
-  mem = pushed (setup .ustktop) args (loaded setup image);
+  segments = programSegments program ++ stack setup ∷ [];
+  bss = programBss program;
+  mem = pushed (setup .ustktop) args (loaded setup program);
 }
 
 -- break: the bss end becomes `top`
@@ -282,8 +284,8 @@ movedTo top m = record { setup = m .setup; segments = m .segments; bss = range (
 
 -- an accepted call; fork, reads and checks make no change
 abbrev pub run : Machine → Ask → Machine
-run m (start image name bytes lengths) = begun (m .setup) image (argsOf bytes lengths)
-run m (replace image name argv) = begun (m .setup) image (copyArgv (m .setup) (m .mem) argv .args)
+run m (start form image name bytes lengths) = begun (m .setup) (programOf (m .setup) form image) (argsOf bytes lengths)
+run m (replace form image name argv) = begun (m .setup) (programOf (m .setup) form image) (copyArgv (m .setup) (m .mem) argv .args)
 run m (push pc top bytes lengths) = withMem m (pushed top (argsOf bytes lengths) (m .mem))
 run m (break addr) = addr is 0 ⇒ m else movedTo (pageUp addr) m
 run m (fork child segments) = m

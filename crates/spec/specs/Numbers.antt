@@ -1,4 +1,4 @@
--- The machine numbers (02, 5/13), whole pages, and little-endian numbers in bytes. Every rule below that needs a machine number or the
+-- The machine numbers (02, 5/13), whole pages, and numbers in bytes. Every rule below that needs a machine number or the
 -- flag table is handed the setup that has it.
 -- Assumes nothing.
 use Prim.Native.Nat.{ℕ, zero, suc, _+_, _*_, _-_, _/_, _%_, _^_, _≤_, _<_}
@@ -79,6 +79,11 @@ pageUp a = (a + 4095) / 4096 * 4096
 abbrev pub le : ℕ → List ℕ → ℕ → ℕ
 le zero s at = 0
 le (suc k) s at = getD s at 0 + 256 * le k s (at + 1)
+
+-- and big-endian
+abbrev pub be : ℕ → List ℕ → ℕ → ℕ
+be zero s at = 0
+be (suc k) s at = 256 ^ k * getD s at 0 + be k s (at + 1)
 
 -- a number as k bytes, little-endian
 abbrev pub leBytes : ℕ → ℕ → List ℕ

@@ -13,8 +13,9 @@ use Rattle.spec.specs.Name.{elem, kstrcpy}
 use Rattle.spec.specs.Book.{valid, frameOf, free, alone, dataOnly, range, segment, zeroSegment, zeroProc, lives, used, stack, piecesOf, procAt}
 use Rattle.spec.specs.Frames.{Store, store, sized, memOf, pagesOf, place, share, release, frameBytes, pokes}
 use Rattle.spec.specs.Sound.{soundBook}
-use Rattle.spec.specs.Elf.{segmentsOf}
-use Rattle.spec.specs.Exec.{imageSegments, imageBss, startPieces, fileByte, argsOf, strings, stringsAt, argvAt, pointers, copyArgv}
+use Rattle.spec.specs.Program.{Program}
+use Rattle.spec.specs.Image.{programOf}
+use Rattle.spec.specs.Exec.{programSegments, programBss, startPieces, fileByte, argsOf, strings, stringsAt, argvAt, pointers, copyArgv}
 use Rattle.spec.specs.Machine.{Ask, start, replace, push, break, fork, end, user-range-ok, copy-from-user, copy-to-user, try-copy-str-from-user, Call, Outcome, accepted, refused, ended, Reply, outcome, refuse, Machine, lengthsFit, replaces, judge}
 use Rattle.spec.specs.declared.Setup.{Setup}
 use Rattle.spec.specs.declared.Proc.{Proc}
@@ -87,20 +88,20 @@ pushIn m n top args = pokes (pokes m n (stringsAt top args) (strings args)) n (a
 abbrev pub forget : State → ℕ → State
 forget s n = record { setup = s .setup; store = release (s .store) n (λ page. true); procs = setProc (s .procs) n zeroProc }
 
--- the record of an image: its segments and the stack, the last element of a name, and its bss
-abbrev pub procOf : Setup → List ℕ → List ℕ → Proc
-procOf setup image name = record {
-  segments = imageSegments setup image ++ stack setup ∷ replicate (15 - length (imageSegments setup image)) zeroSegment;
+-- the record of a program: its segments and the stack, the last element of a name, and its bss
+abbrev pub procOf : Setup → Program → List ℕ → Proc
+procOf setup program name = record {
+  segments = programSegments program ++ stack setup ∷ replicate (15 - length (programSegments program)) zeroSegment;
   text = kstrcpy (elem name);
-  bss = imageBss setup image;
+  bss = programBss program;
 }
 
--- an image's pages, ascending, then its arguments; and its record
-abbrev pub load : State → ℕ → List ℕ → List ℕ → List (List ℕ) → State
-load s n image name args = record {
+-- a program's pages, ascending, then its arguments; and its record
+abbrev pub load : State → ℕ → Program → List ℕ → List (List ℕ) → State
+load s n program name args = record {
   setup = s .setup;
-  store = pushIn (place (s .store) n (pagesOf (pageBytes (fileByte (segmentsOf (s .setup .flags) image))) (startPieces (s .setup) image))) n (s .setup .ustktop) args;
-  procs = setProc (s .procs) n (procOf (s .setup) image name);
+  store = pushIn (place (s .store) n (pagesOf (pageBytes (fileByte (program .segments))) (startPieces (s .setup) program))) n (s .setup .ustktop) args;
+  procs = setProc (s .procs) n (procOf (s .setup) program name);
 }
 
 -- the bss end moves to `top`: pages past it are freed, new ones are zeroed
@@ -129,8 +130,8 @@ withStore s m = record { setup = s .setup; store = m; procs = s .procs }
 
 -- an accepted call; replace frees the old pages first, and has read its arguments before
 abbrev pub settle : State → ℕ → Ask → State
-settle s n (start image name bytes lengths) = load s n image name (argsOf bytes lengths)
-settle s n (replace image name argv) = load (forget s n) n image name (copyArgv (s .setup) (view s n .mem) argv .args)
+settle s n (start form image name bytes lengths) = load s n (programOf (s .setup) form image) name (argsOf bytes lengths)
+settle s n (replace form image name argv) = load (forget s n) n (programOf (s .setup) form image) name (copyArgv (s .setup) (view s n .mem) argv .args)
 settle s n (push pc top bytes lengths) = withStore s (pushIn (s .store) n top (argsOf bytes lengths))
 settle s n (break addr) = addr is 0 ⇒ s else brk s n (procAt (s .procs) n) (pageUp addr)
 settle s n (fork child segments) = copy s n child (procAt (s .procs) n)

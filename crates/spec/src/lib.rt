@@ -32,7 +32,7 @@ pub const RODATA: u64 = 2;
 
 pub const DATA: u64 = 3;
 
-// The numbers of refusals that calls give, but for the image's own, which are ElfError's.
+// The numbers of refusals, but for the ELF reader's own, which are ElfError's.
 pub const SIZES: u64 = 1;
 
 pub const TORN: u64 = 2;
@@ -48,6 +48,10 @@ pub const SETUP_LINES: u64 = 37;
 pub const SETUP: u64 = 38;
 
 pub const FLAGS: u64 = 39;
+
+pub const NOT_AOUT: u64 = 42;
+
+pub const AOUT_OUT_OF_RANGE: u64 = 43;
 
 pub const EBADEXEC: u64 = 30;
 
@@ -127,7 +131,13 @@ pub enum Found {
     Nothing,
 }
 
-// Why an image isn't a loadable executable, in the order of the numbers 11 to 27.
+// The form that an image is read in: ELF, or Plan 9's a.out, with the magic that is expected.
+pub enum Form {
+    Elf,
+    Aout(u32),
+}
+
+// Why an ELF image isn't a loadable executable, in the order of the numbers 11 to 27.
 pub enum ElfError {
     // Shorter than an ELF header.
     Truncated,

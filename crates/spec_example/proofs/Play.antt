@@ -1,5 +1,5 @@
--- Short histories on the 184-byte image, computed under a small setup: a process starts, writes, breaks and forks, and parent and child
--- differ afterwards; frames are few and text is shared; and setups that are turned away.
+-- Short histories on the 184-byte image and an a.out, computed under a small setup: a process starts, writes, breaks and forks, and
+-- parent and child differ afterwards; frames are few and text is shared; and setups that are turned away.
 use mathlib.Core.Path.{_≡_, refl}
 use mathlib.Core.Bool.{true, false}
 use mathlib.Core.List.{List, [], _∷_, map}
@@ -12,12 +12,14 @@ use Rattle.spec.specs.Book.{zeroProc, segment, stack}
 use Rattle.spec.specs.Frames.{place, share, release, pokes}
 use Rattle.spec.specs.Sound.{soundBook}
 use Rattle.spec.specs.Elf.{ehdrError, phdrs, phdrError, segmentsOf, elfError}
+use Rattle.spec.specs.Aout.{aoutError}
 use Rattle.spec.specs.Exec.{argBuffer, copyArgv}
 use Rattle.spec.specs.Segment.{ibrk}
 use Rattle.spec.specs.Machine.{start, replace, break, fork, end, user-range-ok, copy-from-user, copy-to-user, try-copy-str-from-user, Call, call, Reply, numberOf, valueOf, judge}
 use Rattle.spec.specs.World.{State, answer, after}
 use Rattle.spec.specs.declared.Setup.{Setup}
-use Rattle.spec.proofs.Examples.{image184}
+use Rattle.spec.specs.declared.Form.the-variants.{Elf, Aout}
+use Rattle.spec.proofs.Examples.{image184, aout}
 
 -- a school's setup: 1 MB of addresses, one page of stack
 abbrev school : Setup
@@ -42,7 +44,7 @@ told r = numberOf (r .says) ∷ valueOf (r .says) ∷ r .buffer
 -- writes its own byte and reads its own; the break shrinks inside a page and the tail stays; a string is read; a bad range ends the child
 abbrev calls : List Call
 calls =
-    call 1 (start image184 (ascii "bin/lex") (ascii "lexmot") (3 ∷ 3 ∷ []))
+    call 1 (start Elf image184 (ascii "bin/lex") (ascii "lexmot") (3 ∷ 3 ∷ []))
     ∷ call 1 (copy-from-user (replicate 6 9) 69812)
     ∷ call 1 (copy-to-user 73730 (5 ∷ 6 ∷ []))
     ∷ call 1 (break 77825)
@@ -71,8 +73,8 @@ played = refl
 
 -- a break one page past its limit, and to it, which wants more frames; its last byte and an empty range one past it, a start with arguments over a quarter of its stack
 pub at-school : map told (play (fresh school 4)
-    (call 1 (start image184 (ascii "bin/lex") (replicate 1000 7) (1000 ∷ []))
-    ∷ call 1 (start image184 (ascii "bin/lex") (replicate 999 7) (999 ∷ []))
+    (call 1 (start Elf image184 (ascii "bin/lex") (replicate 1000 7) (1000 ∷ []))
+    ∷ call 1 (start Elf image184 (ascii "bin/lex") (replicate 999 7) (999 ∷ []))
     ∷ call 1 (break 1044480)
     ∷ call 1 (break 1040384)
     ∷ call 1 (user-range-ok 1048575 1 true)
@@ -87,26 +89,27 @@ at-school = refl
 abbrev forked : Call
 forked = call 1 (fork 2 (segment 65536 69632 1 ∷ segment 69632 73728 3 ∷ stack school ∷ []))
 
--- the image's text as its process reads it, and a replace with no arguments
+-- the first bytes of a process's text, which are its image's; and a replace by an a.out of as many pages (02, 9/13), with no arguments
 abbrev text : ℕ → Call
 text n = call n (copy-from-user (replicate 4 9) 65536)
 
 abbrev again : Call
-again = call 2 (replace image184 (ascii "bin/lex") (school .ustktop - 8))
+again = call 2 (replace (Aout 3143) (aout 8 8 8000 65568) (ascii "bin/lex") (school .ustktop - 8))
 
 abbrev begin : Call
-begin = call 1 (start image184 (ascii "bin/lex") [] [])
+begin = call 1 (start Elf image184 (ascii "bin/lex") [] [])
 
 -- a start takes four frames, a fork three more
 pub too-few : map told (play (fresh school 6) (begin ∷ forked ∷ [])) ≡ (0 ∷ 0 ∷ []) ∷ (33 ∷ 0 ∷ []) ∷ []
 unfolding setupOk flagsOk setupError ehdrError phdrs phdrError segmentsOf elfError ibrk argBuffer copyArgv place share release pokes soundBook pageBytes zeroPage judge answer after
 too-few = refl
 
--- a child that replaces its image wants four, and holds three alone: it ends. Once its parent has ended, a child has the text alone
-pub shared : map told (play (fresh school 7) (begin ∷ forked ∷ text 1 ∷ text 2 ∷ again ∷ text 2 ∷ forked ∷ call 1 end ∷ text 2 ∷ again ∷ text 2 ∷ []))
+-- a child that replaces its image wants four, and holds three alone: it ends. Once its parent has ended, a child has the text alone, and
+-- becomes the a.out, whose text begins with its magic, and whose data begin at the next page
+pub shared : map told (play (fresh school 7) (begin ∷ forked ∷ text 1 ∷ text 2 ∷ again ∷ text 2 ∷ forked ∷ call 1 end ∷ text 2 ∷ again ∷ text 2 ∷ call 2 (copy-from-user (replicate 4 9) 69630) ∷ []))
     ≡ (0 ∷ 0 ∷ []) ∷ (0 ∷ 0 ∷ []) ∷ (0 ∷ 0 ∷ 127 ∷ 69 ∷ 76 ∷ 70 ∷ []) ∷ (0 ∷ 0 ∷ 127 ∷ 69 ∷ 76 ∷ 70 ∷ []) ∷ (33 ∷ 0 ∷ []) ∷ (4 ∷ 0 ∷ 9 ∷ 9 ∷ 9 ∷ 9 ∷ [])
-    ∷ (0 ∷ 0 ∷ []) ∷ (0 ∷ 0 ∷ []) ∷ (0 ∷ 0 ∷ 127 ∷ 69 ∷ 76 ∷ 70 ∷ []) ∷ (0 ∷ 0 ∷ []) ∷ (0 ∷ 0 ∷ 127 ∷ 69 ∷ 76 ∷ 70 ∷ []) ∷ []
-unfolding setupOk flagsOk setupError ehdrError phdrs phdrError segmentsOf elfError ibrk argBuffer copyArgv place share release pokes soundBook pageBytes zeroPage judge answer after
+    ∷ (0 ∷ 0 ∷ []) ∷ (0 ∷ 0 ∷ []) ∷ (0 ∷ 0 ∷ 127 ∷ 69 ∷ 76 ∷ 70 ∷ []) ∷ (0 ∷ 0 ∷ []) ∷ (0 ∷ 0 ∷ 0 ∷ 0 ∷ 12 ∷ 71 ∷ []) ∷ (0 ∷ 0 ∷ 0 ∷ 0 ∷ 187 ∷ 187 ∷ []) ∷ []
+unfolding setupOk flagsOk setupError ehdrError phdrs phdrError segmentsOf elfError aoutError ibrk argBuffer copyArgv place share release pokes soundBook pageBytes zeroPage judge answer after
 shared = refl
 
 -- ---- bad setups
@@ -122,10 +125,10 @@ bad = record { utzero = 65536; ustktop = 1048576; ustksize = 4095; uaddrtop = 10
 abbrev worse : Setup
 worse = record { utzero = 65536; ustktop = 1048576; ustksize = 4096; uaddrtop = 1048576; flags = sevenData }
 
-pub turned-away : map told (play (fresh bad 16) (call 1 (start image184 [] [] (1 ∷ [])) ∷ call 17 end ∷ [])) ≡ (1 ∷ 0 ∷ []) ∷ (38 ∷ 0 ∷ []) ∷ []
+pub turned-away : map told (play (fresh bad 16) (call 1 (start Elf image184 [] [] (1 ∷ [])) ∷ call 17 end ∷ [])) ≡ (1 ∷ 0 ∷ []) ∷ (38 ∷ 0 ∷ []) ∷ []
 unfolding setupOk flagsOk setupError judge answer after
 turned-away = refl
 
-pub table-turned-away : map told (play (fresh worse 16) (call 1 (start image184 [] [] (1 ∷ [])) ∷ call 1 (start image184 [] [] []) ∷ call 17 end ∷ [])) ≡ (1 ∷ 0 ∷ []) ∷ (39 ∷ 0 ∷ []) ∷ (39 ∷ 0 ∷ []) ∷ []
+pub table-turned-away : map told (play (fresh worse 16) (call 1 (start Elf image184 [] [] (1 ∷ [])) ∷ call 1 (start Elf image184 [] [] []) ∷ call 17 end ∷ [])) ≡ (1 ∷ 0 ∷ []) ∷ (39 ∷ 0 ∷ []) ∷ (39 ∷ 0 ∷ []) ∷ []
 unfolding setupOk flagsOk setupError judge answer after
 table-turned-away = refl

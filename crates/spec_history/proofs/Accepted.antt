@@ -12,7 +12,8 @@ use Rattle.spec.specs.Tests.{_is_, _isnt_, _below_, _above_, _⇒_else_}
 use Rattle.spec.specs.Numbers.{limit, pageUp}
 use Rattle.spec.specs.Book.{valid, free, alone, pageCount}
 use Rattle.spec.specs.Access.{userRangeOk}
-use Rattle.spec.specs.Elf.{entry}
+use Rattle.spec.specs.Program.{Program}
+use Rattle.spec.specs.Image.{programOf}
 use Rattle.spec.specs.Exec.{imageError, startPieces, argsOf, argsError, registers, pushOk, Argv, copyArgv}
 use Rattle.spec.specs.Segment.{Break, refusedBy, endsAt, ibrk}
 use Rattle.spec.specs.Machine.{Ask, start, replace, push, break, fork, end, copy-to-user, Call, Outcome, accepted, refused, ended, outcome, outcomeOf, copied}
@@ -23,7 +24,9 @@ use Rattle.spec.specs.declared.UserRegs.{UserRegs}
 use Rattle.spec.specs.declared.Answer.{Answer}
 use Rattle.spec.specs.declared.Answer.the-variants.{Regs, Value, Done, Refused, Ended}
 use Rattle.spec.specs.declared.Setup.{Setup}
-use Rattle.spec_history.proofs.Passed.{Good, answered, accepted≢, Passed, passed}
+use Rattle.spec.specs.declared.Form.{Form}
+use Rattle.spec_laws.proofs.Accepted.{Accepted, accepted-means}
+use Rattle.spec_history.proofs.Passed.{Good, good-setup, answered, accepted≢, Passed, passed}
 
 -- ---- any call
 
@@ -56,24 +59,25 @@ zero-is k e = eqb-true k 0 (un-not (k is 0) e)
 
 -- ---- start
 
-pub record Starts (s : State) (n : ℕ) (image : List ℕ) (args : List (List ℕ)) : Type 0 where
+pub record Starts (s : State) (n : ℕ) (program : Program) (args : List (List ℕ)) : Type 0 where
   pub number : valid n ≡ true
   pub dead : taken s n ≡ false
   pub args-fit : argsError (s .setup) args ≡ 0
-  pub image-fits : imageError (s .setup) image ≡ 0
-  pub room : pageCount (startPieces (s .setup) image) ≤ free (s .store .book)
+  pub program-fits : Accepted (s .setup) program
+  pub room : pageCount (startPieces (s .setup) program) ≤ free (s .store .book)
 
-pub starts : (s : State) → Good s → (n : ℕ) (image name bytes lengths : List ℕ) → Accepts s n (start image name bytes lengths) → Starts s n image (argsOf bytes lengths)
-starts s g n image name bytes lengths e =
+pub starts : (s : State) → Good s → (n : ℕ) (form : Form) (image name bytes lengths : List ℕ) → Accepts s n (start form image name bytes lengths) → Starts s n (programOf (s .setup) form image) (argsOf bytes lengths)
+starts s g n form image name bytes lengths e =
+    let program : Program = programOf (s .setup) form image in
     let args : List (List ℕ) = argsOf bytes lengths in
-    let w = went s g n (start image name bytes lengths) e in
-    let a₃ : Answer = Regs (registers (entry image) (s .setup .ustktop) args) in
-    let a₂ : Answer = pageCount (startPieces (s .setup) image) above free (s .store .book) ⇒ Refused 33 else a₃ in
-    let a₁ : Answer = imageError (s .setup) image isnt 0 ⇒ Refused (imageError (s .setup) image) else a₂ in
+    let w = went s g n (start form image name bytes lengths) e in
+    let a₃ : Answer = Regs (registers (program .entry) (s .setup .ustktop) args) in
+    let a₂ : Answer = pageCount (startPieces (s .setup) program) above free (s .store .book) ⇒ Refused 33 else a₃ in
+    let a₁ : Answer = imageError (s .setup) form image isnt 0 ⇒ Refused (imageError (s .setup) form image) else a₂ in
     let p₁ = past Goes (argsError (s .setup) args isnt 0) (Refused (argsError (s .setup) args)) a₁ (w .weighed) refused-not in
-    let p₂ = past Goes (imageError (s .setup) image isnt 0) (Refused (imageError (s .setup) image)) a₂ (p₁ .1) refused-not in
-    let p₃ = past Goes (pageCount (startPieces (s .setup) image) above free (s .store .book)) (Refused 33) a₃ (p₂ .1) refused-not in
-    record { number = w .number; dead = not-true (taken s n) (w .new); args-fit = zero-is _ (p₁ .0); image-fits = zero-is _ (p₂ .0); room = ltb-false _ _ (p₃ .0) }
+    let p₂ = past Goes (imageError (s .setup) form image isnt 0) (Refused (imageError (s .setup) form image)) a₂ (p₁ .1) refused-not in
+    let p₃ = past Goes (pageCount (startPieces (s .setup) program) above free (s .store .book)) (Refused 33) a₃ (p₂ .1) refused-not in
+    record { number = w .number; dead = not-true (taken s n) (w .new); args-fit = zero-is _ (p₁ .0); program-fits = accepted-means (s .setup) (good-setup s g) form image (zero-is _ (p₂ .0)); room = ltb-false _ _ (p₃ .0) }
 
 -- a start ends nobody
 never-ended : (a b c : Bool) (x y z : ℕ) (r : UserRegs) → outcomeOf (a ⇒ Refused x else b ⇒ Refused y else c ⇒ Refused z else Regs r) ≡ ended → ⊥
@@ -82,35 +86,37 @@ never-ended false true c x y z r e = let u : _≡_ {A = ℕ} 0 1 = cc in omega a
 never-ended false false true x y z r e = let u : _≡_ {A = ℕ} 0 1 = cc in omega arith
 never-ended false false false x y z r e = let u : _≡_ {A = ℕ} 0 1 = cc in omega arith
 
-pub start-ends-nobody : (s : State) → Good s → (n : ℕ) (image name bytes lengths : List ℕ) → outcome (answer s (record { number = n; ask = start image name bytes lengths })) ≡ ended → ⊥
-start-ends-nobody s g n image name bytes lengths e =
+pub start-ends-nobody : (s : State) → Good s → (n : ℕ) (form : Form) (image name bytes lengths : List ℕ) → outcome (answer s (record { number = n; ask = start form image name bytes lengths })) ≡ ended → ⊥
+start-ends-nobody s g n form image name bytes lengths e =
+    let program : Program = programOf (s .setup) form image in
     let args : List (List ℕ) = argsOf bytes lengths in
-    let w = not-refused s g (record { number = n; ask = start image name bytes lengths }) ended e (λ z. let u : _≡_ {A = ℕ} 0 1 = cc in omega arith) in
-    never-ended (argsError (s .setup) args isnt 0) (imageError (s .setup) image isnt 0) (pageCount (startPieces (s .setup) image) above free (s .store .book)) (argsError (s .setup) args) (imageError (s .setup) image) 33 (registers (entry image) (s .setup .ustktop) args) (w .weighed)
+    let w = not-refused s g (record { number = n; ask = start form image name bytes lengths }) ended e (λ z. let u : _≡_ {A = ℕ} 0 1 = cc in omega arith) in
+    never-ended (argsError (s .setup) args isnt 0) (imageError (s .setup) form image isnt 0) (pageCount (startPieces (s .setup) program) above free (s .store .book)) (argsError (s .setup) args) (imageError (s .setup) form image) 33 (registers (program .entry) (s .setup .ustktop) args) (w .weighed)
 
 -- ---- replace
 
-pub record Replaces (s : State) (n : ℕ) (image : List ℕ) (argv : ℕ) : Type 0 where
+pub record Replaces (s : State) (n : ℕ) (program : Program) (argv : ℕ) : Type 0 where
   pub number : valid n ≡ true
   pub living : taken s n ≡ true
-  pub image-fits : imageError (s .setup) image ≡ 0
+  pub program-fits : Accepted (s .setup) program
   pub readable : (copyArgv (s .setup) (view s n .mem) argv .error is 35) ≡ false
   pub within-limit : (copyArgv (s .setup) (view s n .mem) argv .error is 33) ≡ false
-  pub room : pageCount (startPieces (s .setup) image) ≤ alone (s .store .book) n + free (s .store .book)
+  pub room : pageCount (startPieces (s .setup) program) ≤ alone (s .store .book) n + free (s .store .book)
 
-pub replaces : (s : State) → Good s → (n : ℕ) (image name : List ℕ) (argv : ℕ) → Accepts s n (replace image name argv) → Replaces s n image argv
-replaces s g n image name argv e =
-    let w = went s g n (replace image name argv) e in
+pub replaces : (s : State) → Good s → (n : ℕ) (form : Form) (image name : List ℕ) (argv : ℕ) → Accepts s n (replace form image name argv) → Replaces s n (programOf (s .setup) form image) argv
+replaces s g n form image name argv e =
+    let program : Program = programOf (s .setup) form image in
+    let w = went s g n (replace form image name argv) e in
     let read : Argv = copyArgv (s .setup) (view s n .mem) argv in
-    let a₄ : Answer = Regs (registers (entry image) (s .setup .ustktop) (read .args)) in
-    let a₃ : Answer = pageCount (startPieces (s .setup) image) above alone (s .store .book) n + free (s .store .book) ⇒ Ended 33 else a₄ in
+    let a₄ : Answer = Regs (registers (program .entry) (s .setup .ustktop) (read .args)) in
+    let a₃ : Answer = pageCount (startPieces (s .setup) program) above alone (s .store .book) n + free (s .store .book) ⇒ Ended 33 else a₄ in
     let a₂ : Answer = read .error is 33 ⇒ Refused 33 else a₃ in
     let a₁ : Answer = read .error is 35 ⇒ Ended 35 else a₂ in
-    let p₁ = past Goes (imageError (s .setup) image isnt 0) (Refused (imageError (s .setup) image)) a₁ (w .weighed) refused-not in
+    let p₁ = past Goes (imageError (s .setup) form image isnt 0) (Refused (imageError (s .setup) form image)) a₁ (w .weighed) refused-not in
     let p₂ = past Goes (read .error is 35) (Ended 35) a₂ (p₁ .1) ended-not in
     let p₃ = past Goes (read .error is 33) (Refused 33) a₃ (p₂ .1) refused-not in
-    let p₄ = past Goes (pageCount (startPieces (s .setup) image) above alone (s .store .book) n + free (s .store .book)) (Ended 33) a₄ (p₃ .1) ended-not in
-    record { number = w .number; living = w .lives; image-fits = zero-is _ (p₁ .0); readable = p₂ .0; within-limit = p₃ .0; room = ltb-false _ _ (p₄ .0) }
+    let p₄ = past Goes (pageCount (startPieces (s .setup) program) above alone (s .store .book) n + free (s .store .book)) (Ended 33) a₄ (p₃ .1) ended-not in
+    record { number = w .number; living = w .lives; program-fits = accepted-means (s .setup) (good-setup s g) form image (zero-is _ (p₁ .0)); readable = p₂ .0; within-limit = p₃ .0; room = ltb-false _ _ (p₄ .0) }
 
 -- ---- push
 

@@ -15,17 +15,20 @@ use Rattle.spec.specs.Tests.{_is_, _isnt_, _above_, _⇒_else_}
 use Rattle.spec.specs.Numbers.{SetupOk, pageDown}
 use Rattle.spec.specs.Book.{free, alone, stack, bssSegment, permAt, pageCount}
 use Rattle.spec.specs.Access.{cellOk, userRangeOk, bytesAt, Str, copyStr}
-use Rattle.spec.specs.Elf.{segmentsOf, entry}
-use Rattle.spec.specs.Exec.{imageError, imageSegments, imageBss, startPieces, fileByte, cellOf, loaded, argsOf, strings, argsError, stringsAt, argvAt, belowZero, registers, pushOk, Argv, copyArgv}
+use Rattle.spec.specs.Program.{Program}
+use Rattle.spec.specs.Image.{programOf}
+use Rattle.spec.specs.Exec.{imageError, programSegments, programBss, startPieces, fileByte, cellOf, loaded, argsOf, strings, argsError, stringsAt, argvAt, belowZero, registers, pushOk, Argv, copyArgv}
 use Rattle.spec.specs.Segment.{Break, ibrk}
 use Rattle.spec.specs.Machine.{Ask, start, replace, push, break, fork, end, user-range-ok, copy-from-user, copy-to-user, try-copy-str-from-user, Call, begins, plain, Outcome, accepted, Reply, outcome, outcomeOf, Machine, copied, weigh, run}
 use Rattle.spec.specs.World.{State, taken, view, aloneFor, answer, after}
 use Rattle.spec.specs.History.{put, ArgsRead}
 use Rattle.spec.specs.declared.Setup.{Setup}
+use Rattle.spec.specs.declared.Form.{Form}
 use Rattle.spec.specs.declared.UserSegment.{UserSegment}
 use Rattle.spec.specs.declared.UserRegs.{UserRegs}
 use Rattle.spec.specs.declared.Answer.{Answer}
 use Rattle.spec.specs.declared.Answer.the-variants.{Regs, Value, Done, Refused, Ended}
+use Rattle.spec_laws.proofs.Accepted.{Accepted}
 use Rattle.spec_laws.proofs.Allowed.{cell-page}
 use Rattle.spec_laws.proofs.Argv.{argv-fits}
 use Rattle.spec_laws.proofs.Pieces.{Pieces, perm-page, perm-tail, perm-here}
@@ -35,7 +38,7 @@ use Rattle.spec_history.proofs.Whole.{effect}
 use Rattle.spec_history.proofs.Accepted.{not-refused, starts, replaces, pushes}
 use Rattle.spec_history.proofs.EachCall.{each-call}
 
--- ---- the stack of a loaded image may be written
+-- ---- the stack of a loaded program may be written
 
 -- an address of a later piece is of no earlier one
 behind : (gs hs : List UserSegment) (a q : ℕ) → Pieces (gs ++ hs) → permAt hs a ≡ some q → permAt (gs ++ hs) a ≡ some q
@@ -46,13 +49,13 @@ later-pieces : (gs hs : List UserSegment) → Pieces (gs ++ hs) → Pieces hs
 later-pieces [] hs p = p
 later-pieces (g ∷ gs) hs p = later-pieces gs hs (p .1)
 
-module _ (setup : Setup) (set : SetupOk setup) (image : List ℕ) (ok : imageError setup image ≡ 0) where
-  stack-perm : (a : ℕ) → setup .ustktop - setup .ustksize ≤ a → a < setup .ustktop → permAt (startPieces setup image) a ≡ some 3
+module _ (setup : Setup) (set : SetupOk setup) (program : Program) (ok : Accepted setup program) where
+  stack-perm : (a : ℕ) → setup .ustktop - setup .ustksize ≤ a → a < setup .ustktop → permAt (startPieces setup program) a ≡ some 3
   stack-perm a l h =
-      let p = start-apart setup set image ok in
-      let q = later-pieces (imageSegments setup image) (bssSegment (imageBss setup image) ∷ stack setup ∷ []) p in
-      behind (imageSegments setup image) (bssSegment (imageBss setup image) ∷ stack setup ∷ []) a 3 p
-      (perm-tail (bssSegment (imageBss setup image)) (stack setup ∷ []) a 3 (q .0) (perm-here (stack setup) [] a (within-test (setup .ustktop - setup .ustksize) (setup .ustktop) a l h)))
+      let p = start-apart setup set program ok in
+      let q = later-pieces (programSegments program) (bssSegment (programBss program) ∷ stack setup ∷ []) p in
+      behind (programSegments program) (bssSegment (programBss program) ∷ stack setup ∷ []) a 3 p
+      (perm-tail (bssSegment (programBss program)) (stack setup ∷ []) a 3 (q .0) (perm-here (stack setup) [] a (within-test (setup .ustktop - setup .ustksize) (setup .ustktop) a l h)))
 
   writable : (b : ℕ) (o : Option ℕ) → o ≡ some 3 → cellOk true (cellOf b o) ≡ true
   writable b o e = rw e refl
@@ -61,38 +64,38 @@ module _ (setup : Setup) (set : SetupOk setup) (image : List ℕ) (ok : imageErr
   by-perm b d none = refl
   by-perm b d (some q) = refl
 
-  by-page : (a : ℕ) → cellOk true (loaded setup image a) ≡ cellOk true (loaded setup image (pageDown a))
+  by-page : (a : ℕ) → cellOk true (loaded setup program a) ≡ cellOk true (loaded setup program (pageDown a))
   by-page a =
-      by-perm (fileByte (segmentsOf (setup .flags) image) a) (fileByte (segmentsOf (setup .flags) image) (pageDown a)) (permAt (startPieces setup image) a)
-      ∙ ap (λ (o : Option ℕ). cellOk true (cellOf (fileByte (segmentsOf (setup .flags) image) (pageDown a)) o)) (sym (perm-page (startPieces setup image) a (start-apart setup set image ok)))
+      by-perm (fileByte (program .segments) a) (fileByte (program .segments) (pageDown a)) (permAt (startPieces setup program) a)
+      ∙ ap (λ (o : Option ℕ). cellOk true (cellOf (fileByte (program .segments) (pageDown a)) o)) (sym (perm-page (startPieces setup program) a (start-apart setup set program ok)))
 
-  stack-range : (addr len : ℕ) → setup .ustktop - setup .ustksize ≤ addr → addr + len ≤ setup .ustktop → InRange setup (loaded setup image) true addr len
+  stack-range : (addr len : ℕ) → setup .ustktop - setup .ustksize ≤ addr → addr + len ≤ setup .ustktop → InRange setup (loaded setup program) true addr len
   stack-range addr len l h = record {
     top = omega arith;
-    each = λ a x y. writable _ (permAt (startPieces setup image) (pageDown a)) (stack-perm (pageDown a) (omega arith) (omega arith));
+    each = λ a x y. writable _ (permAt (startPieces setup program) (pageDown a)) (stack-perm (pageDown a) (omega arith) (omega arith));
   }
 
-  no-bytes : (addr len : ℕ) → len ≡ 0 → addr ≤ setup .uaddrtop → userRangeOk setup (loaded setup image) true addr len ≡ true
+  no-bytes : (addr len : ℕ) → len ≡ 0 → addr ≤ setup .uaddrtop → userRangeOk setup (loaded setup program) true addr len ≡ true
   no-bytes addr len z h = rw (le-ltb (setup .uaddrtop) (addr + len) (omega arith), eq-eqb len 0 z) refl
 
   some-byte : (k : ℕ) → (k ≡ 0 → ⊥) → 1 ≤ k
   some-byte zero nz = absurd (nz refl)
   some-byte (suc k) nz = omega arith
 
-  stacked : (args : List (List ℕ)) → argsError setup args ≡ 0 → Stacked setup image args
+  stacked : (args : List (List ℕ)) → argsError setup args ≡ 0 → Stacked setup program args
   stacked args e = record {
     accepted = set;
     whole = by-page;
     fit = e;
     room =
         let small = args-means setup args e .1 in
-        and-test (not (belowZero (setup .ustktop) args) && userRangeOk setup (loaded setup image) true (stringsAt (setup .ustktop) args) (length (strings args))) (userRangeOk setup (loaded setup image) true (argvAt (setup .ustktop) args) (8 * (length args + 1)))
-        (and-test (not (belowZero (setup .ustktop) args)) (userRangeOk setup (loaded setup image) true (stringsAt (setup .ustktop) args) (length (strings args)))
+        and-test (not (belowZero (setup .ustktop) args) && userRangeOk setup (loaded setup program) true (stringsAt (setup .ustktop) args) (length (strings args))) (userRangeOk setup (loaded setup program) true (argvAt (setup .ustktop) args) (8 * (length args + 1)))
+        (and-test (not (belowZero (setup .ustktop) args)) (userRangeOk setup (loaded setup program) true (stringsAt (setup .ustktop) args) (length (strings args)))
         (not-false (belowZero (setup .ustktop) args) (le-ltb (stringsAt (setup .ustktop) args / 8 * 8) (8 * (length args + 1)) (omega arith)))
         (split (length (strings args) is 0)
         (λ z. no-bytes (stringsAt (setup .ustktop) args) (length (strings args)) (eqb-true _ _ z) (omega arith))
-        (λ z. range-all setup (loaded setup image) true (stringsAt (setup .ustktop) args) (length (strings args)) (some-byte _ (eqb-false (length (strings args)) 0 z)) (stack-range _ _ (omega arith) (omega arith)))))
-        (range-all setup (loaded setup image) true (argvAt (setup .ustktop) args) (8 * (length args + 1)) (omega arith) (stack-range _ _ (omega arith) (omega arith)));
+        (λ z. range-all setup (loaded setup program) true (stringsAt (setup .ustktop) args) (length (strings args)) (some-byte _ (eqb-false (length (strings args)) 0 z)) (stack-range _ _ (omega arith) (omega arith)))))
+        (range-all setup (loaded setup program) true (argvAt (setup .ustktop) args) (8 * (length args + 1)) (omega arith) (stack-range _ _ (omega arith) (omega arith)));
   }
 
 -- ---- answers with registers
@@ -145,41 +148,43 @@ module _ (s : State) (g : Good s) (n : ℕ) (regs : UserRegs) where
   finish q told seen are r =
       subst (λ (m : Machine). ArgsRead (view s n) q (m .mem) regs) (sym seen) (subst (λ (x : UserRegs). ArgsRead (view s n) q (run (view s n) q .mem) x) are r)
 
-  of-start : (image name bytes lengths : List ℕ) → Answers (start image name bytes lengths)
-      → ArgsRead (view s n) (start image name bytes lengths) (view (after s (call (start image name bytes lengths))) n .mem) regs
+  of-start : (form : Form) (image name bytes lengths : List ℕ) → Answers (start form image name bytes lengths)
+      → ArgsRead (view s n) (start form image name bytes lengths) (view (after s (call (start form image name bytes lengths))) n .mem) regs
   unfolding effect
-  of-start image name bytes lengths e =
-      let q : Ask = start image name bytes lengths in
+  of-start form image name bytes lengths e =
+      let q : Ask = start form image name bytes lengths in
+      let program : Program = programOf (s .setup) form image in
       let args : List (List ℕ) = argsOf bytes lengths in
-      let p = starts s g n image name bytes lengths (goes q e) in
-      let a₃ : Answer = Regs (registers (entry image) (s .setup .ustktop) args) in
-      let a₂ : Answer = pageCount (startPieces (s .setup) image) above free (s .store .book) ⇒ Refused 33 else a₃ in
-      let a₁ : Answer = imageError (s .setup) image isnt 0 ⇒ Refused (imageError (s .setup) image) else a₂ in
-      finish q (registers (entry image) (s .setup .ustktop) args)
+      let p = starts s g n form image name bytes lengths (goes q e) in
+      let a₃ : Answer = Regs (registers (program .entry) (s .setup .ustktop) args) in
+      let a₂ : Answer = pageCount (startPieces (s .setup) program) above free (s .store .book) ⇒ Refused 33 else a₃ in
+      let a₁ : Answer = imageError (s .setup) form image isnt 0 ⇒ Refused (imageError (s .setup) form image) else a₂ in
+      finish q (registers (program .entry) (s .setup .ustktop) args)
       (each-call s g (call q) .each n (p .number) ∙ ap (λ (o : Outcome). effect (s .setup) (view s) (call q) begins o n) (goes q e) ∙ put-here (view s) _)
       (regs-are _ regs
-      (past-regs (pageCount (startPieces (s .setup) image) above free (s .store .book)) (Refused 33) a₃ regs refl
-      (past-regs (imageError (s .setup) image isnt 0) (Refused (imageError (s .setup) image)) a₂ regs refl (past-regs (argsError (s .setup) args isnt 0) (Refused (argsError (s .setup) args)) a₁ regs refl (weighed q e)))))
-      (start-args (view s n) (entry image) image name bytes lengths (stacked (s .setup) (good-setup s g) image (p .image-fits) args (p .args-fit)))
+      (past-regs (pageCount (startPieces (s .setup) program) above free (s .store .book)) (Refused 33) a₃ regs refl
+      (past-regs (imageError (s .setup) form image isnt 0) (Refused (imageError (s .setup) form image)) a₂ regs refl (past-regs (argsError (s .setup) args isnt 0) (Refused (argsError (s .setup) args)) a₁ regs refl (weighed q e)))))
+      (start-args (view s n) (program .entry) form image name bytes lengths (stacked (s .setup) (good-setup s g) program (p .program-fits) args (p .args-fit)))
 
-  of-replace : (image name : List ℕ) (argv : ℕ) → Answers (replace image name argv) → ArgsRead (view s n) (replace image name argv) (view (after s (call (replace image name argv))) n .mem) regs
+  of-replace : (form : Form) (image name : List ℕ) (argv : ℕ) → Answers (replace form image name argv) → ArgsRead (view s n) (replace form image name argv) (view (after s (call (replace form image name argv))) n .mem) regs
   unfolding effect
-  of-replace image name argv e =
-      let q : Ask = replace image name argv in
+  of-replace form image name argv e =
+      let q : Ask = replace form image name argv in
+      let program : Program = programOf (s .setup) form image in
       let read : Argv = copyArgv (s .setup) (view s n .mem) argv in
-      let p = replaces s g n image name argv (goes q e) in
-      let a₄ : Answer = Regs (registers (entry image) (s .setup .ustktop) (read .args)) in
-      let a₃ : Answer = pageCount (startPieces (s .setup) image) above alone (s .store .book) n + free (s .store .book) ⇒ Ended 33 else a₄ in
+      let p = replaces s g n form image name argv (goes q e) in
+      let a₄ : Answer = Regs (registers (program .entry) (s .setup .ustktop) (read .args)) in
+      let a₃ : Answer = pageCount (startPieces (s .setup) program) above alone (s .store .book) n + free (s .store .book) ⇒ Ended 33 else a₄ in
       let a₂ : Answer = read .error is 33 ⇒ Refused 33 else a₃ in
       let a₁ : Answer = read .error is 35 ⇒ Ended 35 else a₂ in
-      finish q (registers (entry image) (s .setup .ustktop) (read .args))
+      finish q (registers (program .entry) (s .setup .ustktop) (read .args))
       (each-call s g (call q) .each n (p .number) ∙ ap (λ (o : Outcome). effect (s .setup) (view s) (call q) plain o n) (goes q e) ∙ put-here (view s) _)
       (regs-are _ regs
-      (past-regs (pageCount (startPieces (s .setup) image) above alone (s .store .book) n + free (s .store .book)) (Ended 33) a₄ regs refl
+      (past-regs (pageCount (startPieces (s .setup) program) above alone (s .store .book) n + free (s .store .book)) (Ended 33) a₄ regs refl
       (past-regs (read .error is 33) (Refused 33) a₃ regs refl
-      (past-regs (read .error is 35) (Ended 35) a₂ regs refl (past-regs (imageError (s .setup) image isnt 0) (Refused (imageError (s .setup) image)) a₁ regs refl (weighed q e))))))
-      (replace-args (view s n) (entry image) image name argv
-      (stacked (s .setup) (good-setup s g) image (p .image-fits) (read .args)
+      (past-regs (read .error is 35) (Ended 35) a₂ regs refl (past-regs (imageError (s .setup) form image isnt 0) (Refused (imageError (s .setup) form image)) a₁ regs refl (weighed q e))))))
+      (replace-args (view s n) (program .entry) form image name argv
+      (stacked (s .setup) (good-setup s g) program (p .program-fits) (read .args)
       (argv-fits (s .setup) (good-setup s g) (view s n .mem) argv read refl (eqb-false (read .error) 35 (p .readable)) (eqb-false (read .error) 33 (p .within-limit)) .1)))
 
   of-push : (pc top : ℕ) (bytes lengths : List ℕ) → Answers (push pc top bytes lengths) → ArgsRead (view s n) (push pc top bytes lengths) (view (after s (call (push pc top bytes lengths))) n .mem) regs
@@ -199,8 +204,8 @@ module _ (s : State) (g : Good s) (n : ℕ) (regs : UserRegs) where
       (push-args (view s n) pc (good-setup s g) top bytes lengths (λ a. cell-page (s .store) n a true) (p .aligned) (p .args-fit) (p .writable))
 
   of-each : (q : Ask) → Answers q → ArgsRead (view s n) q (view (after s (call q)) n .mem) regs
-  of-each (start image name bytes lengths) e = of-start image name bytes lengths e
-  of-each (replace image name argv) e = of-replace image name argv e
+  of-each (start form image name bytes lengths) e = of-start form image name bytes lengths e
+  of-each (replace form image name argv) e = of-replace form image name argv e
   of-each (push pc top bytes lengths) e = of-push pc top bytes lengths e
   of-each (break addr) e =
       let b : Break = ibrk (s .setup) (some (view s n .bss)) addr (free (s .store .book)) in

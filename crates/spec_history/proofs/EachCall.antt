@@ -10,10 +10,13 @@ use Rattle.spec.proofs.Bools.{split}
 use Rattle.spec.specs.Tests.{_⇒_else_}
 use Rattle.spec.specs.Numbers.{pageUp}
 use Rattle.spec.specs.Book.{valid, procAt}
+use Rattle.spec.specs.Program.{Program}
+use Rattle.spec.specs.Image.{programOf}
 use Rattle.spec.specs.Exec.{argsOf, copyArgv}
 use Rattle.spec.specs.Machine.{Ask, start, replace, push, break, fork, end, user-range-ok, copy-from-user, copy-to-user, try-copy-str-from-user, Call, kind, Outcome, accepted, refused, ended, outcome, Machine, off, begun, movedTo}
 use Rattle.spec.specs.World.{State, view, answer, forget, load, brk, settle, leave, after}
 use Rattle.spec.specs.History.{put}
+use Rattle.spec.specs.declared.Form.{Form}
 use Rattle.spec.proofs.Args.{args-means}
 use Rattle.spec_laws.proofs.Argv.{argv-fits}
 use Rattle.spec_history.proofs.Passed.{Good, good-setup, ended≢, valid-number}
@@ -39,18 +42,19 @@ idle s g n = record { good = g; each = λ q v. sym (put-self (view s) n q (view 
 
 -- ---- replace: the old pages go first
 
-replaced : (s : State) → Good s → (n : ℕ) (image name : List ℕ) (argv : ℕ) → outcome (answer s (record { number = n; ask = replace image name argv })) ≡ accepted
-    → Sees (load (forget s n) n image name (copyArgv (s .setup) (view s n .mem) argv .args)) (put (view s) n (begun (s .setup) image (copyArgv (s .setup) (view s n .mem) argv .args)))
-replaced s g n image name argv e =
-    let h = replaces s g n image name argv e in
+replaced : (s : State) → Good s → (n : ℕ) (form : Form) (image name : List ℕ) (argv : ℕ) → outcome (answer s (record { number = n; ask = replace form image name argv })) ≡ accepted
+    → Sees (settle s n (replace form image name argv)) (put (view s) n (begun (s .setup) (programOf (s .setup) form image) (copyArgv (s .setup) (view s n .mem) argv .args)))
+replaced s g n form image name argv e =
+    let h = replaces s g n form image name argv e in
+    let program : Program = programOf (s .setup) form image in
     let args : List (List ℕ) = copyArgv (s .setup) (view s n .mem) argv .args in
-    let m : Machine = begun (s .setup) image args in
+    let m : Machine = begun (s .setup) program args in
     let c = forget-change s g n (h .number) in
     let g₁ = change-good s (forget s n) g n (off (s .setup)) c in
     let d =
-    load-change (forget s n) g₁ n image name args (h .number) (forget-dead s g n (h .number)) (h .image-fits)
+    load-change (forget s n) g₁ n program name args (h .number) (forget-dead s g n (h .number)) (h .program-fits)
     (omega (arith, h .room, forget-free s g n (h .number))) (args-means (s .setup) args (argv-fits (s .setup) (good-setup s g) (view s n .mem) argv (copyArgv (s .setup) (view s n .mem) argv) refl (eqb-false _ 35 (h .readable)) (eqb-false _ 33 (h .within-limit)) .1) .1) in
-    record { good = change-good (forget s n) (load (forget s n) n image name args) g₁ n m d; each = λ q v. change-view (forget s n) (load (forget s n) n image name args) n m d q v ∙ twice q (eqb q n) refl (change-view s (forget s n) n (off (s .setup)) c q v) m }
+    record { good = change-good (forget s n) (load (forget s n) n program name args) g₁ n m d; each = λ q v. change-view (forget s n) (load (forget s n) n program name args) n m d q v ∙ twice q (eqb q n) refl (change-view s (forget s n) n (off (s .setup)) c q v) m }
   where
     twice : (q : ℕ) (b : Bool) → eqb q n ≡ b → view (forget s n) q ≡ put (view s) n (off (s .setup)) q → (m : Machine) → (b ⇒ m else view (forget s n) q) ≡ (b ⇒ m else view s q)
     twice q true x y m = refl
@@ -61,10 +65,11 @@ replaced s g n image name argv e =
 settles : (s : State) → Good s → (n : ℕ) (q : Ask) → outcome (answer s (record { number = n; ask = q })) ≡ accepted
     → Sees (settle s n q) (effect (s .setup) (view s) (record { number = n; ask = q }) (kind q) accepted)
 unfolding effect
-settles s g n (start image name bytes lengths) e =
-    let h = starts s g n image name bytes lengths e in
-    changed s (load s n image name (argsOf bytes lengths)) g n (begun (s .setup) image (argsOf bytes lengths)) (load-change s g n image name (argsOf bytes lengths) (h .number) (h .dead) (h .image-fits) (h .room) (args-means (s .setup) (argsOf bytes lengths) (h .args-fit) .1))
-settles s g n (replace image name argv) e = replaced s g n image name argv e
+settles s g n (start form image name bytes lengths) e =
+    let h = starts s g n form image name bytes lengths e in
+    let program : Program = programOf (s .setup) form image in
+    changed s (load s n program name (argsOf bytes lengths)) g n (begun (s .setup) program (argsOf bytes lengths)) (load-change s g n program name (argsOf bytes lengths) (h .number) (h .dead) (h .program-fits) (h .room) (args-means (s .setup) (argsOf bytes lengths) (h .args-fit) .1))
+settles s g n (replace form image name argv) e = replaced s g n form image name argv e
 settles s g n (push pc top bytes lengths) e = let h = pushes s g n pc top bytes lengths e in changed s _ g n _ (push-change s g n (h .number) top (argsOf bytes lengths) (h .writable))
 settles s g n (break addr) e =
     let h = breaks s g n addr e in
@@ -87,8 +92,8 @@ ended-sees s g n q e =
 
 ending : (s : State) → Good s → (n : ℕ) (q : Ask) → outcome (answer s (record { number = n; ask = q })) ≡ ended → Sees (forget s n) (effect (s .setup) (view s) (record { number = n; ask = q }) (kind q) ended)
 unfolding effect
-ending s g n (start image name bytes lengths) e = absurd (start-ends-nobody s g n image name bytes lengths e)
-ending s g n (replace image name argv) e = ended-sees s g n (replace image name argv) e
+ending s g n (start form image name bytes lengths) e = absurd (start-ends-nobody s g n form image name bytes lengths e)
+ending s g n (replace form image name argv) e = ended-sees s g n (replace form image name argv) e
 ending s g n (push pc top bytes lengths) e = ended-sees s g n (push pc top bytes lengths) e
 ending s g n (break addr) e = ended-sees s g n (break addr) e
 ending s g n (fork child segments) e = ended-sees s g n (fork child segments) e

@@ -14,13 +14,16 @@ use Rattle.spec.proofs.Taken.{start-takes}
 use Rattle.spec.specs.Tests.{_is_, _isnt_, all, filter}
 use Rattle.spec.specs.Book.{valid, frameCount, mapping, holders, countBelow, isFree, free, frameOf, stack, bssSegment, pageCount, textOnly, dataOnly, piecesOf, procAt}
 use Rattle.spec.specs.Frames.{pagesOf, share, frameBytes}
-use Rattle.spec.specs.Exec.{imageSegments, imageBss, startPieces, argsOf}
+use Rattle.spec.specs.Program.{Program}
+use Rattle.spec.specs.Image.{programOf}
+use Rattle.spec.specs.Exec.{programSegments, programBss, startPieces, argsOf}
 use Rattle.spec.specs.Machine.{start, fork, Call, begins, forks, accepted, Outcome, outcome, Machine, begun, copied}
 use Rattle.spec.specs.World.{State, taken, view, answer, after, copy}
 use Rattle.spec.specs.History.{state, put, Begin}
 use Rattle.spec.specs.Sharing.{calls, elsewhere, Family, one, one-more, Sharing}
 use Rattle.spec.specs.declared.UserSegment.{UserSegment}
 use Rattle.spec.specs.declared.Setup.{Setup}
+use Rattle.spec.specs.declared.Form.{Form}
 use Rattle.spec_laws.proofs.Lists.{Each}
 use Rattle.spec_laws.proofs.Owned.{valid-means}
 use Rattle.spec_laws.proofs.Place.{place-length}
@@ -53,14 +56,14 @@ text-data [] = refl
 text-data (g ∷ gs) = let h = text-data gs in split (g .perm is 3) (λ q. rw q (omega (arith, h))) (λ q. rw q (omega (arith, h)))
 
 -- what a fork of a program copies is the data that its start took
-begun-copied : (setup : Setup) (image : List ℕ) (args : List (List ℕ)) → copied (begun setup image args) ≡ pageCount (dataOnly (startPieces setup image))
-begun-copied setup image args =
-    let gs : List UserSegment = imageSegments setup image in
+begun-copied : (setup : Setup) (program : Program) (args : List (List ℕ)) → copied (begun setup program args) ≡ pageCount (dataOnly (startPieces setup program))
+begun-copied setup program args =
+    let gs : List UserSegment = programSegments program in
     let t : UserSegment → Bool = λ g. g .perm is 3 in
     let s : List UserSegment = stack setup ∷ [] in
-    let b : List UserSegment = bssSegment (imageBss setup image) ∷ [] in
+    let b : List UserSegment = bssSegment (programBss program) ∷ [] in
     let x : dataOnly ((gs ++ s) ++ b) ≡ (dataOnly gs ++ s) ++ b = only-append t (gs ++ s) b ∙ ap (λ (y : List UserSegment). y ++ b) (only-append t gs s) in
-    ap pageCount x ∙ count-append (dataOnly gs ++ s) b ∙ omega (arith, count-append (dataOnly gs) s, count-append (dataOnly gs) (bssSegment (imageBss setup image) ∷ s), ap pageCount (only-append t gs (bssSegment (imageBss setup image) ∷ s)))
+    ap pageCount x ∙ count-append (dataOnly gs ++ s) b ∙ omega (arith, count-append (dataOnly gs) s, count-append (dataOnly gs) (bssSegment (programBss program) ∷ s), ap pageCount (only-append t gs (bssSegment (programBss program) ∷ s)))
 
 -- ---- frames counted
 
@@ -80,10 +83,10 @@ all-free s b g =
     valid-one i u = within-test 1 17 (i + 1) (omega arith) (omega arith)
 
 -- frames are as many after a call
-frames-start : (s : State) (n : ℕ) (image name bytes lengths : List ℕ) → outcome (answer s (calls n (start image name bytes lengths))) ≡ accepted
-    → frameCount (after s (calls n (start image name bytes lengths)) .store .book) ≡ frameCount (s .store .book)
+frames-start : (s : State) (n : ℕ) (form : Form) (image name bytes lengths : List ℕ) → outcome (answer s (calls n (start form image name bytes lengths))) ≡ accepted
+    → frameCount (after s (calls n (start form image name bytes lengths)) .store .book) ≡ frameCount (s .store .book)
 unfolding after
-frames-start s n image name bytes lengths e = rw (e, pokes-book, pokes-book) (ap (λ (k : ℕ). k / 17) (place-length (s .store) n _))
+frames-start s n form image name bytes lengths e = rw (e, pokes-book, pokes-book) (ap (λ (k : ℕ). k / 17) (place-length (s .store) n _))
 
 -- what a fork takes
 module _ (s : State) (g : Good s) (n child : ℕ) (segments : List UserSegment) (e : outcome (answer s (calls n (fork child segments))) ≡ accepted) where
@@ -119,29 +122,32 @@ put-yes : {A : Type 0} (f : ℕ → A) (n q : ℕ) (x : A) → eqb q n ≡ true 
 put-yes f n q x e = rw e
 
 -- all who live would copy as much, and text is counted once
-record Counted (s : State) (image : List ℕ) (h : List Call) (k : ℕ) : Type 0 where
+record Counted (s : State) (program : Program) (h : List Call) (k : ℕ) : Type 0 where
   frames : frameCount (state s h .store .book) ≡ frameCount (s .store .book)
-  alike : (q : ℕ) → valid q ≡ true → taken (state s h) q ≡ true → copied (view (state s h) q) ≡ pageCount (dataOnly (startPieces (s .setup) image))
-  used : free (state s h .store .book) + (pageCount (textOnly (startPieces (s .setup) image)) + k * pageCount (dataOnly (startPieces (s .setup) image))) ≡ frameCount (s .store .book)
+  alike : (q : ℕ) → valid q ≡ true → taken (state s h) q ≡ true → copied (view (state s h) q) ≡ pageCount (dataOnly (startPieces (s .setup) program))
+  used : free (state s h .store .book) + (pageCount (textOnly (startPieces (s .setup) program)) + k * pageCount (dataOnly (startPieces (s .setup) program))) ≡ frameCount (s .store .book)
 
-module _ (s : State) (b : Begin s) (image : List ℕ) where
+module _ (s : State) (b : Begin s) (form : Form) (image : List ℕ) where
+  abbrev program : Program
+  program = programOf (s .setup) form image
+
   good : (h : List Call) → Good (state s h)
   good h = good-after laws s b h
 
-  counted : (h : List Call) (k : ℕ) → Family s image h k → Counted s image h k
+  counted : (h : List Call) (k : ℕ) → Family s form image h k → Counted s program h k
   unfolding effect
   counted h k (one n name bytes lengths e) =
-      let c : Call = calls n (start image name bytes lengths) in
+      let c : Call = calls n (start form image name bytes lengths) in
       let r = each-call s (good []) c in
-      let m : Machine = begun (s .setup) image (argsOf bytes lengths) in
+      let m : Machine = begun (s .setup) program (argsOf bytes lengths) in
       let seen : (q : ℕ) → valid q ≡ true → view (after s c) q ≡ put (view s) n m q = λ q v. r .each q v ∙ ap (λ (o : Outcome). effect (s .setup) (view s) c begins o q) e in
       record {
-        frames = frames-start s n image name bytes lengths e;
+        frames = frames-start s n form image name bytes lengths e;
         alike = λ q v t.
             split (eqb q n)
-            (λ z. ap copied (seen q v ∙ put-yes (view s) n q m z) ∙ begun-copied (s .setup) image (argsOf bytes lengths))
+            (λ z. ap copied (seen q v ∙ put-yes (view s) n q m z) ∙ begun-copied (s .setup) program (argsOf bytes lengths))
             (λ z. clash (taken (after s c) q) t (lives-same s (after s c) (good []) (r .good) q q v v (seen q v ∙ put-else (view s) n q m (eqb-false q n z)) ∙ b .nobody q));
-        used = omega (arith, start-takes s n image name bytes lengths e, all-free s b (good []), text-data (startPieces (s .setup) image));
+        used = omega (arith, start-takes s n form image name bytes lengths e, all-free s b (good []), text-data (startPieces (s .setup) program));
       }
   counted h k (one-more {h = earlier} {k = j} f n child segments e) =
       let c : Call = calls n (fork child segments) in
@@ -149,7 +155,7 @@ module _ (s : State) (b : Begin s) (image : List ℕ) where
       let i = counted earlier j f in
       let r = each-call t (good earlier) c in
       let w = took t (good earlier) n child segments e in
-      let d : ℕ = pageCount (dataOnly (startPieces (s .setup) image)) in
+      let d : ℕ = pageCount (dataOnly (startPieces (s .setup) program)) in
       let mine : copied (view t n) ≡ d = i .alike n (w .number) (w .living) in
       let seen : (q : ℕ) → valid q ≡ true → view (after t c) q ≡ put (view t) child (view t n) q = λ q v. r .each q v ∙ ap (λ (o : Outcome). effect (t .setup) (view t) c (forks child segments) o q) e in
       record {
@@ -167,5 +173,5 @@ pub sharing : Sharing
 sharing = record {
   apart = λ s b h g n a v t e. others-read (state s h) (good-after laws s b h) n v t g (others n g e) a;
   child = λ s b h g n child a segments e o. child-reads (state s h) (good-after laws s b h) n child segments e g (others child g o) a;
-  pupils = λ s b image h k f. let c = counted s b image h k f in omega (arith, c .frames, c .used);
+  pupils = λ s b form image h k f. let c = counted s b form image h k f in omega (arith, c .frames, c .used);
 }

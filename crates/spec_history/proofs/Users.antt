@@ -14,7 +14,8 @@ use Rattle.spec.proofs.Bools.{clash, neither, not-true, not-above, not-false, w
 use Rattle.spec.specs.Tests.{_is_, _isnt_, _above_, within, _⇒_else_, any, same, sum}
 use Rattle.spec.specs.Numbers.{argLimit, pageUp}
 use Rattle.spec.specs.Book.{valid, free, alone, sameSegment, permAt, pageCount}
-use Rattle.spec.specs.Elf.{Segment, segmentsOf, entry, inFile}
+use Rattle.spec.specs.Program.{Segment, inFile, Program}
+use Rattle.spec.specs.Image.{programOf}
 use Rattle.spec.specs.Exec.{imageError, startPieces, fileByte, loaded, argsOf, strings, argsError, stringsAt, argvAt, registers, pointers, pushed, copyArgv}
 use Rattle.spec.specs.Segment.{moved}
 use Rattle.spec.specs.Machine.{Ask, start, replace, push, break, fork, end, Call, Kind, begins, forks, plain, kind, Outcome, accepted, refused, ended, outcome, plainly, Machine, off, begun, feed, copied, unclaimed}
@@ -25,6 +26,7 @@ use Rattle.spec.specs.declared.UserRegs.{UserRegs}
 use Rattle.spec.specs.declared.Answer.{Answer}
 use Rattle.spec.specs.declared.Answer.the-variants.{Regs, Done, Refused}
 use Rattle.spec.specs.declared.Setup.{Setup}
+use Rattle.spec.specs.declared.Form.{Form}
 use Rattle.spec_laws.proofs.Lists.{Each}
 use Rattle.spec_history.proofs.Passed.{Good, answered, accepted≢, weighs}
 use Rattle.spec_history.proofs.Whole.{effect}
@@ -143,53 +145,53 @@ break-keeps s g n addr e a l u =
 
 -- ---- start
 
-start-reads : (s : State) → Good s → (n : ℕ) (image name bytes lengths : List ℕ) → outcome (answer s (call n (start image name bytes lengths))) ≡ accepted
-    → (a : ℕ) → readable (after s (call n (start image name bytes lengths))) n a ≡ byteIn (pushed (s .setup .ustktop) (argsOf bytes lengths) (loaded (s .setup) image) a)
+start-reads : (s : State) → Good s → (n : ℕ) (form : Form) (image name bytes lengths : List ℕ) → outcome (answer s (call n (start form image name bytes lengths))) ≡ accepted
+    → (a : ℕ) → readable (after s (call n (start form image name bytes lengths))) n a ≡ byteIn (pushed (s .setup .ustktop) (argsOf bytes lengths) (loaded (s .setup) (programOf (s .setup) form image)) a)
 unfolding effect
-start-reads s g n image name bytes lengths e a =
-    reads-after s g (call n (start image name bytes lengths)) accepted e n a (starts s g n image name bytes lengths e .number)
-    ∙ ap (λ (m : Machine). held m a) (put-here (view s) n (begun (s .setup) image (argsOf bytes lengths)))
+start-reads s g n form image name bytes lengths e a =
+    reads-after s g (call n (start form image name bytes lengths)) accepted e n a (starts s g n form image name bytes lengths e .number)
+    ∙ ap (λ (m : Machine). held m a) (put-here (view s) n (begun (s .setup) (programOf (s .setup) form image) (argsOf bytes lengths)))
 
 -- an address that neither strings nor pointers were written to
 pub record Unpushed (setup : Setup) (args : List (List ℕ)) (a : ℕ) : Type 0 where
   pub no-string : within (stringsAt (setup .ustktop) args) (stringsAt (setup .ustktop) args + length (strings args)) a ≡ false
   pub no-pointer : within (argvAt (setup .ustktop) args) (argvAt (setup .ustktop) args + length (pointers (stringsAt (setup .ustktop) args) args)) a ≡ false
 
--- in a page of an image or its stack it holds its file byte, or 0
-start-byte : (s : State) → Good s → (n : ℕ) (image name bytes lengths : List ℕ) → outcome (answer s (call n (start image name bytes lengths))) ≡ accepted
-    → (a q : ℕ) → permAt (startPieces (s .setup) image) a ≡ some q → Unpushed (s .setup) (argsOf bytes lengths) a
-    → readable (after s (call n (start image name bytes lengths))) n a ≡ some (fileByte (segmentsOf (s .setup .flags) image) a)
-start-byte s g n image name bytes lengths e a q p out = start-reads s g n image name bytes lengths e a ∙ rw (out .no-pointer, out .no-string, p)
+-- in a page of a program or its stack it holds its file byte, or 0
+start-byte : (s : State) → Good s → (n : ℕ) (form : Form) (image name bytes lengths : List ℕ) → outcome (answer s (call n (start form image name bytes lengths))) ≡ accepted
+    → (a q : ℕ) → permAt (startPieces (s .setup) (programOf (s .setup) form image)) a ≡ some q → Unpushed (s .setup) (argsOf bytes lengths) a
+    → readable (after s (call n (start form image name bytes lengths))) n a ≡ some (fileByte (programOf (s .setup) form image .segments) a)
+start-byte s g n form image name bytes lengths e a q p out = start-reads s g n form image name bytes lengths e a ∙ rw (out .no-pointer, out .no-string, p)
 
 -- so a page is zero but for file bytes and pushed arguments
-pub start-zero : (s : State) → Good s → (n : ℕ) (image name bytes lengths : List ℕ) → outcome (answer s (call n (start image name bytes lengths))) ≡ accepted
-    → (a q : ℕ) → permAt (startPieces (s .setup) image) a ≡ some q → Unpushed (s .setup) (argsOf bytes lengths) a → any (inFile a) (segmentsOf (s .setup .flags) image) ≡ false
-    → readable (after s (call n (start image name bytes lengths))) n a ≡ some 0
-start-zero s g n image name bytes lengths e a q p out none-in = start-byte s g n image name bytes lengths e a q p out ∙ ap some (go (segmentsOf (s .setup .flags) image) none-in)
+pub start-zero : (s : State) → Good s → (n : ℕ) (form : Form) (image name bytes lengths : List ℕ) → outcome (answer s (call n (start form image name bytes lengths))) ≡ accepted
+    → (a q : ℕ) → permAt (startPieces (s .setup) (programOf (s .setup) form image)) a ≡ some q → Unpushed (s .setup) (argsOf bytes lengths) a → any (inFile a) (programOf (s .setup) form image .segments) ≡ false
+    → readable (after s (call n (start form image name bytes lengths))) n a ≡ some 0
+start-zero s g n form image name bytes lengths e a q p out none-in = start-byte s g n form image name bytes lengths e a q p out ∙ ap some (go (programOf (s .setup) form image .segments) none-in)
   where
     go : (gs : List Segment) → any (inFile a) gs ≡ false → fileByte gs a ≡ 0
     go [] h = refl
     go (x ∷ gs) h = let r = neither (inFile a x) (any (inFile a) gs) h in rw (r .0) (go gs (r .1))
 
 -- arguments lie in the top quarter of the stack
-pub below-args : (s : State) → Good s → (n : ℕ) (image name bytes lengths : List ℕ) → outcome (answer s (call n (start image name bytes lengths))) ≡ accepted
+pub below-args : (s : State) → Good s → (n : ℕ) (form : Form) (image name bytes lengths : List ℕ) → outcome (answer s (call n (start form image name bytes lengths))) ≡ accepted
     → (a : ℕ) → a < s .setup .ustktop - argLimit (s .setup) → Unpushed (s .setup) (argsOf bytes lengths) a
-below-args s g n image name bytes lengths e a l =
+below-args s g n form image name bytes lengths e a l =
     let args : List (List ℕ) = argsOf bytes lengths in
-    let small = args-means (s .setup) args (starts s g n image name bytes lengths e .args-fit) .1 in
+    let small = args-means (s .setup) args (starts s g n form image name bytes lengths e .args-fit) .1 in
     record { no-string = within-not _ _ a (λ x y. omega arith); no-pointer = within-not _ _ a (λ x y. omega arith) }
 
 -- ---- arguments
 
 -- a program that was started finds the arguments given where its registers say
-pub start-tells : (s : State) → Good s → (n : ℕ) (image name bytes lengths : List ℕ) (regs : UserRegs) → answer s (call n (start image name bytes lengths)) .says ≡ Regs regs
-    → ArgsAt (s .setup) (view (after s (call n (start image name bytes lengths))) n .mem) (s .setup .ustktop) (argsOf bytes lengths) regs
-start-tells s g n image name bytes lengths regs e = args-read s g (call n (start image name bytes lengths)) regs e
+pub start-tells : (s : State) → Good s → (n : ℕ) (form : Form) (image name bytes lengths : List ℕ) (regs : UserRegs) → answer s (call n (start form image name bytes lengths)) .says ≡ Regs regs
+    → ArgsAt (s .setup) (view (after s (call n (start form image name bytes lengths))) n .mem) (s .setup .ustktop) (argsOf bytes lengths) regs
+start-tells s g n form image name bytes lengths regs e = args-read s g (call n (start form image name bytes lengths)) regs e
 
 -- one that replaced another finds those that the other had in memory
-pub replace-tells : (s : State) → Good s → (n : ℕ) (image name : List ℕ) (argv : ℕ) (regs : UserRegs) → answer s (call n (replace image name argv)) .says ≡ Regs regs
-    → ArgsAt (s .setup) (view (after s (call n (replace image name argv))) n .mem) (s .setup .ustktop) (copyArgv (s .setup) (view s n .mem) argv .args) regs
-replace-tells s g n image name argv regs e = args-read s g (call n (replace image name argv)) regs e
+pub replace-tells : (s : State) → Good s → (n : ℕ) (form : Form) (image name : List ℕ) (argv : ℕ) (regs : UserRegs) → answer s (call n (replace form image name argv)) .says ≡ Regs regs
+    → ArgsAt (s .setup) (view (after s (call n (replace form image name argv))) n .mem) (s .setup .ustktop) (copyArgv (s .setup) (view s n .mem) argv .args) regs
+replace-tells s g n form image name argv regs e = args-read s g (call n (replace form image name argv)) regs e
 
 -- and so does one that arguments are pushed to
 pub push-tells : (s : State) → Good s → (n pc top : ℕ) (bytes lengths : List ℕ) (regs : UserRegs) → answer s (call n (push pc top bytes lengths)) .says ≡ Regs regs
@@ -202,15 +204,16 @@ fits-chain : (a b c : Bool) (x y z w : Answer) → a ≡ false → b ≡ false �
 fits-chain a b c x y z w p q r = rw (p, q, r)
 
 -- a start whose arguments and image fit, with free frames for its pages, on a number that is free
-pub start-fits : (s : State) → Good s → (n : ℕ) (image name bytes lengths : List ℕ) → sum lengths ≡ length bytes → valid n ≡ true → taken s n ≡ false
-    → argsError (s .setup) (argsOf bytes lengths) ≡ 0 → imageError (s .setup) image ≡ 0 → pageCount (startPieces (s .setup) image) ≤ free (s .store .book)
-    → answer s (call n (start image name bytes lengths)) ≡ plainly (Regs (registers (entry image) (s .setup .ustktop) (argsOf bytes lengths)))
-start-fits s g n image name bytes lengths fit v t args-fit image-fits room =
+pub start-fits : (s : State) → Good s → (n : ℕ) (form : Form) (image name bytes lengths : List ℕ) → sum lengths ≡ length bytes → valid n ≡ true → taken s n ≡ false
+    → argsError (s .setup) (argsOf bytes lengths) ≡ 0 → imageError (s .setup) form image ≡ 0 → pageCount (startPieces (s .setup) (programOf (s .setup) form image)) ≤ free (s .store .book)
+    → answer s (call n (start form image name bytes lengths)) ≡ plainly (Regs (registers (programOf (s .setup) form image .entry) (s .setup .ustktop) (argsOf bytes lengths)))
+start-fits s g n form image name bytes lengths fit v t args-fit image-fits room =
+    let program : Program = programOf (s .setup) form image in
     let args : List (List ℕ) = argsOf bytes lengths in
     let zero-isnt : (k : ℕ) → k ≡ 0 → (k isnt 0) ≡ false = λ k z. ap not (eq-eqb k 0 z) in
-    answered s g (call n (start image name bytes lengths))
-    ∙ weighs (view s n) (free (s .store .book)) 0 (taken s) (call n (start image name bytes lengths)) (eq-eqb _ _ fit) refl v refl (not-false _ t)
-    ∙ ap plainly (fits-chain (argsError (s .setup) args isnt 0) (imageError (s .setup) image isnt 0) (pageCount (startPieces (s .setup) image) above free (s .store .book)) (Refused (argsError (s .setup) args)) (Refused (imageError (s .setup) image)) (Refused 33) (Regs (registers (entry image) (s .setup .ustktop) args))
+    answered s g (call n (start form image name bytes lengths))
+    ∙ weighs (view s n) (free (s .store .book)) 0 (taken s) (call n (start form image name bytes lengths)) (eq-eqb _ _ fit) refl v refl (not-false _ t)
+    ∙ ap plainly (fits-chain (argsError (s .setup) args isnt 0) (imageError (s .setup) form image isnt 0) (pageCount (startPieces (s .setup) program) above free (s .store .book)) (Refused (argsError (s .setup) args)) (Refused (imageError (s .setup) form image)) (Refused 33) (Regs (registers (program .entry) (s .setup .ustktop) args))
     (zero-isnt _ args-fit) (zero-isnt _ image-fits) (not-above _ _ room))
 
 -- a fork of a living process, with its list, on a number that is free, with free frames for what it copies

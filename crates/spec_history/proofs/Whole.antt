@@ -71,8 +71,8 @@ module _ (setup : Setup) where
 
 -- a process that forks goes on as it was
 fork-idle : (m : Machine) (q : Ask) (child : ℕ) (segments : List UserSegment) → kind q ≡ forks child segments → run m q ≡ m
-fork-idle m (start image name bytes lengths) child segments e = cc
-fork-idle m (replace image name argv) child segments e = cc
+fork-idle m (start form image name bytes lengths) child segments e = cc
+fork-idle m (replace form image name argv) child segments e = cc
 fork-idle m (push pc top bytes lengths) child segments e = cc
 fork-idle m (break addr) child segments e = cc
 fork-idle m (fork c s) child segments e = refl
@@ -86,8 +86,8 @@ fork-idle m (try-copy-str-from-user buffer src) child segments e = cc
 begins-any : (m k : Machine) (f al : ℕ) (t : ℕ → Bool) (n : ℕ) (q : Ask) → m .setup ≡ k .setup → kind q ≡ begins
     → judge m f al t (record { number = n; ask = q }) ≡ judge k f al t (record { number = n; ask = q })
 unfolding judge
-begins-any m k f al t n (start image name bytes lengths) u e = rw u
-begins-any m k f al t n (replace image name argv) u e = cc
+begins-any m k f al t n (start form image name bytes lengths) u e = rw u
+begins-any m k f al t n (replace form image name argv) u e = cc
 begins-any m k f al t n (push pc top bytes lengths) u e = cc
 begins-any m k f al t n (break addr) u e = cc
 begins-any m k f al t n (fork c s) u e = cc
@@ -100,8 +100,8 @@ begins-any m k f al t n (try-copy-str-from-user buffer src) u e = cc
 -- ---- the setup never changes
 
 run-setup : (m : Machine) (q : Ask) → run m q .setup ≡ m .setup
-run-setup m (start image name bytes lengths) = refl
-run-setup m (replace image name argv) = refl
+run-setup m (start form image name bytes lengths) = refl
+run-setup m (replace form image name argv) = refl
 run-setup m (push pc top bytes lengths) = refl
 run-setup m (break addr) = go (eqb addr 0)
   where
@@ -125,8 +125,8 @@ machine-setup setup [] = refl
 machine-setup setup (e ∷ l) = feed-setup (machine setup l) (e .asked .call .ask) (outcome (e .answered)) ∙ machine-setup setup l
 
 settle-setup : (s : State) (n : ℕ) (q : Ask) → settle s n q .setup ≡ s .setup
-settle-setup s n (start image name bytes lengths) = refl
-settle-setup s n (replace image name argv) = refl
+settle-setup s n (start form image name bytes lengths) = refl
+settle-setup s n (replace form image name argv) = refl
 settle-setup s n (push pc top bytes lengths) = refl
 settle-setup s n (break addr) = go (eqb addr 0)
   where

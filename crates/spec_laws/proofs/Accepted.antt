@@ -1,4 +1,4 @@
--- An accepted image: its segments and bss have the shape that soundness asks of a record.
+-- An accepted program: its segments and bss have the shape that soundness asks of a record.
 use Prim.Native.Nat.{ℕ, suc, _+_, _≤_, _<_}
 use native.Mathlib.Omega.{arith}
 use mathlib.Core.Path.{_≡_, refl, sym, subst}
@@ -11,30 +11,54 @@ use Rattle.spec.specs.Tests.{_is_, _isnt_, _below_, _above_, _⇒_else_, filter
 use Rattle.spec.specs.Numbers.{limit, pageUp, pageDown, SetupOk}
 use Rattle.spec.specs.Book.{range, segment}
 use Rattle.spec.specs.Sound.{ImageSegment, Shape}
-use Rattle.spec.specs.Elf.{Segment, segmentsOf, elfError}
-use Rattle.spec.specs.Exec.{layoutOk, bssOf, userSegment, kept, imageSegments, imageBss, imageError}
+use Rattle.spec.specs.Program.{Segment, Program}
+use Rattle.spec.specs.Image.{readError, programOf}
+use Rattle.spec.specs.Exec.{layoutOk, bssOf, userSegment, kept, programSegments, programBss, layoutError, imageError}
 use Rattle.spec.specs.World.{procOf}
 use Rattle.spec.specs.declared.VirtRange.{VirtRange}
 use Rattle.spec.specs.declared.UserSegment.{UserSegment}
 use Rattle.spec.specs.declared.Setup.{Setup}
+use Rattle.spec.specs.declared.Form.{Form}
+use Rattle.spec.specs.declared.Form.the-variants.{Elf, Aout}
 use Rattle.spec_laws.proofs.Checks.{passes, failed}
-use Rattle.spec_laws.proofs.Headers.{Loads, AllLoad, elf-loads, elf-some}
+use Rattle.spec_laws.proofs.Loads.{Loads, AllLoad}
+use Rattle.spec_laws.proofs.Headers.{elf-loads, elf-some}
+use Rattle.spec_laws.proofs.Aouts.{aout-means, aout-loads, aout-some}
 use Rattle.spec_laws.proofs.Shape.{Image, imageEnd, Bss, shape-made}
 
+-- what a reader leaves of an image that it accepts: segments that load in order, one at least
+pub record Read (p : Program) : Type 0 where
+  pub loads : AllLoad 0 (p .segments)
+  pub some-segment : p .segments ≡ [] → ⊥
+
+pub read-means : (setup : Setup) → SetupOk setup → (form : Form) (image : List ℕ) → readError setup form image ≡ 0 → Read (programOf setup form image)
+read-means setup ok Elf image e = record { loads = elf-loads (setup .flags) image (ok .table) e; some-segment = elf-some (setup .flags) image e }
+read-means setup ok (Aout magic) image e =
+    record { loads = aout-loads setup image (aout-means setup magic image e); some-segment = aout-some setup image }
+
 module _ (setup : Setup) where
-  -- an image is accepted if its checks and its layout pass, and it records at most 15 segments
-  pub record Accepted (image : List ℕ) : Type 0 where
-    pub elf : elfError (setup .flags) image ≡ 0
-    pub layout : layoutOk setup (segmentsOf (setup .flags) image) ≡ true
-    pub few : length (imageSegments setup image) ≤ 15
+  -- a program is accepted if its layout passes too, and it records at most 15 segments
+  pub record Accepted (p : Program) : Type 0 where
+    pub read : Read p
+    pub layout : layoutOk setup (p .segments) ≡ true
+    pub few : length (programSegments p) ≤ 15
 
-  abbrev tests : List ℕ → List (Bool × ℕ)
-  tests image = (elfError (setup .flags) image isnt 0, 30) ∷ (not (layoutOk setup (segmentsOf (setup .flags) image)), 30) ∷ (length (imageSegments setup image) above 15, 31) ∷ []
+  abbrev tests : Program → List (Bool × ℕ)
+  tests p = (not (layoutOk setup (p .segments)), 30) ∷ (length (programSegments p) above 15, 31) ∷ []
 
-  pub accepted-means : (image : List ℕ) → imageError setup image ≡ 0 → Accepted image
-  accepted-means image e =
-      let no = failed (tests image) (passes (tests image) 0 refl e .0) in
-      record { elf = eqb-true _ _ (un-not _ (no 0 (omega arith))); layout = un-not _ (no 1 (omega arith)); few = ltb-false _ _ (no 2 (omega arith)) }
+  -- an image that is accepted has passed its reader and `layout`
+  pub image-passes : (form : Form) (image : List ℕ) → imageError setup form image ≡ 0 → (readError setup form image ≡ 0) × (layoutError setup (programOf setup form image) ≡ 0)
+  image-passes form image e =
+      let read : List (Bool × ℕ) = (readError setup form image isnt 0, 30) ∷ [] in
+      let r = passes read (layoutError setup (programOf setup form image)) refl e in
+      (eqb-true _ _ (un-not _ (failed read (r .0) 0 (omega arith))), r .1)
+
+  pub accepted-means : SetupOk setup → (form : Form) (image : List ℕ) → imageError setup form image ≡ 0 → Accepted (programOf setup form image)
+  accepted-means ok form image e =
+      let p : Program = programOf setup form image in
+      let r = image-passes form image e in
+      let no = failed (tests p) (passes (tests p) 0 refl (r .1) .0) in
+      record { read = read-means setup ok form image (r .0); layout = un-not _ (no 0 (omega arith)); few = ltb-false _ _ (no 1 (omega arith)) }
 
   -- ---- its recorded segments and bss
 
@@ -123,17 +147,15 @@ module _ (setup : Setup) (ok : SetupOk setup) where
   from-utzero (g ∷ gs) l e =
       (record { file = l .0 .file; some-byte = l .0 .some-byte; perm = l .0 .perm; ordered = omega (arith, layout-first setup g gs e .0 .start) }, l .1)
 
-  pub image-recorded : (image : List ℕ) → imageError setup image ≡ 0 → Recorded setup (setup .utzero) (imageBss setup image) (imageSegments setup image)
-  image-recorded image e =
-      let a = accepted-means setup image e in
-      go (segmentsOf (setup .flags) image) (from-utzero (segmentsOf (setup .flags) image) (elf-loads (setup .flags) image (ok .table) (a .elf)) (a .layout)) (a .layout) (elf-some (setup .flags) image (a .elf))
+  pub program-recorded : (p : Program) → Accepted setup p → Recorded setup (setup .utzero) (programBss p) (programSegments p)
+  program-recorded p a = go (p .segments) (from-utzero (p .segments) (a .read .loads) (a .layout)) (a .layout) (a .read .some-segment)
     where
       go : (gs : List Segment) → AllLoad (setup .utzero) gs → layoutOk setup gs ≡ true → (gs ≡ [] → ⊥) → Recorded setup (setup .utzero) (bssOf gs) (kept (bssOf gs) gs)
       go [] l h s = absurd (s refl)
       go (g ∷ gs) l h s = recorded-all (setup .utzero) g gs l h
 
-  -- an accepted image's record has the shape that soundness asks
-  pub image-shape : (image name : List ℕ) → imageError setup image ≡ 0 → Shape setup (procOf setup image name) (imageSegments setup image)
-  image-shape image name e =
-      let r = image-recorded image e in
-      shape-made setup (procOf setup image name) (imageSegments setup image) refl (accepted-means setup image e .few) (r .ascends) (r .bss-ok)
+  -- its record has the shape that soundness asks
+  pub program-shape : (p : Program) (name : List ℕ) → Accepted setup p → Shape setup (procOf setup p name) (programSegments p)
+  program-shape p name a =
+      let r = program-recorded p a in
+      shape-made setup (procOf setup p name) (programSegments p) refl (a .few) (r .ascends) (r .bss-ok)

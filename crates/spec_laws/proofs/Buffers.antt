@@ -21,8 +21,8 @@ use Rattle.spec.specs.declared.Setup.{Setup}
 
 -- the string copy's 35
 abbrev strayString : Ask → Answer → Bool
-strayString (start image name bytes lengths) a = false
-strayString (replace image name argv) a = false
+strayString (start form image name bytes lengths) a = false
+strayString (replace form image name argv) a = false
 strayString (push pc top bytes lengths) a = false
 strayString (break addr) a = false
 strayString (fork child segments) a = false
@@ -53,8 +53,8 @@ string-answers false n e f = clash true refl f
 
 -- of its own numbers a call gives only the string copy's 35 with a buffer that has changed
 weigh-kept : (m : Machine) (free alone : ℕ) (q : Ask) → Kept q (weigh m free alone q)
-weigh-kept m free alone (start image name bytes lengths) e f = refl
-weigh-kept m free alone (replace image name argv) e f = refl
+weigh-kept m free alone (start form image name bytes lengths) e f = refl
+weigh-kept m free alone (replace form image name argv) e f = refl
 weigh-kept m free alone (push pc top bytes lengths) e f = refl
 weigh-kept m free alone (break addr) e f = refl
 weigh-kept m free alone (fork child segments) e f = refl

@@ -11,8 +11,10 @@ use Rattle.spec.proofs.Flags.{flag-most}
 use Rattle.spec.specs.Tests.{_is_, _isnt_, _below_, _above_, _⇒_else_, _orElse_, all, any, filter}
 use Rattle.spec.specs.Flags.{flagsOk}
 use Rattle.spec.specs.Numbers.{pageUp, pageDown}
-use Rattle.spec.specs.Elf.{Phdr, phdrsFrom, loads, phdrs, flagPerm, phoff, phnum, ehdrError, phdrError, Segment, segmentOf, segmentsOf, inFile, entry, entryInText, elfError}
+use Rattle.spec.specs.Program.{Segment, inFile}
+use Rattle.spec.specs.Elf.{Phdr, phdrsFrom, loads, phdrs, flagPerm, phoff, phnum, ehdrError, phdrError, segmentOf, segmentsOf, entry, entryInText, elfError}
 use Rattle.spec_laws.proofs.Checks.{checks, passes, failed, or-else}
+use Rattle.spec_laws.proofs.Loads.{AllLoad, not-zero}
 
 -- ---- one header
 
@@ -40,9 +42,6 @@ pub record Header (flags image : List ℕ) (end : ℕ) (p : Phdr) : Type 0 where
   pub perm : 1 ≤ flagPerm flags p
   pub ordered : end ≤ pageDown (p .vaddr)
 
-not-zero : (k : ℕ) → ¬ (k ≡ 0) → 1 ≤ k
-not-zero k ne = omega arith
-
 -- the first header passes, and the others from its page end on
 pub header-means : (flags image : List ℕ) (end : ℕ) (p : Phdr) (ps : List Phdr) → phdrError flags image end (p ∷ ps) ≡ 0 → Header flags image end p × (phdrError flags image (pageUp (p .vaddr + p .memsz)) ps ≡ 0)
 header-means flags image end p ps e =
@@ -63,19 +62,7 @@ header-means flags image end p ps e =
 pub file-length : (flags image : List ℕ) (p : Phdr) → p .offset + p .filesz ≤ length image → length (segmentOf flags image p .file) ≡ p .filesz
 file-length flags image p h = omega (arith, length-take (p .filesz) (drop (p .offset) image), length-drop (p .offset) image)
 
--- ---- a list of loadable segments
-
--- a segment from `end` on
-pub record Loads (end : ℕ) (g : Segment) : Type 0 where
-  pub file : length (g .file) ≤ g .memsz
-  pub some-byte : 1 ≤ g .memsz
-  pub perm : (1 ≤ g .perm) × (g .perm ≤ 3)
-  pub ordered : end ≤ pageDown (g .vaddr)
-
--- each from the page end of the one before
-abbrev pub AllLoad : ℕ → List Segment → Type 0
-AllLoad end [] = Unit {0}
-AllLoad end (g ∷ gs) = Loads end g × AllLoad (pageUp (g .vaddr + g .memsz)) gs
+-- ---- an image's segments
 
 all-filter : {A : Type 0} (t : A → Bool) (l : List A) → all t (filter t l) ≡ true
 all-filter t [] = refl

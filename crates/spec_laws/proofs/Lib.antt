@@ -21,11 +21,14 @@ pub mod OwnPieces
 pub mod Owned
 pub mod Exact
 pub mod Facts
--- Of images: checks and headers, and what an accepted image records and a start makes of it.
+-- Of images: the checks of each form, and what an accepted program records and a start makes of it.
 pub mod Checks
+pub mod Loads
 pub mod Headers
+pub mod Aouts
 pub mod Accepted
 pub mod Started
+pub mod AoutPages
 -- Theorems of the definitions alone.
 pub mod Begins
 pub mod Turns

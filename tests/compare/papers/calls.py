@@ -7,16 +7,16 @@ from .segments import rule
 from .user import User
 
 
-def load30(setup, image):
-    """As load; 11 to 27 become 30."""
+def load30(setup, image, magic):
+    """As load; 11 to 27, 42 and 43 become 30."""
     try:
-        return load(setup, image)
+        return load(setup, image, magic)
     except Refused as r:
-        raise Refused(30 if r.args[0] <= 27 else r.args[0])
+        raise Refused(31 if r.args[0] == 31 else 30)
 
 
 class World(User):
-    """Frames, book and records, and the calls over them."""
+    """Frames, book and records, and the calls over them. Start and replace take the magic of an a.out, or None for ELF."""
 
     def push_args(self, n, pc, top, args):
         strings = b''.join(a + b'\0' for a in args)
@@ -49,18 +49,18 @@ class World(User):
         self.records[n] = Record(ranges + [self.setup.stack], bss, kstrcpy(elem(name)))
         return self.push_args(n, entry, self.setup.ustktop, args)
 
-    def start(self, n, name, image, args):
+    def start(self, n, name, magic, image, args):
         self.enter()
         self.vacant(n)
         check_args(self.setup, args)
-        loaded = load30(self.setup, image)
+        loaded = load30(self.setup, image, magic)
         if page_count(self.setup, *loaded[2:]) > len(self.free()):
             raise Refused(33)
         return self.install(n, name, loaded, args)
 
-    def replace(self, n, name, image, argv):
+    def replace(self, n, name, magic, image, argv):
         self.called(n)
-        loaded = load30(self.setup, image)
+        loaded = load30(self.setup, image, magic)
         args = self.copy_argv(n, argv)
         if page_count(self.setup, *loaded[2:]) > self.alone(n) + len(self.free()):
             raise Ended(33)

@@ -8,13 +8,16 @@ class Segment:
         self.end = vaddr + memsz
 
 
+def check(number, passes):
+    """Refused, with this number, unless it passes."""
+    if not passes:
+        raise Refused(number)
+
+
 def parse(image, perms):
     """The entry and the loadable segments, their permissions by a table; Refused 11 to 27."""
     def field(b, at, n):
         return int.from_bytes(b[at:at + n], 'little')
-    def check(number, passes):
-        if not passes:
-            raise Refused(number)
     check(11, len(image) >= 64)
     check(12, image[:4] == b'\x7fELF')
     check(13, image[4] == 2)

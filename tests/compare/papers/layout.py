@@ -1,4 +1,5 @@
 """Item 5: layout, recorded segments, arguments, under a set of the machine's numbers and a flag table."""
+from .aout import read_aout
 from .image import parse
 from .machine import DATA, PAGE, Refused, down, up
 
@@ -28,9 +29,9 @@ def page_count(setup, ranges, bss):
     return sum(end - start for start, end, _ in ranges + [(up(bss[0]), bss[1], DATA), setup.stack]) // PAGE
 
 
-def load(setup, image):
-    """Entry, segments, recorded ranges and bss of an image; Refused 11 to 31."""
-    entry, segments = parse(image, setup.flags)
+def load(setup, image, magic=None):
+    """Entry, segments, recorded ranges and bss of an image, which is an a.out where its magic is given; Refused 11 to 31, 42, 43."""
+    entry, segments = parse(image, setup.flags) if magic is None else read_aout(image, magic, setup.utzero)
     bss = layout(setup, segments)
     return entry, segments, recorded(segments, bss), bss
 

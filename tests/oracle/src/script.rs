@@ -50,6 +50,14 @@ pub trait Calls: Sized {
     }
     fn start(&mut self, n: u64, name: &[u8], image: &[u8], args: &[&[u8]]) -> Answer<Regs>;
     fn replace(&mut self, n: u64, name: &[u8], image: &[u8], argv: u64) -> Answer<Regs>;
+    /// As `start`, of a Plan 9 a.out that is to have this magic. None where images are ELF alone.
+    fn start_aout(&mut self, _n: u64, _name: &[u8], _magic: u32, _image: &[u8], _args: &[&[u8]]) -> Option<Answer<Regs>> {
+        None
+    }
+    /// As `replace`, of such an a.out.
+    fn replace_aout(&mut self, _n: u64, _name: &[u8], _magic: u32, _image: &[u8], _argv: u64) -> Option<Answer<Regs>> {
+        None
+    }
     fn push(&mut self, n: u64, pc: u64, top: u64, args: &[&[u8]]) -> Answer<Regs>;
     fn brk(&mut self, n: u64, addr: u64) -> Answer<u64>;
     /// `list` is the lent list of segments, or None for the record's own.
@@ -91,6 +99,8 @@ const FRAMES: u64 = 1_025;
 const MAX: usize = 65_536;
 /// What a buffer holds at first.
 const BLANK: u8 = 238;
+/// How the word before an a.out begins, which says its form.
+const AOUT: &[u8] = b"aout=";
 
 /// The answer to a line; None where there is none.
 pub fn answer(w: &mut impl Calls, line: &[u8]) -> Option<String> {
@@ -133,6 +143,11 @@ fn at_most(n: u64, most: u64) -> Given<u64> {
     }
 }
 
+/// The magic of an a.out, from the word before it.
+fn magic(form: &[u8]) -> Given<u32> {
+    at_most(number(&form[AOUT.len()..])?, u32::MAX as u64).map(|n| n as u32)
+}
+
 /// The answer to a call with its words, or to words that are no call.
 fn call<W: Calls>(w: &mut W, name: &[u8], words: &[&[u8]]) -> Given<String> {
     let many = |from: &[&[u8]]| from.iter().map(|b| bytes(b)).collect::<Given<Vec<_>>>();
@@ -170,13 +185,22 @@ fn call<W: Calls>(w: &mut W, name: &[u8], words: &[&[u8]]) -> Given<String> {
             *w.book().get_mut(i as usize).ok_or(BAD)? = word;
             "ok".into()
         }
-        (b"start", [n, name, image, args @ ..]) => {
+        (b"start", [n, name, form, image, args @ ..]) if form.starts_with(AOUT) => {
             // The image comes last.
+            let (n, name, magic, args, image) = (number(n)?, bytes(name)?, magic(form)?, many(args)?, bytes(image)?);
+            let args: Vec<&[u8]> = args.iter().map(Vec::as_slice).collect();
+            show(w.start_aout(n, &name, magic, &image, &args).ok_or(BAD)?, regs)
+        }
+        (b"start", [n, name, image, args @ ..]) if !image.starts_with(AOUT) => {
             let (n, name, args, image) = (number(n)?, bytes(name)?, many(args)?, bytes(image)?);
             let args: Vec<&[u8]> = args.iter().map(Vec::as_slice).collect();
             show(w.start(n, &name, &image, &args), regs)
         }
-        (b"replace", [n, name, image, argv]) => {
+        (b"replace", [n, name, form, image, argv]) if form.starts_with(AOUT) => {
+            let (n, name, magic, image, argv) = (number(n)?, bytes(name)?, magic(form)?, bytes(image)?, number(argv)?);
+            show(w.replace_aout(n, &name, magic, &image, argv).ok_or(BAD)?, regs)
+        }
+        (b"replace", [n, name, image, argv]) if !image.starts_with(AOUT) => {
             let (n, name, image, argv) = (number(n)?, bytes(name)?, bytes(image)?, number(argv)?);
             show(w.replace(n, &name, &image, argv), regs)
         }

@@ -41,17 +41,17 @@ module _ (c : tie.Else1) where
   ok-setup = setup-means (start .args .setup) (passed .setup)
 
   abbrev asked : Ask
-  asked = replace (now (start .args .image)) (now (start .args .name)) (start .args .argv)
+  asked = replace (start .args .form) (now (start .args .image)) (now (start .args .name)) (start .args .argv)
 
   answers : (t : State) (r : Reply) → weigh (view state (start .args .number)) (free (now (start .args .book))) (alone (now (start .args .book)) (start .args .number)) asked ≡ r
       → t ≡ leave state (call (start .args .number) asked) (outcome r) → Does state (call (start .args .number) asked) t r
   answers = plain-goes state (start .args .number) asked (c .before .plain-ready .result) refl (c .before .plain-ready .ensures .0) (c .if1 .left)
 
 -- the plan's number is the image's
-number : (c : tie.After-plan-of) → c .plan-of .result .number ≡ imageError (start (c .before) .args .setup) (now (start (c .before) .args .image))
-number c = ap (λ (p : Plan). p .number) (c .plan-of .ensures) ∙ plan-number (start (c .before) .args .setup) (now (start (c .before) .args .image))
+number : (c : tie.After-plan-of) → c .plan-of .result .number ≡ imageError (start (c .before) .args .setup) (start (c .before) .args .form) (now (start (c .before) .args .image))
+number c = ap (λ (p : Plan). p .number) (c .plan-of .ensures) ∙ plan-number (start (c .before) .args .setup) (start (c .before) .args .form) (now (start (c .before) .args .image))
 
-accepted : (c : tie.Else2) → imageError (start (c .before .before .before) .args .setup) (now (start (c .before .before .before) .args .image)) ≡ 0
+accepted : (c : tie.Else2) → imageError (start (c .before .before .before) .args .setup) (start (c .before .before .before) .args .form) (now (start (c .before .before .before) .args .image)) ≡ 0
 accepted c = sym (number (c .before .before)) ∙ c .if2 .left
 
 plain-ready-requires : tie.Need-plain-ready-requires
@@ -67,7 +67,7 @@ returns : tie.Need-returns
 returns c =
     let e = c .before .plain-ready in
     let a = c .before .before .before .before .before .before .before .before .before .before .before .args in
-    plain-refused _ _ (replace (now (a .image)) (now (a .name)) (a .argv)) (e .result) refl (e .ensures .0) (c .if1 .taken)
+    plain-refused _ _ (replace (a .form) (now (a .image)) (now (a .name)) (a .argv)) (e .result) refl (e .ensures .0) (c .if1 .taken)
 
 plan-of-requires : tie.Need-plan-of-requires
 plan-of-requires c κs = ok-setup c
@@ -82,7 +82,7 @@ returns-2 : tie.Need-returns-2
 returns-2 c =
     let i = c .before .before .before in
     let a = start i .args in
-    answers i _ _ (image-refused (view (state i) (a .number)) (free (now (a .book))) (alone (now (a .book)) (a .number)) (now (a .image)) (now (a .name)) (a .argv) _ (number (c .before .before)) (c .if2 .taken)) refl
+    answers i _ _ (image-refused (view (state i) (a .number)) (free (now (a .book))) (alone (now (a .book)) (a .number)) (a .form) (now (a .image)) (now (a .name)) (a .argv) _ (number (c .before .before)) (c .if2 .taken)) refl
 
 proc-at-requires : tie.Need-proc-at-requires
 proc-at-requires c κs = passed (c .before .before .before) .number
@@ -100,7 +100,7 @@ enter-argv-requires c κs =
     let o = c .before .before .before .before .before in
     let a = start (i o) .args in (
       ready-of (i o .before .plain-ready .ensures .1) (i o .if1 .left),
-      enterable (a .setup) (now (a .frames)) (now (a .book)) (a .procs) (a .number) (whole o) (first (i o)) (now (a .image)) _ (o .before .before .before .plan-of .ensures) (accepted (o .before)),
+      enterable (a .setup) (now (a .frames)) (now (a .book)) (a .procs) (a .number) (whole o) (first (i o)) (a .form) (now (a .image)) _ (o .before .before .before .plan-of .ensures) (accepted (o .before)),
     )
 
 with-proc-requires : tie.Need-with-proc-requires
@@ -118,7 +118,7 @@ returns-3 c =
     let o = c .before .before .before .before .before .before .before .before .before .before .before .before in
     let a = start (i o) .args in
     let p = o .proc-at in
-    let e = became (state (i o)) (a .number) (now (a .image)) (now (a .name)) (a .argv) (p .result) (p .ensures) (accepted (o .before)) _ (w .result) (w .ensures) in
+    let e = became (state (i o)) (a .number) (a .form) (now (a .image)) (now (a .name)) (a .argv) (p .result) (p .ensures) (accepted (o .before)) _ (w .result) (w .ensures) in
     answers (i o) _ _ (e .0) (state-is _ _ _ _ _ refl (c .with-proc .ensures) ∙ e .1)
 
 pub replace-spec : {M : Type 1} → statement M

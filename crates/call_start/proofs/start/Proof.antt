@@ -10,10 +10,13 @@ use borrow.Author.Needs.{needs}
 use borrow.Author.Tests.{eqb-true}
 use Rattle.spec.specs.Tests.{_is_, sum}
 use Rattle.spec.specs.Book.{free, pageCount}
+use Rattle.spec.specs.Program.{Program}
+use Rattle.spec.specs.Image.{programOf}
 use Rattle.spec.specs.Exec.{imageError, startPieces, argsOf, argsError}
 use Rattle.spec.specs.Machine.{start, Call, outcome, plainly, weighStart, call}
 use Rattle.spec.specs.World.{State, taken, setProc, leave, Does, stateOf}
 use Rattle.spec.specs.declared.Setup.{Setup}
+use Rattle.spec.specs.declared.Form.{Form}
 use Rattle.spec.specs.declared.Answer.{Answer}
 use Rattle.spec.specs.declared.Answer.the-variants.{Regs}
 use Rattle.spec.proofs.Setups.{setup-means}
@@ -47,8 +50,17 @@ module _ (c : tie.After-begin-error) where
   abbrev number : ℕ
   number = begin .args .number
 
+  abbrev form : Form
+  form = begin .args .form
+
   abbrev image : List ℕ
   image = now (begin .args .image)
+
+  abbrev error : ℕ
+  error = imageError setup form image
+
+  abbrev program : Program
+  program = programOf setup form image
 
   abbrev name : List ℕ
   name = now (begin .args .name)
@@ -78,7 +90,7 @@ same-length-2 : tie.Need-same-length-2
 same-length-2 c = search needs
 
 returns : tie.Need-returns
-returns c = let b = c .before in start-refused (state b) (number b) (image b) (name b) (bytes b) (lengths b) (b .begin-error .result) (first b) (c .if1 .taken)
+returns c = let b = c .before in start-refused (state b) (number b) (form b) (image b) (name b) (bytes b) (lengths b) (b .begin-error .result) (first b) (c .if1 .taken)
 
 args-size-requires : tie.Need-args-size-requires
 args-size-requires c κs = search needs
@@ -121,17 +133,17 @@ module _ (c : tie.After-free-count) where
   abbrev plan : Plan
   plan = c .before .before .plan-of .result
 
-  image-number : plan .number ≡ imageError (setup b) (image b)
-  image-number = ap (λ (p : Plan). p .number) (c .before .before .plan-of .ensures) ∙ plan-number (setup b) (image b)
+  image-number : plan .number ≡ error b
+  image-number = ap (λ (p : Plan). p .number) (c .before .before .plan-of .ensures) ∙ plan-number (setup b) (form b) (image b)
 
-  pages : imageError (setup b) (image b) ≡ 0 → plan .pages ≡ pageCount (startPieces (setup b) (image b))
-  pages e = ap (λ (p : Plan). p .pages) (c .before .before .plan-of .ensures ∙ plan-accepted (setup b) (image b) e)
+  pages : error b ≡ 0 → plan .pages ≡ pageCount (startPieces (setup b) (program b))
+  pages e = ap (λ (p : Plan). p .pages) (c .before .before .plan-of .ensures ∙ plan-accepted (setup b) (form b) (image b) (setup-means (setup b) (free-number .0 .setup)) e)
 
   abbrev asked : Call
-  asked = call (number b) (start (image b) (name b) (bytes b) (lengths b))
+  asked = call (number b) (start (form b) (image b) (name b) (bytes b) (lengths b))
 
-  answers : (t : State) (a : Answer) → weighStart (setup b) frames (image b) args ≡ a → t ≡ leave (state b) asked (outcome (plainly a)) → Does (state b) asked t (plainly a)
-  answers = start-goes (state b) (number b) (image b) (name b) (bytes b) (lengths b) (b .begin-error .result) (first b) (none .if1 .left)
+  answers : (t : State) (a : Answer) → weighStart (setup b) frames (error b) (program b) args ≡ a → t ≡ leave (state b) asked (outcome (plainly a)) → Does (state b) asked t (plainly a)
+  answers = start-goes (state b) (number b) (form b) (image b) (name b) (bytes b) (lengths b) (b .begin-error .result) (first b) (none .if1 .left)
 
 same-length-3 : tie.Need-same-length-3
 same-length-3 c = search needs
@@ -140,7 +152,7 @@ same-length-4 : tie.Need-same-length-4
 same-length-4 c = search needs
 
 returns-2 : tie.Need-returns-2
-returns-2 c = let f = c .before .before in answers f (state (b f)) _ (weigh-args (setup (b f)) (frames f) (image (b f)) (args f) _ (args-number f) (c .if2 .taken)) refl
+returns-2 c = let f = c .before .before in answers f (state (b f)) _ (weigh-args (setup (b f)) (frames f) (error (b f)) (program (b f)) (args f) _ (args-number f) (c .if2 .taken)) refl
 
 same-length-5 : tie.Need-same-length-5
 same-length-5 c = search needs
@@ -156,7 +168,7 @@ returns-3 : tie.Need-returns-3
 returns-3 c =
     let k = c .before .before in
     let f = k .before .before in
-    answers f (state (b f)) _ (weigh-image (setup (b f)) (frames f) (image (b f)) (args f) (passed k) _ (image-number f) (c .if3 .taken)) refl
+    answers f (state (b f)) _ (weigh-image (setup (b f)) (frames f) (error (b f)) (program (b f)) (args f) (passed k) _ (image-number f) (c .if3 .taken)) refl
 
 same-length-7 : tie.Need-same-length-7
 same-length-7 c = search needs
@@ -165,7 +177,7 @@ same-length-8 : tie.Need-same-length-8
 same-length-8 c = search needs
 
 -- where the image is accepted
-accepted : (c : tie.Else3) → imageError (setup (b (c .before .before .before .before))) (image (b (c .before .before .before .before))) ≡ 0
+accepted : (c : tie.Else3) → error (b (c .before .before .before .before)) ≡ 0
 accepted c = sym (image-number (c .before .before .before .before)) ∙ c .if3 .left
 
 returns-4 : tie.Need-returns-4
@@ -174,14 +186,14 @@ returns-4 c =
     let k = u .before .before in
     let f = k .before .before in
     answers f (state (b f)) _
-    (weigh-short (setup (b f)) (frames f) (image (b f)) (args f) (passed k) (accepted u) (omega (arith, pages f (accepted u), f .free-count .ensures, c .if4 .taken))) refl
+    (weigh-short (setup (b f)) (frames f) (error (b f)) (program (b f)) (args f) (passed k) (accepted u) (omega (arith, pages f (accepted u), f .free-count .ensures, c .if4 .taken))) refl
 
 -- where the free frames hold its pages
-room : (c : tie.Else4) → pageCount (startPieces (setup (b (c .before .before .before .before .before .before))) (image (b (c .before .before .before .before .before .before)))) ≤ frames (c .before .before .before .before .before .before)
+room : (c : tie.Else4) → pageCount (startPieces (setup (b (c .before .before .before .before .before .before))) (program (b (c .before .before .before .before .before .before)))) ≤ frames (c .before .before .before .before .before .before)
 room c = let f = c .before .before .before .before .before .before in omega (arith, pages f (accepted (c .before .before)), f .free-count .ensures, c .if4 .left)
 
 -- what may be installed
-installable : (c : tie.Else4) → let f = c .before .before .before .before .before .before in Installable (setup (b f)) (state (b f) .store) (number (b f)) (image (b f)) (plan f)
+installable : (c : tie.Else4) → let f = c .before .before .before .before .before .before in Installable (setup (b f)) (state (b f) .store) (number (b f)) (form (b f)) (image (b f)) (plan f)
 installable c =
     let u = c .before .before in
     let f = u .before .before .before .before in
@@ -225,9 +237,9 @@ returns-5 c =
     let k = u .before .before in
     let f = k .before .before in
     answers f _ _
-    (weigh-fits (setup (b f)) (frames f) (image (b f)) (args f) (passed k) (accepted u) (room r) ∙ ap Regs (sym (w .install-with .ensures .1)))
+    (weigh-fits (setup (b f)) (frames f) (error (b f)) (program (b f)) (args f) (passed k) (accepted u) (room r) ∙ ap Regs (sym (w .install-with .ensures .1)))
     (state-is _ _ _ _ _ (w .install-with .ensures .0)
-    (c .with-proc .ensures ∙ ap (setProc (begin (b f) .args .procs) (number (b f))) (c .before .record-of .ensures ∙ plan-record _ _ _ _ (installable r) (name (b f)))))
+    (c .with-proc .ensures ∙ ap (setProc (begin (b f) .args .procs) (number (b f))) (c .before .record-of .ensures ∙ plan-record _ _ _ _ _ (installable r) (name (b f)))))
 
 pub start-spec : {M : Type 1} → statement M
 start-spec =

@@ -1,4 +1,4 @@
--- `exec::fill` meets its contract: too many segments are refused, and otherwise each field is the image's.
+-- `exec::fill` meets its contract: too many segments are refused, and otherwise each field is the program's.
 -- Assumes nothing.
 use mathlib.Core.Path.{_≡_, sym, ap, ap₂, _∙_}
 use Prim.Native.Nat.{ℕ, _+_, _-_, _/_, _^_, _≤_}
@@ -8,8 +8,9 @@ use lib.ListN.{length, take, set}
 use borrow.Author.Needs.{needs}
 use Rattle.spec.specs.Numbers.{pageUp}
 use Rattle.spec.specs.Book.{pageCount, stack}
-use Rattle.spec.specs.Elf.{segmentsOf}
-use Rattle.spec.specs.Exec.{imageSegments, kept}
+use Rattle.spec.specs.Program.{Program}
+use Rattle.spec.specs.Image.{programOf}
+use Rattle.spec.specs.Exec.{programSegments, kept}
 use Rattle.spec.specs.declared.UserSegment.{UserSegment}
 use Rattle.spec.specs.declared.VirtRange.{VirtRange}
 use Rattle.exec.specs.Pages.{recorded}
@@ -21,40 +22,38 @@ use Rattle.exec.proofs.fill.Tie as tie
 -- the bss leaves room to round
 low : (c : tie.Start) → c .args .bss .start ≤ 2 ^ 64 - 4096
 low c =
-    let image = now (c .args .image) in
-    let setup = c .args .setup in
-    omega (arith, c .pre .1 .1 .1, bss-low setup image (c .pre .1 .1 .1) (c .pre .0) (c .pre .1 .0), ap (λ (b : VirtRange). b .start) (c .pre .1 .1 .0))
+    let a = c .args in
+    omega (arith, c .pre .1 .1 .1, bss-low (a .setup) (a .form) (now (a .image)) (c .pre .1 .1 .1) (c .pre .0) (c .pre .1 .0), ap (λ (b : VirtRange). b .start) (c .pre .1 .1 .0))
 
 segments-requires : tie.Need-segments-requires
-segments-requires c κs = (c .before .before .pre .0, low (c .before .before))
+segments-requires c κs = let p = c .before in ((p .pre .0, p .pre .1 .1 .1), low p)
 
--- what is recorded is the image's
-whole : (c : tie.After-segments) → let a = c .before .before .before .args in c .segments .result ≡ recorded (imageSegments (a .setup) (now (a .image)))
+-- what is recorded is the program's
+whole : (c : tie.After-segments) → let a = c .before .before .args in c .segments .result ≡ recorded (programSegments (programOf (a .setup) (a .form) (now (a .image))))
 whole c =
-    let a = c .before .before .before .args in
-    c .segments .ensures ∙ ap (λ (b : VirtRange). recorded (kept b (segmentsOf (a .setup .flags) (now (a .image))))) (c .before .before .before .pre .1 .1 .0)
+    let a = c .before .before .args in
+    c .segments .ensures ∙ ap (λ (b : VirtRange). recorded (kept b (programOf (a .setup) (a .form) (now (a .image)) .segments))) (c .before .before .pre .1 .1 .0)
 
-many : (c : tie.After-segments) → let a = c .before .before .before .args in c .segments .result .count ≡ length (imageSegments (a .setup) (now (a .image)))
+many : (c : tie.After-segments) → let a = c .before .before .args in c .segments .result .count ≡ length (programSegments (programOf (a .setup) (a .form) (now (a .image))))
 many c = ap (λ (r : Recorded). r .count) (whole c)
 
 returns : tie.Need-returns
 returns c =
-    let p = c .before .before .before .before .before .before in
-    let image = now (p .args .image) in
-    let setup = p .args .setup in
+    let p = c .before .before .before .before .before in
+    let a = p .args in
     c .refused .ensures
-    ∙ plan-many setup image (p .pre .0) (p .pre .1 .0) (omega (arith, many (c .before .before .before), c .before .if1 .taken))
+    ∙ plan-many (a .setup) (a .form) (now (a .image)) (p .pre .0) (p .pre .1 .0) (omega (arith, many (c .before .before .before), c .before .if1 .taken))
 
 page-up-requires : tie.Need-page-up-requires
-page-up-requires c κs = omega (arith, low (c .before .before .before .before .before))
+page-up-requires c κs = omega (arith, low (c .before .before .before .before))
 
 returns-2 : tie.Need-returns-2
 returns-2 c =
-    let p = c .before .before .before .before .before .before .before .before .before .before in
-    let image = now (p .args .image) in
+    let p = c .before .before .before .before .before .before .before .before .before in
     let setup = p .args .setup in
+    let program : Program = programOf setup (p .args .form) (now (p .args .image)) in
     let s = c .before .before .before .before .before .before .before in
-    let us = imageSegments setup image in
+    let us = programSegments program in
     let few : length us ≤ 15 = omega (arith, many s, c .before .before .before .before .before .if1 .left) in
     let first = c .before .before .before .page-count .ensures .0 ∙ ap (λ (r : Recorded). pageCount (take (r .count) (r .segments))) (whole s) ∙ ap pageCount (first-ones setup us few) in
     let behind = c .before .before .pages .ensures .0 ∙ ap (λ (x : ℕ). (p .args .bss .end - x) / 4096) (c .before .before .before .before .page-up .ensures)
@@ -64,8 +63,8 @@ returns-2 c =
     (ap₂ (λ (r : Recorded) (g : UserSegment). set (r .segments) (r .count) g) (whole s) (c .before .stack .ensures) ∙ with-stack setup us few)
     (many s)
     (p .pre .1 .1 .0)
-    (ap₂ (λ (a b : ℕ). a + b + setup .ustksize / 4096) first behind ∙ sym (all-pages setup image (p .pre .1 .1 .1)))
-    ∙ sym (plan-yes setup image (p .pre .0) (p .pre .1 .0) few)
+    (ap₂ (λ (a b : ℕ). a + b + setup .ustksize / 4096) first behind ∙ sym (all-pages setup (p .pre .1 .1 .1) program))
+    ∙ sym (plan-yes setup (p .args .form) (now (p .args .image)) (p .pre .0) (p .pre .1 .0) few)
 
 pub fill-spec : {M : Type 1} → statement M
 fill-spec =

@@ -12,6 +12,8 @@ use borrow.Author.Tests.{lt-ltb, le-ltb}
 use Rattle.spec.specs.Book.{frameCount, countBelow, isFree, free, alone, pageCount}
 use Rattle.spec.specs.Frames.{Store, Mem, memOf, store}
 use Rattle.spec.specs.Sound.{Mappings}
+use Rattle.spec.specs.Program.{Program}
+use Rattle.spec.specs.Image.{programOf}
 use Rattle.spec.specs.Exec.{startPieces}
 use Rattle.spec.specs.declared.Answer.the-variants.{Regs}
 use Rattle.spec.proofs.Bools.{split}
@@ -30,6 +32,10 @@ use Rattle.call_replace.proofs.enter.enter.Tie as tie
 count-most : (t : ℕ → Bool) (c : ℕ) → countBelow t c ≤ c
 count-most t zero = omega arith
 count-most t (suc c) = let m = count-most t c in split (t c) (λ q. rw q (omega arith)) (λ q. rw q (omega arith))
+
+-- the program that is entered
+abbrev program : tie.Start → Program
+program s = programOf (s .args .setup) (s .args .form) (now (s .args .image))
 
 alone-count-requires : tie.Need-alone-count-requires
 alone-count-requires c κs = valid-means _ (c .before .before .before .before .before .before .pre .0 .number)
@@ -54,8 +60,8 @@ module _ (c : tie.After-free-count) where
   all-free : free (freed m (s .args .number) .book) ≡ free (m .book) + alone (m .book) (s .args .number)
   all-free = free-release-own m (s .args .number) (s .pre .0 .number) (s .pre .0 .mappings)
 
-  pages : s .args .plan .pages ≡ pageCount (startPieces (s .args .setup) (now (s .args .image)))
-  pages = ap (λ (p : Plan). p .pages) (s .pre .0 .planned ∙ plan-accepted (s .args .setup) (now (s .args .image)) (s .pre .0 .accepted))
+  pages : s .args .plan .pages ≡ pageCount (startPieces (s .args .setup) (program s))
+  pages = ap (λ (p : Plan). p .pages) (s .pre .0 .planned ∙ plan-accepted (s .args .setup) (s .args .form) (now (s .args .image)) (s .pre .0 .setup-ok) (s .pre .0 .accepted))
 
 -- together they are no more than all
 add-room : tie.Need-add-room
@@ -87,8 +93,8 @@ returns : tie.Need-returns
 returns c =
     let w = c .before .before .before .before .before in
     let a = s (k w) .args in
-    let b = short (a .setup) (m (k w)) (a .number) (now (a .image)) in
-    let over : b ≡ true = lt-ltb (alone (now (a .book)) (a .number) + free (now (a .book))) (pageCount (startPieces (a .setup) (now (a .image)))) (omega (arith, pages (k w), mine (k w), count (k w), c .before .if1 .taken)) in
+    let b = short (a .setup) (m (k w)) (a .number) (program (s (k w))) in
+    let over : b ≡ true = lt-ltb (alone (now (a .book)) (a .number) + free (now (a .book))) (pageCount (startPieces (a .setup) (program (s (k w))))) (omega (arith, pages (k w), mine (k w), count (k w), c .before .if1 .taken)) in
     (here b _ _ _ over (c .zero-proc .ensures), λ args f. (here b _ _ _ over (left w), here b _ _ _ over refl))
 
 -- where they suffice
@@ -99,13 +105,13 @@ module _ (c : tie.Else1) where
   abbrev o : tie.After-free-count
   o = k w
 
-  enough : pageCount (startPieces (s o .args .setup) (now (s o .args .image))) ≤ alone (now (s o .args .book)) (s o .args .number) + free (now (s o .args .book))
+  enough : pageCount (startPieces (s o .args .setup) (program (s o))) ≤ alone (now (s o .args .book)) (s o .args .number) + free (now (s o .args .book))
   enough = omega (arith, pages o, mine o, count o, c .if1 .left)
 
-  room : short (s o .args .setup) (m o) (s o .args .number) (now (s o .args .image)) ≡ false
-  room = le-ltb (alone (now (s o .args .book)) (s o .args .number) + free (now (s o .args .book))) (pageCount (startPieces (s o .args .setup) (now (s o .args .image)))) enough
+  room : short (s o .args .setup) (m o) (s o .args .number) (program (s o)) ≡ false
+  room = le-ltb (alone (now (s o .args .book)) (s o .args .number) + free (now (s o .args .book))) (pageCount (startPieces (s o .args .setup) (program (s o)))) enough
 
-  installable : Installable (s o .args .setup) (store (now (s o .args .frames)) (book w)) (s o .args .number) (now (s o .args .image)) (s o .args .plan)
+  installable : Installable (s o .args .setup) (store (now (s o .args .frames)) (book w)) (s o .args .number) (s o .args .form) (now (s o .args .image)) (s o .args .plan)
   installable =
       let e = s o .pre .0 in
       let n = s o .args .number in
@@ -140,11 +146,11 @@ returns-2 : tie.Need-returns-2
 returns-2 c =
     let e = c .before .before .before .before .before .before .before .before in
     let a = s (o e) .args in
-    let b = short (a .setup) (m (o e)) (a .number) (now (a .image)) in (
-      past b _ _ _ (room e) (c .record-of .ensures ∙ plan-record _ _ _ _ (installable e) (now (a .name))),
+    let b = short (a .setup) (m (o e)) (a .number) (program (s (o e))) in (
+      past b _ _ _ (room e) (c .record-of .ensures ∙ plan-record _ _ _ _ _ (installable e) (now (a .name))),
       λ args f.
           let i = c .before .before .before .before .before .install .ensures args f in
-          (past b _ _ _ (room e) (i .0 ∙ ap (λ (x : Store). installed (a .setup) x (a .number) (now (a .image)) args) (left (w e))), past b _ _ _ (room e) (ap Regs (i .1))),
+          (past b _ _ _ (room e) (i .0 ∙ ap (λ (x : Store). installed (a .setup) x (a .number) (program (s (o e))) args) (left (w e))), past b _ _ _ (room e) (ap Regs (i .1))),
     )
 
 pub enter-spec : {M : Type 1} → statement M

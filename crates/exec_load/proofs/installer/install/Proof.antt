@@ -17,7 +17,7 @@ load-requires c κs =
     let s = c .before .before .before .before .before .before .before in
     let i = s .pre .0 in
     let v = valid-means (s .args .number) (i .number) in
-    (i .sizes, v .0, omega (arith, v .1), i .accepted, plan-bss _ _ _ _ i, i .setup-ok)
+    (i .sizes, v .0, omega (arith, v .1), i .accepted, plan-bss _ _ _ _ _ i, i .setup-ok)
 
 push-args-requires : tie.Need-push-args-requires
 push-args-requires c κs =
@@ -26,7 +26,7 @@ push-args-requires c κs =
     let i = s .pre .0 in
     let v = valid-means (s .args .number) (i .number) in (
       (omega (arith, i .sizes, l .kept), v .0, omega (arith, v .1), i .setup-ok),
-      (subst (λ (m : Store). Mapped (m .book) (s .args .number) (s .args .setup .ustktop - s .args .setup .ustksize) (s .args .setup .ustktop)) (sym (l .ensures)) (stack-mapped _ _ _ _ i), s .pre .1),
+      (subst (λ (m : Store). Mapped (m .book) (s .args .number) (s .args .setup .ustktop - s .args .setup .ustksize) (s .args .setup .ustktop)) (sym (l .ensures)) (stack-mapped _ _ _ _ _ i), s .pre .1),
     )
 
 same-length : tie.Need-same-length
@@ -42,7 +42,7 @@ returns c = λ args f.
     let s = c .before .before .before .before .before .before .before .before .before .before .before .before .before .before .before .before .before in
     let a = s .args in (
       p .0 ∙ ap (λ (m : Store). pushIn m (a .number) (a .setup .ustktop) args) (l .ensures),
-      p .1 ∙ ap (λ (pc : ℕ). registers pc (a .setup .ustktop) args) (plan-entry _ _ _ _ (s .pre .0)),
+      p .1 ∙ ap (λ (pc : ℕ). registers pc (a .setup .ustktop) args) (plan-entry _ _ _ _ _ (s .pre .0)),
     )
 
 pub install-spec : {M : Type 1} → statement M

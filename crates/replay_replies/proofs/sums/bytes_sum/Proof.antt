@@ -6,10 +6,10 @@ use Rattle.replay_replies.proofs.sums.bytes_sum.Statement.{statement}
 use Rattle.replay_replies.proofs.sums.bytes_sum.Tie as tie
 
 abbrev Inv-loop : tie.InvT-loop
-Inv-loop sum bytes r₀ i₀ r i = i ≤ length bytes
+Inv-loop sum bytes r₀ i₀ i-end r i = i ≤ length bytes
 
 abbrev μ-loop : tie.MeasureT-loop
-μ-loop sum bytes r₀ i₀ r i = length bytes - i
+μ-loop sum bytes r₀ i₀ i-end r i = length bytes - i
 
 pub bytes-sum-spec : {M : Type 1} → statement M
 bytes-sum-spec =

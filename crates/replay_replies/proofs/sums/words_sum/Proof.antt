@@ -6,10 +6,10 @@ use Rattle.replay_replies.proofs.sums.words_sum.Statement.{statement}
 use Rattle.replay_replies.proofs.sums.words_sum.Tie as tie
 
 abbrev Inv-loop : tie.InvT-loop
-Inv-loop sum words r₀ i₀ r i = i ≤ length words
+Inv-loop sum words r₀ i₀ i-end r i = i ≤ length words
 
 abbrev μ-loop : tie.MeasureT-loop
-μ-loop sum words r₀ i₀ r i = length words - i
+μ-loop sum words r₀ i₀ i-end r i = length words - i
 
 pub words-sum-spec : {M : Type 1} → statement M
 words-sum-spec =

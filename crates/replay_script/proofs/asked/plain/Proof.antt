@@ -7,10 +7,10 @@ use Rattle.replay_script.proofs.asked.plain.Statement.{statement}
 use Rattle.replay_script.proofs.asked.plain.Tie as tie
 
 abbrev Inv-loop : tie.InvT-loop
-Inv-loop line kind last numbers₀ at₀ n i₀ numbers at i = (i ≤ n) × (length numbers ≡ 4)
+Inv-loop line kind last numbers₀ at₀ i₀ i-end numbers at i = (i ≤ i-end) × (length numbers ≡ 4)
 
 abbrev μ-loop : tie.MeasureT-loop
-μ-loop line kind last numbers₀ at₀ n i₀ numbers at i = n - i
+μ-loop line kind last numbers₀ at₀ i₀ i-end numbers at i = i-end - i
 
 pub plain-spec : {M : Type 1} → statement M
 plain-spec =

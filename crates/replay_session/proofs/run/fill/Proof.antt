@@ -7,10 +7,10 @@ use Rattle.replay_session.proofs.run.fill.Statement.{statement}
 use Rattle.replay_session.proofs.run.fill.Tie as tie
 
 abbrev Inv-loop : tie.InvT-loop
-Inv-loop bytes₀ b i₀ bytes i = (i ≤ length bytes₀) × (length bytes ≡ length bytes₀)
+Inv-loop bytes₀ b i₀ i-end bytes i = (i ≤ length bytes₀) × (length bytes ≡ length bytes₀)
 
 abbrev μ-loop : tie.MeasureT-loop
-μ-loop bytes₀ b i₀ bytes i = length bytes₀ - i
+μ-loop bytes₀ b i₀ i-end bytes i = length bytes₀ - i
 
 pub fill-spec : {M : Type 1} → statement M
 fill-spec =
