@@ -85,10 +85,10 @@ fn enter_argv(
     )
 }
 
-// Replaces the program of process `number` by an image of the form that the caller names, with the last element of `name` as its name and with the arguments that the
-// array of pointers at user address `argv` points to. Refused with 1, 38, 39 or 2 to 4, with 30 or 31 for its image, or with 33 for its
-// arguments, it changes nothing. A bad address among the arguments, 35, ends the process, and so does 33 if the frames that
-// it holds alone and the free ones don't hold the image's pages.
+// Replaces the program of process `number` by an image of the form that the caller names, with the last element of `name` as its name
+// and with the arguments that the array of pointers at user address `argv` points to. Refused with 1, 38, 39 or 2 to 4, with 30 or 31
+// for its image, or with 33 for its arguments, it changes nothing. A bad address among the arguments, 35, ends the process, and so does
+// 33 if the frames that it holds alone and the free ones don't hold the image's pages.
 pub fn replace(
     setup: Setup,
     frames: &mut [u8],

@@ -52,9 +52,9 @@ fn install_with(
     )
 }
 
-// Starts process `number` from an image of the form that the caller names, with the last element of `name` as its name and with arguments, which are bytes and
-// lengths. Refused with 1, 38, 39, 2, 3 or 5, then with 32 or 33 for its arguments, 30 or 31 for its image, or 33 if the free frames don't
-// hold its pages, it changes nothing.
+// Starts process `number` from an image of the form that the caller names, with the last element of `name` as its name and with
+// arguments, which are bytes and lengths. Refused with 1, 38, 39, 2, 3 or 5, then with 32 or 33 for its arguments, 30 or 31 for its
+// image, or 33 if the free frames don't hold its pages, it changes nothing.
 pub fn start(
     setup: Setup,
     frames: &mut [u8],

@@ -33,7 +33,7 @@ all-checked flags image end (p ∷ ps) e =
     (checked flags image end p (h .0), all-checked flags image (pageUp (p .vaddr + p .memsz)) ps (h .1))
 
 -- under an accepted table a permission is at most 3
-abbrev permOf : Load → ℕ
+abbrev pub permOf : Load → ℕ
 permOf Skip = 0
 permOf (Segment g) = g .perm
 

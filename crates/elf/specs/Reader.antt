@@ -1,7 +1,7 @@
 -- What a reader holds, and what its types stand for in the specification: a segment, and a step over one header. The code walks the
 -- headers once, so that checks 21 to 27 are stated here from any header on. `flags` is the flag table.
 -- Assumes nothing.
-use Prim.Native.Nat.{ℕ, _+_, _-_, _*_, _%_, _^_, _≤_}
+use Prim.Native.Nat.{ℕ, _+_, _-_, _*_, _^_, _≤_}
 use mathlib.Core.Path.{_≡_}
 use mathlib.Core.Bool.{Bool, false, _&&_, _||_}
 use mathlib.Core.List.{List, [], _∷_, map}

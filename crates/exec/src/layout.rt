@@ -66,7 +66,8 @@ fn lay_at(setup: Setup, form: Form, image: &[u8], i: usize, before: Laid) -> Fit
     }
 }
 
-// Checks that an accepted image's program fits the user address space, as text and rodata, then at most one data segment, which the bss follows.
+// Checks that an accepted image's program fits the user address space, as text and rodata, then at most one data segment, which the bss
+// follows.
 pub fn layout(setup: Setup, form: Form, image: &[u8]) -> Fit
     requires { ⌜ (readError setup form (now image) ≡ 0) × SetupOk setup ⌝ }
     ensures { λ r. ⌜ r ≡ fits setup nothing (programOf setup form (now (image .entry)) .segments) ⌝ }

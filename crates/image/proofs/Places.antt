@@ -1,8 +1,8 @@
 -- What a loader reads at each place of an accepted image: the program's segments, in order, each within its bounds.
 use Prim.Native.Nat.{ℕ, zero, suc, _+_, _*_, _-_, _≤_, _<_}
 use native.Mathlib.Omega.{arith}
-use mathlib.Core.Path.{_≡_, refl, sym, ap, subst, _∙_}
-use mathlib.Core.List.{List, [], _∷_}
+use mathlib.Core.Path.{_≡_, refl, sym, ap, _∙_}
+use mathlib.Core.List.{List, []}
 use lib.ListN.{length}
 use Rattle.spec.specs.Tests.{_is_}
 use Rattle.spec.specs.Numbers.{SetupOk}
@@ -15,12 +15,12 @@ use Rattle.spec.specs.declared.Form.{Form}
 use Rattle.spec.specs.declared.Form.the-variants.{Elf, Aout}
 use Rattle.spec.proofs.Bools.{split}
 use Rattle.spec_laws.proofs.Aouts.{aout-means}
-use Rattle.elf.specs.Reader.{loadOf, CheckedLoad}
+use Rattle.elf.specs.Reader.{CheckedLoad}
 use Rattle.elf.specs.declared.Segment.{Segment as Held}
 use Rattle.elf.specs.declared.Load.{Load}
 use Rattle.elf.specs.declared.Load.the-variants.{Skip, Segment as Taken}
 use Rattle.elf.proofs.Walk.{front, segs, segs-some, segs-all}
-use Rattle.elf.proofs.Checked.{perm-most}
+use Rattle.elf.proofs.Checked.{permOf, perm-most}
 use Rattle.elf.proofs.Image.{accepted}
 use Rattle.elf.proofs.HeaderAt.{checked-at}
 use Rattle.image.specs.Places.{aoutLoad, places, loadAt}
@@ -84,10 +84,6 @@ within-at setup (Aout magic) image i e h =
     split (i is 0) (λ q. rw q (omega arith)) (λ q. rw q (split (dataSize image + bssSize image is 0) (λ d. rw d tt) (λ d. rw d (omega arith))))
 
 -- a permission is at most 3
-abbrev permOf : Load → ℕ
-permOf Skip = 0
-permOf (Taken g) = g .perm
-
 pub perm-at : (setup : Setup) → SetupOk setup → (form : Form) (image : List ℕ) (i : ℕ) (g : Held) → loadAt setup form image i ≡ Taken g → g .perm ≤ 3
 perm-at setup ok Elf image i g e = perm-most (setup .flags) (phdrAt image (phoff image + 56 * i)) g (ok .table) e
 perm-at setup ok (Aout magic) image i g e =

@@ -1,11 +1,10 @@
 -- What a loader reads at each place of an image, whatever its form: a segment or none. The specification's programs are those segments
 -- in order. The code reads an a.out's header once and then checks what it read, so that 42 to 27 are stated over its words too.
 -- Assumes nothing.
-use Prim.Native.Nat.{ℕ, zero, suc, _+_, _*_, _-_, _%_}
+use Prim.Native.Nat.{ℕ, _+_, _*_, _%_}
 use mathlib.Core.Bool.{not}
-use mathlib.Core.List.{List, []}
+use mathlib.Core.List.{List}
 use Rattle.spec.specs.Tests.{_is_, _isnt_, _above_, within, _⇒_else_}
-use Rattle.spec.specs.Numbers.{pageUp}
 use Rattle.spec.specs.Elf.{phoff, phnum, phdrAt}
 use Rattle.spec.specs.Aout.{magic, textSize, dataSize, bssSize, entry, textEnd, dataAt}
 use Rattle.spec.specs.declared.Setup.{Setup}

@@ -9,7 +9,6 @@ use Rattle.spec.specs.Image.{readError}
 use Rattle.spec.specs.declared.Form.{Form}
 use Rattle.spec_laws.proofs.Aouts.{aout-means}
 use Rattle.elf.specs.Reader.{CheckedLoad}
-use Rattle.elf.specs.declared.Load.{Load}
 use Rattle.elf.proofs.HeaderAt.{checked-at}
 use Rattle.image.specs.Places.{places, loadAt}
 use Rattle.image.proofs.segment_of.Statement.{statement}

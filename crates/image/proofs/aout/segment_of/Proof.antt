@@ -1,11 +1,10 @@
 -- `aout::segment_of` meets its contract: each answer is the case that its tests lead to, and its sums are of 32-bit words, so that it
 -- stays far below the top of the address space.
 -- Assumes nothing.
-use mathlib.Core.Path.{_≡_, ap}
+use mathlib.Core.Path.{ap}
 use native.Mathlib.Omega.{arith}
 use denote.Ref.{now}
 use borrow.Author.Needs.{needs}
-use Rattle.image.specs.Places.{execOf}
 use Rattle.image.specs.declared.aout.Exec.{Exec}
 use Rattle.image.proofs.Judged.{text-load, no-load, data-load}
 use Rattle.image.proofs.aout.segment_of.Statement.{statement}
