@@ -115,10 +115,13 @@ struct holthrimi_regs {
 enum {
     HOLTHRIMI_ACCEPTED = 0,
     HOLTHRIMI_REFUSED = 1, /* nothing changed (but see the string copy's buffer) */
-    HOLTHRIMI_ENDED = 2    /* refused, and the process has ended: its pages are released, its record zero, frame bytes as before */
+    HOLTHRIMI_ENDED = 2,   /* refused, and the process has ended: its pages are released, its record zero, frame bytes as before */
+    HOLTHRIMI_NO = 3       /* accepted: a range that holthrimi_user_range_ok finds can't be accessed; nothing changed */
 };
 
-/* kind is one of the three; number is 0 if accepted and otherwise the refusal's; value and regs are zeros where the call has none. */
+/* kind is one of the four; number is the refusal's, and 0 with HOLTHRIMI_ACCEPTED and HOLTHRIMI_NO; value and regs are zeros where the
+ * call has none. With number 35 and with HOLTHRIMI_NO, value is the bad address, which may be any 64-bit number, 0 and 1 too: whether
+ * there is one is seen by number and kind. */
 struct holthrimi_answer {
     uint64_t kind;
     uint64_t number;
@@ -140,7 +143,7 @@ enum {
     HOLTHRIMI_EBADARG = 32,  /* a NUL in an argument; a break without bss */
     HOLTHRIMI_ENOVMEM = 33,  /* arguments over the limit; break; too few frames */
     HOLTHRIMI_ESOVERLAP = 34, /* a break above limit */
-    HOLTHRIMI_EFAULT = 35,   /* bad address: a range, or a push below address 0 */
+    HOLTHRIMI_EFAULT = 35,   /* bad address, which value is: a range, a string, or a push below address 0 */
     HOLTHRIMI_TOP = 36,      /* top is not a multiple of 16 */
     HOLTHRIMI_SETUP_LINES = 37, /* holthrimi_read_setup: bytes that are not as described */
     HOLTHRIMI_SETUP = 38,    /* the machine's numbers break a condition */
@@ -188,7 +191,9 @@ struct holthrimi_answer holthrimi_start(struct holthrimi_setup setup,
  * its arguments, which a null ends; they are read from its old memory. Its old pages are released first: a frame that others hold too
  * stays theirs.
  * Refused, after 1, 38, 39 and 2 to 4: 30, 31, then 35, which ends the process, or 33 (arguments) in reading order, then 33, which ends
- * the process, if the frames that it holds alone and the free ones don't suffice. Accepted: regs.
+ * the process, if the frames that it holds alone and the free ones don't suffice. Accepted: regs. With 35, value is the bad address of
+ * the pointer that can't be read, by the rule of holthrimi_user_range_ok for its eight bytes, or the address of the first byte of a
+ * string that can't.
  */
 struct holthrimi_answer holthrimi_replace(struct holthrimi_setup setup,
                                           uint8_t *frames, size_t frame_bytes, uint64_t *book, size_t words,
@@ -199,7 +204,9 @@ struct holthrimi_answer holthrimi_replace(struct holthrimi_setup setup,
 /*
  * Pushes arguments onto a process's stack: their strings end at `top`, and below them lie pointers to them and a null, from a multiple
  * of 8 on, which is regs.argv; regs.sp is that rounded down to 16, and regs.pc as given.
- * Refused, after 1, 38, 39 and 2 to 4: 36, 32, 33, and 35, which ends the process, with no byte written.
+ * Refused, after 1, 38, 39 and 2 to 4: 36, 32, 33, and 35, which ends the process, with no byte written. With 35, value is 0 if it goes
+ * below address 0; otherwise it is the bad address, by the rule of holthrimi_user_range_ok, of the first part that can't be written, in
+ * this order: of each argument its bytes, its NUL and its pointer; at the end the null.
  */
 struct holthrimi_answer holthrimi_push(struct holthrimi_setup setup,
                                        uint8_t *frames, size_t frame_bytes, uint64_t *book, size_t words,
@@ -244,8 +251,12 @@ struct holthrimi_answer holthrimi_end(struct holthrimi_setup setup,
                                       struct holthrimi_procs *procs, uint64_t number);
 
 /*
- * Whether a process may read, or with `write` write, `length` bytes from `addr` on: value is 1 for yes and 0 for no. addr + length must
- * not exceed uaddrtop; length 0 then passes, mapped or not; otherwise every page touched must be mapped, and be data for writing.
+ * Whether a process may read, or with `write` write, `length` bytes from `addr` on. If it may, kind is HOLTHRIMI_ACCEPTED and value 1; if
+ * not, kind is HOLTHRIMI_NO and value the bad address. The rule, in its order:
+ *   - a range that starts above uaddrtop is bad at addr, also with length 0;
+ *   - a range with a byte below uaddrtop whose page isn't mapped, or with `write` isn't data, is bad at the lowest such byte;
+ *   - a range that reaches past uaddrtop, which one does whose addr + length leaves 64 bits, is bad at uaddrtop;
+ *   - every other range is fine: length 0 at or below uaddrtop too, mapped or not.
  * It changes nothing and ends nothing. Refused: 1, 38, 39 and 2 to 4.
  */
 struct holthrimi_answer holthrimi_user_range_ok(struct holthrimi_setup setup,
@@ -254,14 +265,14 @@ struct holthrimi_answer holthrimi_user_range_ok(struct holthrimi_setup setup,
                                                 uint64_t length, bool write);
 
 /* Copies `count` bytes of a process from `src` on to dst. Refused, after 1, 38, 39 and 2 to 4: 35, which ends the process, with no byte
- * copied. */
+ * copied; value is the bad address, as of holthrimi_user_range_ok for reading them. */
 struct holthrimi_answer holthrimi_copy_from_user(struct holthrimi_setup setup,
                                                  uint8_t *frames, size_t frame_bytes, uint64_t *book, size_t words,
                                                  struct holthrimi_procs *procs, uint64_t number, uint8_t *dst, size_t count,
                                                  uint64_t src);
 
 /* Copies `count` bytes to a process from `dst` on. Refused, after 1, 38, 39 and 2 to 4: 35, which ends the process, with no byte
- * copied. */
+ * copied; value is the bad address, as of holthrimi_user_range_ok for writing them. */
 struct holthrimi_answer holthrimi_copy_to_user(struct holthrimi_setup setup,
                                                uint8_t *frames, size_t frame_bytes, uint64_t *book, size_t words,
                                                struct holthrimi_procs *procs, uint64_t number, uint64_t dst, const uint8_t *bytes,
@@ -270,7 +281,8 @@ struct holthrimi_answer holthrimi_copy_to_user(struct holthrimi_setup setup,
 /*
  * Copies a string of a process at `src` to dst up to a NUL, which isn't stored; the rest of dst stays. Value is its length, or `count`
  * where there is no NUL within that many bytes. Pages are checked one by one, as they are reached; with count 0, none is.
- * Refused, after 1, 38, 39 and 2 to 4: 35 at a bad page; the bytes before it stay copied, and the process lives.
+ * Refused, after 1, 38, 39 and 2 to 4: 35 at a bad page; value is the address of the first byte that can't be read; the bytes before it
+ * stay copied, and the process lives.
  */
 struct holthrimi_answer holthrimi_try_copy_str_from_user(struct holthrimi_setup setup,
                                                          const uint8_t *frames, size_t frame_bytes, const uint64_t *book,

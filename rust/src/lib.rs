@@ -49,7 +49,7 @@ pub mod number {
     pub const ENOVMEM: u64 = 33;
     /// A break above [`Setup::limit`](super::Setup::limit).
     pub const ESOVERLAP: u64 = 34;
-    /// A bad address: a range, or a push below address 0.
+    /// A bad address, which the refusal names: a range, a string, or a push below address 0.
     pub const EFAULT: u64 = 35;
     /// A top of stack that isn't a multiple of 16.
     pub const TOP: u64 = 36;
@@ -201,19 +201,32 @@ pub struct UserRegs {
     pub argv: u64,
 }
 
-/// Why a call was not accepted, by its number.
+/// Why a call was not accepted, by its number; with 35, and only then, by the bad address.
 #[derive(Clone, Copy, Debug, PartialEq, Eq)]
 pub enum Refusal {
-    /// Nothing changed (but see [`Lent::try_copy_str_from_user`]).
+    /// Nothing changed.
     Refused(u64),
     /// The process has ended: its pages are released, its record zero, frame bytes as before.
     Ended(u64),
+    /// 35 of [`Lent::try_copy_str_from_user`]: the address of the first byte that can't be read. Nothing changed but its buffer.
+    RefusedAt { address: u64 },
+    /// 35 of every other call: the process has ended, as above.
+    EndedAt { address: u64 },
 }
 
 impl Refusal {
     pub fn number(self) -> u64 {
         match self {
             Refusal::Refused(number) | Refusal::Ended(number) => number,
+            Refusal::RefusedAt { .. } | Refusal::EndedAt { .. } => number::EFAULT,
+        }
+    }
+
+    /// The bad address, with 35.
+    pub fn address(self) -> Option<u64> {
+        match self {
+            Refusal::RefusedAt { address } | Refusal::EndedAt { address } => Some(address),
+            Refusal::Refused(_) | Refusal::Ended(_) => None,
         }
     }
 }
@@ -223,6 +236,8 @@ impl fmt::Display for Refusal {
         match self {
             Refusal::Refused(number) => write!(f, "refused {number}"),
             Refusal::Ended(number) => write!(f, "ended {number}"),
+            Refusal::RefusedAt { address } => write!(f, "refused {} at {address}", number::EFAULT),
+            Refusal::EndedAt { address } => write!(f, "ended {} at {address}", number::EFAULT),
         }
     }
 }
@@ -231,11 +246,24 @@ impl core::error::Error for Refusal {}
 
 pub type Result<T> = core::result::Result<T, Refusal>;
 
+/// Whether a range can be accessed: what [`Lent::user_range_ok`] finds.
+#[derive(Clone, Copy, Debug, PartialEq, Eq)]
+pub enum Checked {
+    /// All of it.
+    Fine,
+    /// Not all of it. The bad address is its start, if that is above [`Setup::uaddrtop`]; otherwise that of its lowest byte below
+    /// `uaddrtop` whose page isn't mapped, or is to be written and isn't data; otherwise `uaddrtop`, which it reaches past.
+    Bad { address: u64 },
+}
+
 fn told(answer: sys::Answer) -> Result<sys::Answer> {
-    match answer.kind {
-        0 => Ok(answer),
-        1 => Err(Refusal::Refused(answer.number)),
-        _ => Err(Refusal::Ended(answer.number)),
+    let address = answer.value;
+    match (answer.kind, answer.number) {
+        (sys::ACCEPTED | sys::NO, _) => Ok(answer),
+        (sys::REFUSED, number::EFAULT) => Err(Refusal::RefusedAt { address }),
+        (sys::REFUSED, number) => Err(Refusal::Refused(number)),
+        (_, number::EFAULT) => Err(Refusal::EndedAt { address }),
+        (_, number) => Err(Refusal::Ended(number)),
     }
 }
 
@@ -305,8 +333,8 @@ impl Lent<'_> {
     }
 
     /// Replaces a process's program by an image of a form; `argv` is the user address of its array of pointers to arguments.
-    /// Refused with 1, 38, 39, 2 to 4, 30, 31, 33 (arguments); ended with 35, or with 33 if the frames that it holds alone and the free
-    /// ones don't suffice.
+    /// Refused with 1, 38, 39, 2 to 4, 30, 31, 33 (arguments); ended with 35, at the first address in reading order that can't be read, or
+    /// with 33 if the frames that it holds alone and the free ones don't suffice.
     pub fn replace(&mut self, number: u64, form: Form, image: &[u8], name: &[u8], argv: u64) -> Result<UserRegs> {
         let (u, f, fl, b, bl, p) = lent!(self);
         let (aout, magic) = form.named();
@@ -318,7 +346,8 @@ impl Lent<'_> {
     }
 
     /// Pushes arguments onto a process's stack: their strings end at `top`, their pointers and a null lie below. Refused with 1, 38, 39,
-    /// 2 to 4, 36, 32, 33; ended with 35.
+    /// 2 to 4, 36, 32, 33; ended with 35, at 0 if it goes below address 0, else as [`Checked::Bad`] of the first part that can't be
+    /// written: of each argument its bytes, its NUL and its pointer, and at the end the null.
     pub fn push(&mut self, number: u64, pc: u64, top: u64, bytes: &[u8], lengths: &[u64]) -> Result<UserRegs> {
         let (u, f, fl, b, bl, p) = lent!(self);
         let (a, l) = (bytes, lengths);
@@ -355,27 +384,32 @@ impl Lent<'_> {
         told(unsafe { sys::holthrimi_end(u, f, fl, b, bl, p, number) }).map(|_| ())
     }
 
-    /// Whether a process may read, or write, `len` bytes from `addr` on. Refused with 1, 38, 39, 2 to 4.
-    pub fn user_range_ok(&self, number: u64, addr: u64, len: u64, write: bool) -> Result<bool> {
+    /// Whether a process may read, or write, `len` bytes from `addr` on. An empty range is fine, mapped or not, unless it starts above
+    /// [`Setup::uaddrtop`]. Nothing changes. Refused with 1, 38, 39, 2 to 4.
+    pub fn user_range_ok(&self, number: u64, addr: u64, len: u64, write: bool) -> Result<Checked> {
         let (u, f, fl, b, bl, p) = looked!(self);
-        told(unsafe { sys::holthrimi_user_range_ok(u, f, fl, b, bl, p, number, addr, len, write) }).map(|t| t.value == 1)
+        told(unsafe { sys::holthrimi_user_range_ok(u, f, fl, b, bl, p, number, addr, len, write) }).map(|t| match t.kind {
+            sys::NO => Checked::Bad { address: t.value },
+            _ => Checked::Fine,
+        })
     }
 
-    /// Copies bytes of a process from `src` on into the whole of `dst`. Refused with 1, 38, 39, 2 to 4; ended with 35, and no byte
-    /// copied.
+    /// Copies bytes of a process from `src` on into the whole of `dst`. Refused with 1, 38, 39, 2 to 4; ended with 35, at the address of
+    /// [`Checked::Bad`], and no byte copied.
     pub fn copy_from_user(&mut self, number: u64, dst: &mut [u8], src: u64) -> Result<()> {
         let (u, f, fl, b, bl, p) = lent!(self);
         told(unsafe { sys::holthrimi_copy_from_user(u, f, fl, b, bl, p, number, dst.as_mut_ptr(), dst.len(), src) }).map(|_| ())
     }
 
-    /// Copies bytes to a process from `dst` on. Refused with 1, 38, 39, 2 to 4; ended with 35, and no byte copied.
+    /// Copies bytes to a process from `dst` on. Refused with 1, 38, 39, 2 to 4; ended with 35, at the address of [`Checked::Bad`], and no
+    /// byte copied.
     pub fn copy_to_user(&mut self, number: u64, dst: u64, bytes: &[u8]) -> Result<()> {
         let (u, f, fl, b, bl, p) = lent!(self);
         told(unsafe { sys::holthrimi_copy_to_user(u, f, fl, b, bl, p, number, dst, bytes.as_ptr(), bytes.len()) }).map(|_| ())
     }
 
     /// Copies a string of a process into `dst` up to its NUL, which isn't stored, and gives its length, or that of `dst`. Refused with
-    /// 1, 38, 39, 2 to 4, or with 35 at a bad page: the bytes before it stay copied, and the process lives.
+    /// 1, 38, 39, 2 to 4, or with 35 at the first byte that can't be read: those before it stay copied, and the process lives.
     pub fn try_copy_str_from_user(&self, number: u64, dst: &mut [u8], src: u64) -> Result<usize> {
         let (u, f, fl, b, bl, p) = looked!(self);
         told(unsafe { sys::holthrimi_try_copy_str_from_user(u, f, fl, b, bl, p, number, dst.as_mut_ptr(), dst.len(), src) })

@@ -2,6 +2,11 @@
 
 use crate::{Flags, Procs, Setup, UserRegs, UserSegment, VirtRange};
 
+/// The kinds of answers; any other is a call that ended its process.
+pub const ACCEPTED: u64 = 0;
+pub const REFUSED: u64 = 1;
+pub const NO: u64 = 3;
+
 #[repr(C)]
 pub struct Answer {
     pub kind: u64,

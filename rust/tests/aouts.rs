@@ -3,8 +3,8 @@
 
 mod memory;
 
-use holthrimi::{number, parse, plan, Form, Lent, Refusal, Result, Setup, VirtRange, DATA, RODATA, TEXT};
-use memory::{refused, Memory, IMAGE};
+use holthrimi::{number, parse, plan, Checked, Form, Lent, Result, Setup, VirtRange, DATA, RODATA, TEXT};
+use memory::{bad, ended_at, refused, Memory, IMAGE};
 
 /// Plan 9's magic for arm64.
 const MAGIC: u32 = 4 * 28 * 28 + 7;
@@ -177,7 +177,7 @@ fn start() {
     // Text is read alone, data and bss are written.
     let lent = m.lent();
     let written = [65_536, 73_727, 73_728, 81_919].map(|a| lent.user_range_ok(3, a, 1, true));
-    assert_eq!(written, [Ok(false), Ok(false), Ok(true), Ok(true)]);
+    assert_eq!(written, [bad(65_536), bad(73_727), Ok(Checked::Fine), Ok(Checked::Fine)]);
     // A child shares the text, and has its own data and break.
     m.lent().fork(3, 4).unwrap();
     assert_eq!((*m.count(15), *m.count(14), *m.count(13), m.free()), (2, 2, 1, 16 - 8 - 6));
@@ -224,7 +224,7 @@ fn replace() {
     assert_eq!(m.lent().try_copy_str_from_user(1, &mut text, Setup::DEPOSIT.ustktop - 4), Ok(3));
     assert_eq!(&text, b"mot.....");
     // A bad address ends the process, of either form.
-    assert_eq!(m.lent().replace(1, AOUT, &image, b"mot", 8), Err(Refusal::Ended(number::EFAULT)));
+    ended_at(m.lent().replace(1, AOUT, &image, b"mot", 8), 8);
     assert_eq!(m.free(), 16);
     // An a.out under the smallest machine.
     let setup = Setup { utzero: 4096, ustktop: 16_384, ustksize: 4096, uaddrtop: 16_384, ..Setup::DEPOSIT };

@@ -4,8 +4,8 @@
 mod memory;
 
 use holthrimi::{book_words, flags_lines, number, parse, plan, read_flags, Flags, Form, Lent, Proc, Procs, Refusal, Setup};
-use holthrimi::{UserSegment, VirtRange, DATA, FRAME_WORDS, RODATA, TEXT};
-use memory::{refused, Memory, IMAGE};
+use holthrimi::{Checked, UserSegment, VirtRange, DATA, FRAME_WORDS, RODATA, TEXT};
+use memory::{bad, ended_at, refused, Memory, IMAGE};
 
 #[test]
 fn start() {
@@ -133,8 +133,8 @@ fn fork_writes() {
     let top = Setup::DEPOSIT.ustktop;
     m.lent().push(16, 65712, top, b"two", &[3]).unwrap();
     assert_eq!((m.byte(1, top - 4), m.byte(16, top - 4)), (Some(b'm'), Some(b't')));
-    assert_eq!(m.lent().user_range_ok(1, 65536, 1, true), Ok(false));
-    assert_eq!(m.lent().copy_to_user(1, 65536, b"T"), Err(Refusal::Ended(number::EFAULT)));
+    assert_eq!(m.lent().user_range_ok(1, 65536, 1, true), bad(65536));
+    ended_at(m.lent().copy_to_user(1, 65536, b"T"), 65536);
     assert_eq!((m.byte(16, 65536), *m.place(15, 1), *m.count(15)), (Some(127), 0, 1));
 }
 
@@ -179,7 +179,7 @@ fn end() {
     // A bad address ends a process, with no byte copied.
     let mut m = Memory::started(16);
     let mut buffer = [7; 16];
-    assert_eq!(m.lent().copy_from_user(1, &mut buffer, 77820), Err(Refusal::Ended(number::EFAULT)));
+    ended_at(m.lent().copy_from_user(1, &mut buffer, 77820), 77824);
     assert_eq!((buffer, m.free()), ([7; 16], 16));
 }
 
@@ -191,7 +191,7 @@ fn push_and_replace() {
     let regs = m.lent().replace(1, Form::Elf, IMAGE, b"mot", regs.argv).unwrap();
     assert_eq!((regs.pc, regs.argc, m.free()), (65712, 2, 9));
     assert_eq!(&m.procs.all[0].text[..4], b"mot\0");
-    assert_eq!(m.lent().replace(1, Form::Elf, IMAGE, b"mot", 8), Err(Refusal::Ended(number::EFAULT)));
+    ended_at(m.lent().replace(1, Form::Elf, IMAGE, b"mot", 8), 8);
     assert_eq!(m.free(), 16);
 }
 
@@ -294,8 +294,8 @@ fn setups() {
         assert_eq!((again.sp, again.argv, again.argc), (regs.sp, regs.argv, 1));
         let mut text = vec![b'.'; most];
         assert_eq!(lent.try_copy_str_from_user(1, &mut text, top - most as u64), Ok(most - 1));
-        assert_eq!(lent.user_range_ok(1, top, 0, false), Ok(true));
-        assert_eq!(lent.user_range_ok(1, top + 1, 0, false), Ok(false));
+        assert_eq!(lent.user_range_ok(1, top, 0, false), Ok(Checked::Fine));
+        assert_eq!(lent.user_range_ok(1, top + 1, 0, false), bad(top + 1));
         assert_eq!(lent.check(), Ok(()));
         // 38 comes directly after 1, and before a torn book.
         lent.book[0] ^= 1;
@@ -348,7 +348,7 @@ fn flag_tables() {
             lent.setup.flags = with_row(row, code);
             let setup = lent.setup;
             if fine {
-                assert_eq!((lent.check(), lent.user_range_ok(1, 65536, 1, false)), (Ok(()), Ok(true)));
+                assert_eq!((lent.check(), lent.user_range_ok(1, 65536, 1, false)), (Ok(()), Ok(Checked::Fine)));
                 assert_eq!(read_flags(flags_lines(setup.flags, &mut [0; 120])), Ok(setup.flags));
                 continue;
             }
@@ -397,10 +397,10 @@ fn rodata_in_row_6() {
     let mut lent = Lent { setup, ..m.lent() };
     lent.start(1, Form::Elf, IMAGE, b"x", b"", &[]).unwrap();
     assert_eq!(lent.procs.all[0].segments.map(|s| s.perm)[..4], [TEXT, RODATA, DATA, 0]);
-    assert_eq!((lent.user_range_ok(1, 69812, 4, false), lent.user_range_ok(1, 69812, 1, true)), (Ok(true), Ok(false)));
+    assert_eq!((lent.user_range_ok(1, 69812, 4, false), lent.user_range_ok(1, 69812, 1, true)), (Ok(Checked::Fine), bad(69812)));
     assert_eq!(lent.brk(1, 0), Ok(77824));
     lent.fork(1, 2).unwrap();
-    assert_eq!(lent.copy_to_user(1, 69812, b"D"), Err(Refusal::Ended(number::EFAULT)));
+    ended_at(lent.copy_to_user(1, 69812, b"D"), 69812);
     let mut byte = [0];
     lent.copy_from_user(2, &mut byte, 69812).unwrap();
     assert_eq!(byte[0], IMAGE[180]);

@@ -1,6 +1,7 @@
-// The recorded scripts of tests/replay, whose answers are the published Rust's, or under other machine numbers or another flag table than
-// document 01's, and of Plan 9's a.outs, those of tests/compare/model.py, run through the library: every answer, and by `sum` every record, book word and frame
-// byte. How a script is read and answered is the oracle's code; the calls here are the library's.
+// The recorded scripts of tests/replay, whose answers are the published Rust's with the bad addresses of tests/compare/model.py, or under
+// other machine numbers or another flag table than document 01's, and of Plan 9's a.outs, the model's, run through the library: every
+// answer, and by `sum` every record, book word and frame byte. How a script is read and answered is the oracle's code; the calls here
+// are the library's.
 
 #[allow(dead_code)] // An answer `assert` is the Rust's alone, and so is a list that the harness holds to a record.
 #[path = "../../tests/oracle/src/script.rs"]
@@ -8,8 +9,8 @@ mod script;
 #[path = "../../tests/oracle/src/text.rs"]
 mod text;
 
-use holthrimi::{Form, Lent, Procs, Refusal, Setup, UserRegs, UserSegment, VirtRange, PAGE};
-use script::{Answer, Calls, Record, Regs, Stop, WORDS};
+use holthrimi::{Checked, Form, Lent, Procs, Refusal, Setup, UserRegs, UserSegment, VirtRange, PAGE};
+use script::{Answer, Bad, Calls, Record, Regs, Stop, WORDS};
 use std::fs;
 
 struct World {
@@ -36,6 +37,8 @@ fn told<T>(r: holthrimi::Result<T>) -> Answer<T> {
     r.map_err(|e| match e {
         Refusal::Refused(number) => Stop::Refused(number),
         Refusal::Ended(number) => Stop::Ended(number),
+        Refusal::RefusedAt { .. } => Stop::Refused(e.number()),
+        Refusal::EndedAt { address } => Stop::EndedAt(address),
     })
 }
 
@@ -106,8 +109,11 @@ impl Calls for World {
     fn end(&mut self, n: u64) -> Answer<()> {
         told(self.lent().end(n))
     }
-    fn range(&mut self, n: u64, addr: u64, len: u64, write: bool) -> Answer<bool> {
-        told(self.lent().user_range_ok(n, addr, len, write))
+    fn range(&mut self, n: u64, addr: u64, len: u64, write: bool) -> Answer<Result<(), Bad>> {
+        told(self.lent().user_range_ok(n, addr, len, write)).map(|a| match a {
+            Checked::Fine => Ok(()),
+            Checked::Bad { address } => Err(Some(address)),
+        })
     }
     fn from(&mut self, n: u64, addr: u64, dst: &mut [u8]) -> Answer<()> {
         told(self.lent().copy_from_user(n, dst, addr))
@@ -115,10 +121,10 @@ impl Calls for World {
     fn to(&mut self, n: u64, addr: u64, src: &[u8]) -> Answer<()> {
         told(self.lent().copy_to_user(n, addr, src))
     }
-    fn string(&mut self, n: u64, addr: u64, dst: &mut [u8]) -> Answer<Option<usize>> {
+    fn string(&mut self, n: u64, addr: u64, dst: &mut [u8]) -> Answer<Result<usize, Bad>> {
         match self.lent().try_copy_str_from_user(n, dst, addr) {
-            Err(Refusal::Refused(35)) => Ok(None),
-            r => told(r.map(Some)),
+            Err(Refusal::RefusedAt { address }) => Ok(Err(Some(address))),
+            r => told(r.map(Ok)),
         }
     }
     fn rule(&self, bss: Option<[u64; 2]>, free: u64, addr: u64) -> Answer<(u64, [u64; 2])> {

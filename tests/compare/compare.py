@@ -1,15 +1,16 @@
 #!/usr/bin/env python3
 """Runs the same scripts through two commands and reports the first difference.
 
-    compare.py random SEED COUNT A B [--small] [--sets] [--tables] [--aouts]
+    compare.py random SEED COUNT A B [--small] [--sets] [--tables] [--aouts] [--bad]
                                                           COUNT random calls, in histories of 40
     compare.py directed A B [--sets] [--tables] [--aouts] [FILE ..]
                                                           the directed scripts of tests/replay, or the files named
+    compare.py recorded A [--sets] [--tables] [--aouts]   all scripts of tests/replay, beside their recorded answers
     compare.py books A B                                  every word of a small book changed (books.py)
     compare.py images SEED COUNT A B                      the listing: every one-byte change and every prefix of the
                                                           184-byte image, the images of tests/replay/images.txt, and
                                                           COUNT random images
-    compare.py write SEED COUNT [--small] [--sets] [--tables] [--aouts]
+    compare.py write SEED COUNT [--small] [--sets] [--tables] [--aouts] [--bad]
                                                           the random script on standard output
 
 A and B are commands, each in one word, that read a script on standard input and
@@ -20,7 +21,9 @@ write an answer for each line: `target/oracle/release/oracle`, `target/bin/repla
 --sets: other sets of the machine's numbers too, in three histories of four, and the directed scripts that have some.
 --tables: other flag tables too, in histories and directed scripts.
 --aouts: images that are Plan 9 a.outs too, in histories and directed scripts.
-The oracle has document 01's numbers and table and ELF alone, so it is compared without.
+--bad: more calls that name a bad address, in histories.
+The oracle has document 01's numbers and table and ELF alone, so it is compared without. It names no bad address either: beside it
+answers are compared without their addresses (`of_both`); all others are compared in full.
 
 Of the oracle's answers it counts those that are its harness's own needs of frames and not the Rust's.
 """
@@ -55,6 +58,10 @@ COUNTED = TEN + ['rule', 'name']
 # What the oracle has none of: lines that hand over a set or a table, and those of an a.out.
 OPTIONS = {'--sets': re.compile(rb'numbers'), '--tables': re.compile(rb'flags'),
            '--aouts': re.compile(rb'(start|replace) [^ ]+ [^ ]+ aout=')}
+# What histories are drawn with.
+DRAWN = '--small', *OPTIONS, '--bad'
+# An answer up to its bad address: 35 that ends the process, a range's no, and 35 of a string, whose buffer follows.
+ADDRESS = re.compile(rb'(ended 35|ok no|refused 35(?= \d+ )) \d+')
 # Forks and replaces that the oracle answered by its harness's needs of frames, with the frames of its book as they were.
 NEEDS = Counter()
 
@@ -72,16 +79,33 @@ def run(command, data):
     return p.stdout, failed
 
 
-def answers(command, lines):
-    """The answers of a command to script lines; one more if it failed."""
-    out, failed = run(command, b'\n'.join(lines) + b'\n')
+def whole(out):
+    """The answers in what a command wrote."""
     got = []
     for line in out.split(b'\n')[:-1]:
         if line.startswith(b' ') and got:    # a further line of a table
             got[-1] += b'\n' + line
         else:
             got.append(line)
-    return got + ([failed.encode()] if failed else [])
+    return got
+
+
+def answers(command, lines):
+    """The answers of a command to script lines; one more if it failed."""
+    out, failed = run(command, b'\n'.join(lines) + b'\n')
+    return whole(out) + ([failed.encode()] if failed else [])
+
+
+def without_address(answer):
+    found = ADDRESS.match(answer)
+    return found[1] + answer[found.end():] if found else answer
+
+
+def of_both(a, b, x, y):
+    """What both answered, as it is compared: beside the Rust, which names no bad address (request 4 of document 02), without it."""
+    if any(os.path.basename(shlex.split(command)[0]) == 'oracle' for command in (a, b)):
+        return [[without_address(answer) for answer in got] for got in (x, y)]
+    return x, y
 
 
 def asked(lines):
@@ -91,7 +115,7 @@ def asked(lines):
 
 def difference(lines, a, b):
     """The answers of both and the place of the first difference, or None."""
-    x, y = answers(a, lines), answers(b, lines)
+    x, y = of_both(a, b, answers(a, lines), answers(b, lines))
     n = len(asked(lines))
     for i in range(max(n, len(x), len(y))):
         if i >= len(x) or i >= len(y) or x[i] != y[i]:
@@ -196,19 +220,19 @@ class Count:
             print('  by the needs of the harness: %d forks accepted, %d replaces ended' % (NEEDS['forks'], NEEDS['replaces']))
 
 
-def history(seed, k, small, sets, tables, aouts):
+def history(seed, k, small, sets, tables, aouts, bad):
     r = random.Random('%s/%d' % (seed, k))
     setup = random_set(r) if sets and r.random() < 0.75 else DEPOSIT
     if tables:
         setup = setup._replace(flags=random_table(r, [TEXT]))
-    return History(r, CALLS_A_HISTORY, small, setup, tables, aouts).lines
+    return History(r, CALLS_A_HISTORY, small, setup, tables, aouts, bad).lines
 
 
-def compare_random(seed, count, a, b, small, sets=False, tables=False, aouts=False, explain=True):
+def compare_random(seed, count, a, b, small, sets=False, tables=False, aouts=False, bad=False, explain=True):
     begin, total = time.time(), Count()
     k = 0
     while sum(total.calls.values()) < count:
-        many = [history(seed, k + i, small, sets, tables, aouts) for i in range(HISTORIES_A_RUN)]
+        many = [history(seed, k + i, small, sets, tables, aouts, bad) for i in range(HISTORIES_A_RUN)]
         lines = [line for h in many for line in h]
         x, y, at = difference(lines, a, b)
         if at is not None and not explain:
@@ -232,13 +256,32 @@ def script_lines(file):
         return f.read().split(b'\n')
 
 
-def directed_scripts(options):
-    """The scripts that directed.py writes: all of tests/replay but the recorded random histories. Without `--sets`, those without a
-    line `numbers`; without `--tables`, those without a line `flags`; without `--aouts`, those without an a.out."""
-    names = sorted(n for n in os.listdir(REPLAY) if n.endswith('.txt') and not n.startswith('random-'))
-    files = [os.path.join(REPLAY, n) for n in names]
+def recorded_scripts(options):
+    """The scripts of tests/replay. Without `--sets`, those without a line `numbers`; without `--tables`, those without a line `flags`;
+    without `--aouts`, those without an a.out."""
+    files = [os.path.join(REPLAY, n) for n in sorted(os.listdir(REPLAY)) if n.endswith('.txt')]
     left_out = [has for option, has in OPTIONS.items() if option not in options]
     return [f for f in files if not any(has.match(line) for line in script_lines(f) for has in left_out)]
+
+
+def directed_scripts(options):
+    """Those that directed.py writes: all but the recorded random histories."""
+    return [f for f in recorded_scripts(options) if not os.path.basename(f).startswith('random-')]
+
+
+def compare_recorded(a, options):
+    files = recorded_scripts(options)
+    for file in files:
+        lines = script_lines(file)
+        with open(file[:-4] + '.out', 'rb') as f:
+            x, y = of_both(a, a, whole(f.read()), answers(a, lines))
+        at = next((i for i in range(max(len(x), len(y))) if x[i:i + 1] != y[i:i + 1]), None)
+        if at is not None:
+            print('%s: first difference at call %d\n> %s\n    recorded %s\n    A %s' % (
+                os.path.relpath(file, ROOT), at + 1, cut(b''.join(asked(lines)[at:at + 1])), *map(cut, both(x, y, at))))
+            return False
+    print('%s: %d recorded scripts, the same answers' % (os.path.basename(a), len(files)))
+    return True
 
 
 def compare_directed(a, b, files, options=(), explain=True):
@@ -318,13 +361,15 @@ def compare_images(seed, count, a, b):
 
 
 def main(argv):
-    options = [a for a in argv if a in ('--small', *OPTIONS)]
+    options = [a for a in argv if a in DRAWN]
     argv = [a for a in argv if a not in options]
-    small, *drawn = (option in options for option in ('--small', *OPTIONS))
+    small, *drawn = (option in options for option in DRAWN)
     if len(argv) == 5 and argv[0] == 'random':
         return compare_random(argv[1], int(argv[2]), argv[3], argv[4], small, *drawn)
     if len(argv) >= 3 and argv[0] == 'directed':
         return compare_directed(argv[1], argv[2], argv[3:], options)
+    if len(argv) == 2 and argv[0] == 'recorded':
+        return compare_recorded(argv[1], options)
     if len(argv) == 3 and argv[0] == 'books':
         return compare_books(argv[1], argv[2])
     if len(argv) == 5 and argv[0] == 'images':

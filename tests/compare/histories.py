@@ -41,13 +41,14 @@ def full_parts(record):
 
 class History:
     """`small` keeps images, answers and frames short, for recorded samples. The calls are under `setup`, with `tables` some of them
-    under other tables too; with `aouts` more than half of the images are a.outs."""
+    under other tables too; with `aouts` more than half of the images are a.outs; with `bad` more calls name a bad address."""
 
-    def __init__(self, r, calls, small=False, setup=DEPOSIT, tables=False, aouts=False):
+    def __init__(self, r, calls, small=False, setup=DEPOSIT, tables=False, aouts=False, bad=False):
         self.r, self.small, self.setup, self.aouts = r, small, setup, aouts
         self.constants = constants(setup)
         own_numbers = setup.numbers != DEPOSIT.numbers
-        self.steps = (self.STEPS + [(History.other_numbers, 3)] * own_numbers + [(History.other_flags, 4)] * tables)
+        self.steps = (self.STEPS + [(History.other_numbers, 3)] * own_numbers + [(History.other_flags, 4)] * tables
+                      + self.AT_EDGES * bad)
         self.model = Script()
         self.lines = []
         n = r.choice([r.randint(7, 40), r.randint(14, 40), r.randint(20, 60), r.randint(41, 120)])
@@ -211,13 +212,16 @@ class History:
             return self.start(good=r.random() < 0.8)
         r.choices([f for f, _ in self.steps], [k for _, k in self.steps])[0](self)
 
+    def good_image(self):
+        if self.aouts and self.setup.utzero < 2**32 and self.r.random() < 0.6:
+            return self.aout(*random_aout(self.r, self.size(), self.setup))
+        return shown(example_at(self.setup.utzero) if self.r.random() < 0.5 and self.setup.flags[6] != REFUSED
+                     else random_image(self.r, self.size(), self.setup))
+
     def start(self, good=False):
         image = self.image()
-        if good and self.aouts and self.setup.utzero < 2**32 and self.r.random() < 0.6:
-            image = self.aout(*random_aout(self.r, self.size(), self.setup))
-        elif good:
-            image = shown(example_at(self.setup.utzero) if self.r.random() < 0.5 and self.setup.flags[6] != REFUSED
-                          else random_image(self.r, self.size(), self.setup))
+        if good:
+            image = self.good_image()
         self.call('start', self.new_number(), shown(self.name()), image, *map(shown, self.args()))
 
     def replace(self):
@@ -334,6 +338,58 @@ class History:
         r, n = self.r, self.number()
         a = self.address(n)
         self.call('string', n, a, self.length(a, 65536))
+
+    # Calls at the ends of data pages, most of which name a bad address
+
+    def area(self, n):
+        """Where data pages of process n that lie together begin and end."""
+        pages = {page for page, perm in self.w.records[n].pages().items() if perm == DATA}
+        start = end = self.r.choice(sorted(page for page in pages if page - PAGE not in pages))
+        while end in pages:
+            end += PAGE
+        return start, end
+
+    def push_at_edge(self):
+        """Strings that leave an area at its end, or pointers that leave it at its start."""
+        r = self.r
+        if self.alive():
+            n = r.choice(self.alive())
+            start, end = self.area(n)
+            args = [b'v' * r.choice([0, 0, 1, 7, r.randint(0, 24)]) for _ in range(r.choice([0, 1, 2, 3, 4, 6]))]
+            top = r.choice([end + 16 * r.randint(0, 5), end + 16, start + 16 * r.randint(0, 9)])
+            self.call('push', n, 0, top, *map(shown, args))
+
+    def to_end(self, n, b, end):
+        """Bytes written up to an area's end; where they begin."""
+        self.call('to', n, end - len(b), shown(b))
+        return end - len(b)
+
+    def argv_at_edge(self):
+        """Pointers up to an area's end, or a little less; or a string up to it, after other arguments."""
+        r = self.r
+        if self.alive():
+            n = r.choice(self.alive())
+            start, end = self.area(n)
+            self.call('to', n, start, shown(b'ab\0'))
+            pointers = [start + r.randint(0, 2) for _ in range(r.randint(0, 3))]
+            if r.random() < 0.5:
+                array = struct.pack('<%dQ' % len(pointers), *pointers)
+                argv = self.to_end(n, array + b's' * r.choice([0, 0, 1, 4, 7]), end)
+            else:
+                string = b's' * r.randint(0, 9) + b'\0' * r.choice([0, 0, 0, 1])
+                pointers += [self.to_end(n, string, end) + r.choice([0, 0, 0, 1]), r.choice([0, self.address(n)]), 0]
+                argv = start + r.randint(3, 20)
+                self.call('to', n, argv, shown(struct.pack('<%dQ' % len(pointers), *pointers)))
+            self.call('replace', n, shown(self.name()), self.good_image() if r.random() < 0.9 else self.image(), argv)
+
+    def string_at_edge(self):
+        """A string up to an area's end, with a NUL or without."""
+        r = self.r
+        if self.alive():
+            n = r.choice(self.alive())
+            string = b's' * r.randint(0, 9) + b'\0' * r.choice([0, 0, 1])
+            at = self.to_end(n, string, self.area(n)[1])
+            self.call('string', n, at, len(string) + r.choice([0, -1, 1, 1, 2, 9]) if string else 1)
 
     # The book
 
@@ -470,3 +526,4 @@ class History:
 
     STEPS = [(start, 8), (replace, 8), (push, 7), (brk, 13), (fork, 10), (family, 3), (end, 4), (range, 12), (copy_from, 9),
              (copy_to, 13), (string, 12), (tear, 3), (swap, 1), (move, 1), (lend, 1), (rule, 4), (name_call, 2)]
+    AT_EDGES = [(push_at_edge, 12), (argv_at_edge, 12), (string_at_edge, 6)]

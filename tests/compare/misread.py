@@ -3,8 +3,9 @@
 
     misread.py [--all]    --all names every script that notices an edit, and not only the first
 
-Each edit is made in a copy of the model outside the repository, and the scripts of its request are run through it: those with a line
-`flags` for request 7, those with an a.out for request 9, and for this the cases of its reader by itself, tests/images/aouts.txt.
+Each edit is made in a copy of the model outside the repository, and the scripts of its request are run through it: those of bad
+addresses for request 4, those with a line `flags` for request 7, those with an a.out for request 9, and for this the cases of its
+reader by itself, tests/images/aouts.txt.
 """
 import os
 import re
@@ -18,7 +19,8 @@ ROOT = os.path.dirname(os.path.dirname(HERE))
 REPLAY, IMAGES = (os.path.join(ROOT, 'tests', name) for name in ('replay', 'images'))
 MODEL = 'model.py', 'script.py', 'papers'
 # Of each request, a line that its scripts have.
-LINES = {'Request 7': re.compile(rb'^flags', re.M), 'Request 9': re.compile(rb'^(start|replace) [^ ]+ [^ ]+ aout=', re.M)}
+LINES = {'Request 4': re.compile(rb'^# Bad addresses', re.M), 'Request 7': re.compile(rb'^flags', re.M),
+         'Request 9': re.compile(rb'^(start|replace) [^ ]+ [^ ]+ aout=', re.M)}
 
 
 def edits():

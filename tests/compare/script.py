@@ -160,7 +160,7 @@ class Script:
         except Ended as e:
             # The one that ends is the process whose call it is.
             self.w.finish(int(words[0]))
-            return 'ended %d' % e.args
+            return ' '.join(map(str, ('ended', *e.args)))
 
     def frames(self, words):
         n, fill = take(words, number, [byte])
@@ -226,7 +226,8 @@ class Script:
         n, address, length, access = take(words, number, number, number, bytes)
         if access not in (b'r', b'w'):
             raise BadLine
-        return 'ok yes' if self.w.range(n, address, length, access == b'w') else 'ok no'
+        bad = self.w.range(n, address, length, access == b'w')
+        return 'ok yes' if bad is None else 'ok no %d' % bad
 
     def copy_from(self, words):
         return 'ok ' + shown(self.w.copy_from(*take(words, number, number, buffer_length)))
@@ -238,8 +239,8 @@ class Script:
     def string(self, words):
         n, address, length = take(words, number, number, buffer_length)
         buffer = bytearray([BLANK]) * length
-        k = self.w.string(n, address, buffer)
-        return 'refused 35 ' + shown(buffer) if k is None else 'ok %d %s' % (k, shown(buffer))
+        k, bad = self.w.string(n, address, buffer)
+        return ('ok %d ' % k if bad is None else 'refused 35 %d ' % bad) + shown(buffer)
 
     def rule(self, words):
         if words[:2] == [b'none', b'none']:

@@ -12,7 +12,7 @@ import random
 import sys
 
 import compare
-from compare import OPTIONS, REPLAY, answers, asked, script_lines
+from compare import OPTIONS, REPLAY, answers, asked, of_both, script_lines
 from elf import DATA, TEXT, header, program
 from histories import History
 from papers.aout import read_aout
@@ -59,7 +59,7 @@ def compared(oracle, lines, what):
     others = [translated(line) for line in lines]
     if any(len(line) > LINE_MAX for line in others):
         return 0, 0
-    ours, theirs = answers(MODEL, lines), answers(oracle, others)
+    ours, theirs = of_both(MODEL, oracle, answers(MODEL, lines), answers(oracle, others))
     if ours != theirs:
         at = next((i for i, (a, b) in enumerate(zip(ours, theirs)) if a != b), min(len(ours), len(theirs)))
         sys.exit('translated: %s: %r: the model %r, the Rust %r' % (what, asked(lines)[at], ours[at:at + 1], theirs[at:at + 1]))

@@ -1,7 +1,7 @@
 /*
  * An example of the library, and its test: a program of 184 bytes is started with two arguments, its break moves, it forks, parent and
- * children share its text and write to their own memory, and all end; and a Plan 9 a.out is started too. Every answer is checked; the
- * last line says 'N checks, 0 failed'.
+ * children share its text and write to their own memory, and all end; a Plan 9 a.out is started too, and bad addresses are named. Every
+ * answer is checked; the last line says 'N checks, 0 failed'.
  *
  *     cc example.c -I../../include ../../target/staticlib/libholthrimi.a -o example && ./example
  */
@@ -39,13 +39,36 @@ static bool accepted(struct holthrimi_answer a) {
     return a.kind == HOLTHRIMI_ACCEPTED && a.number == 0;
 }
 
+static bool is(struct holthrimi_answer a, uint64_t kind, uint64_t number, uint64_t value) {
+    return a.kind == kind && a.number == number && a.value == value && a.regs.pc == 0 && a.regs.sp == 0 && a.regs.argc == 0 &&
+           a.regs.argv == 0;
+}
+
+/* Refusals by numbers that name no address. */
 static bool refused(struct holthrimi_answer a, uint64_t number) {
-    return a.kind == HOLTHRIMI_REFUSED && a.number == number && a.value == 0 && a.regs.pc == 0 && a.regs.sp == 0 &&
-           a.regs.argc == 0 && a.regs.argv == 0;
+    return number != HOLTHRIMI_EFAULT && is(a, HOLTHRIMI_REFUSED, number, 0);
 }
 
 static bool ended(struct holthrimi_answer a, uint64_t number) {
-    return a.kind == HOLTHRIMI_ENDED && a.number == number && a.value == 0 && a.regs.pc == 0;
+    return number != HOLTHRIMI_EFAULT && is(a, HOLTHRIMI_ENDED, number, 0);
+}
+
+/* 35, at an address. */
+static bool refused_at(struct holthrimi_answer a, uint64_t address) {
+    return is(a, HOLTHRIMI_REFUSED, HOLTHRIMI_EFAULT, address);
+}
+
+static bool ended_at(struct holthrimi_answer a, uint64_t address) {
+    return is(a, HOLTHRIMI_ENDED, HOLTHRIMI_EFAULT, address);
+}
+
+/* A range's yes, and its no, at an address. */
+static bool fine(struct holthrimi_answer a) {
+    return is(a, HOLTHRIMI_ACCEPTED, 0, 1);
+}
+
+static bool bad(struct holthrimi_answer a, uint64_t address) {
+    return is(a, HOLTHRIMI_NO, 0, address);
 }
 
 static void put(uint8_t *at, uint64_t value, int bytes) {
@@ -107,7 +130,7 @@ static void write_plan9(uint32_t magic, uint32_t text, uint32_t data, uint32_t b
 /* One byte of a process's memory, or -1. */
 static int peek(uint64_t number, uint64_t address) {
     uint8_t byte = 0;
-    if (holthrimi_user_range_ok(LENT, number, address, 1, false).value != 1) {
+    if (!fine(holthrimi_user_range_ok(LENT, number, address, 1, false))) {
         return -1;
     }
     return accepted(holthrimi_copy_from_user(LENT, number, &byte, 1, address)) ? byte : -1;
@@ -294,9 +317,9 @@ static void rodata_in_row_6(void) {
     CHECK(plan.bss.start == 77824 && plan.bss.end == 77824);
     CHECK(accepted(holthrimi_start(LENT, 1, ELF, image, IMAGE, name, 3, name, 3, lengths, 1)) && free_frames() == FRAMES - 7);
     CHECK(peek(1, 69812) == 'd' && peek(1, 77823) == 0 && peek(1, 77824) == -1);
-    CHECK(holthrimi_user_range_ok(LENT, 1, 69812, 4, false).value == 1 && holthrimi_user_range_ok(LENT, 1, 69812, 4, true).value == 0);
+    CHECK(fine(holthrimi_user_range_ok(LENT, 1, 69812, 4, false)) && bad(holthrimi_user_range_ok(LENT, 1, 69812, 4, true), 69812));
     CHECK(accepted(holthrimi_fork(LENT, 1, 2)) && free_frames() == FRAMES - 7 - 4 && *holders(FRAMES - 2) == 2);
-    CHECK(ended(holthrimi_copy_to_user(LENT, 2, 69812, name, 1), HOLTHRIMI_EFAULT) && peek(1, 69812) == 'd');
+    CHECK(ended_at(holthrimi_copy_to_user(LENT, 2, 69812, name, 1), 69812) && peek(1, 69812) == 'd');
     CHECK(accepted(holthrimi_end(LENT, 1)) && free_frames() == FRAMES);
 
     /* Row 6 refused: 25, which a start answers with 30. Row 5 rodata: the entry is in no text. Row 4 the image does not use. */
@@ -377,7 +400,7 @@ static void aouts(void) {
         }
     }
     CHECK(peek(2, 65535) == -1 && peek(2, 77824) == -1 && free_frames() == FRAMES - 7 - 7);
-    CHECK(holthrimi_user_range_ok(LENT, 2, 65536, 1, true).value == 0 && holthrimi_user_range_ok(LENT, 2, 69632, 8192, true).value == 1);
+    CHECK(bad(holthrimi_user_range_ok(LENT, 2, 65536, 1, true), 65536) && fine(holthrimi_user_range_ok(LENT, 2, 69632, 8192, true)));
 
     /* The ELF becomes an a.out, and the a.out an ELF. */
     a = holthrimi_replace(LENT, 1, AOUT, plan9, PLAN9, name, 14, a.regs.argv);
@@ -394,8 +417,173 @@ static void aouts(void) {
     CHECK(accepted(holthrimi_end(LENT, 1)) && free_frames() == FRAMES && holthrimi_check(LENT) == 0);
 }
 
+/* ---- bad addresses. Process 1 has text at 65,536, data and bss from 69,632 up to 77,824, and the stack up to the top; all else is
+ * unmapped. */
+static const uint64_t top = (uint64_t)1 << 47, last = UINT64_MAX;
+
+static struct holthrimi_answer range(uint64_t address, uint64_t length, bool write) {
+    return holthrimi_user_range_ok(LENT, 1, address, length, write);
+}
+
+/* Writes to process 1. */
+static void store(uint64_t address, const void *bytes, size_t count) {
+    CHECK(accepted(holthrimi_copy_to_user(LENT, 1, address, bytes, count)));
+}
+
+static void store_word(uint64_t address, uint64_t word) {
+    uint8_t bytes[8];
+    put(bytes, word, 8);
+    store(address, bytes, 8);
+}
+
+static void bad_ranges(void) {
+    note();
+    /* One that ends at the top, and past it; none and one byte at the top, and above it; sums that leave 64 bits. */
+    CHECK(fine(range(top - 16384, 16384, true)) && fine(range(top - 1, 1, true)) && bad(range(top - 1, 2, false), top));
+    CHECK(bad(range(top - 16384, 16385, true), top) && bad(range(top - 16385, 16386, true), top - 16385));
+    CHECK(fine(range(top, 0, true)) && bad(range(top, 1, false), top));
+    CHECK(bad(range(top + 1, 0, false), top + 1) && bad(range(top + 1, 1, true), top + 1));
+    CHECK(bad(range(last, 2, false), last) && bad(range(last, 1, true), last) && bad(range(last, 0, false), last));
+    CHECK(bad(range(top - 1, last, true), top) && bad(range(top, last, false), top) && bad(range(69632, last, true), 77824));
+
+    /* 0 and 1 are bad addresses, too: the kind tells 1 from a yes. */
+    CHECK(bad(range(0, 1, false), 0) && bad(range(0, last, true), 0) && bad(range(1, 1, false), 1) && fine(range(1, 0, false)));
+
+    /* The first byte of an unmapped page, reached from the one before. */
+    CHECK(fine(range(77823, 1, true)) && bad(range(77823, 2, true), 77824) && bad(range(65536, 65536, false), 77824));
+    CHECK(bad(range(65535, 2, false), 65535) && fine(range(77824, 0, true)) && bad(range(80000, 1, false), 80000));
+
+    /* Text in a range to be written, from its middle on. */
+    CHECK(fine(range(67584, 4096, false)) && bad(range(67584, 4096, true), 67584) && bad(range(69631, 2, true), 69631));
+    CHECK(unchanged());
+}
+
+/* The string copy names the first byte that can't be read, and process 1 lives. */
+static void bad_strings(void) {
+    uint8_t text[8];
+#define STRING(count, address) (memset(text, '.', 8), holthrimi_try_copy_str_from_user(LENT, 1, text, count, address))
+    store(77820, "mot", 4);
+    CHECK(is(STRING(8, 77820), HOLTHRIMI_ACCEPTED, 0, 3) && memcmp(text, "mot.....", 8) == 0);
+    store(77823, "s", 1);
+    store(top - 1, "s", 1);
+    note();
+    CHECK(refused_at(STRING(8, 77820), 77824) && memcmp(text, "mots....", 8) == 0);
+    CHECK(is(STRING(4, 77820), HOLTHRIMI_ACCEPTED, 0, 4) && memcmp(text, "mots....", 8) == 0);
+    CHECK(refused_at(STRING(8, top - 4), top) && memcmp(text, "lexs....", 8) == 0);
+    CHECK(refused_at(STRING(8, top), top) && refused_at(STRING(8, top + 1), top + 1) && refused_at(STRING(1, last), last));
+    CHECK(refused_at(STRING(8, 0), 0) && refused_at(STRING(8, 1), 1) && memcmp(text, "........", 8) == 0);
+    CHECK(is(STRING(0, last), HOLTHRIMI_ACCEPTED, 0, 0) && is(STRING(0, 1), HOLTHRIMI_ACCEPTED, 0, 0) && unchanged());
+#undef STRING
+}
+
+/* A call that ends process 2, a child of process 1, and names an address. */
+#define ENDS(call, address)                                                                                                        \
+    do {                                                                                                                           \
+        CHECK(accepted(holthrimi_fork(LENT, 1, 2)));                                                                               \
+        CHECK(ended_at((call), (address)));                                                                                        \
+        CHECK(refused(holthrimi_end(LENT, 2), HOLTHRIMI_DEAD) && holthrimi_check(LENT) == 0);                                      \
+    } while (0)
+
+static void bad_copies(void) {
+    uint8_t text[8] = "........";
+    ENDS(holthrimi_copy_from_user(LENT, 2, text, 8, 77820), 77824);
+    ENDS(holthrimi_copy_from_user(LENT, 2, text, 8, top - 4), top);
+    ENDS(holthrimi_copy_from_user(LENT, 2, text, 1, 0), 0);
+    ENDS(holthrimi_copy_from_user(LENT, 2, text, 0, top + 1), top + 1);
+    ENDS(holthrimi_copy_to_user(LENT, 2, 77820, text, 8), 77824);
+    ENDS(holthrimi_copy_to_user(LENT, 2, 67584, text, 8), 67584);
+    ENDS(holthrimi_copy_to_user(LENT, 2, last, text, 8), last);
+    CHECK(memcmp(text, "........", 8) == 0);
+    CHECK(accepted(holthrimi_copy_from_user(LENT, 1, text, 0, top)) && accepted(holthrimi_copy_to_user(LENT, 1, top, text, 0)));
+}
+
+/* A push names its first part that can't be written: of each argument its bytes, its NUL and its pointer; at the end the null. */
+static void bad_pushes(void) {
+    const uint8_t *bytes = (const uint8_t *)"a second argument of 31 letters.";
+    const uint64_t two[2] = {1, 31}, none[1] = {0}, stack = top - 16384;
+#define PUSH(at, lengths, count, nargs) holthrimi_push(LENT, 2, 0, at, bytes, count, lengths, nargs)
+    /* Below address 0, and from it on. */
+    ENDS(PUSH(0, none, 0, 0), 0);
+    ENDS(PUSH(16, none, 0, 1), 0);
+    ENDS(PUSH(32, two, 32, 2), 0);
+    ENDS(PUSH(16, none, 0, 0), 8);
+    ENDS(PUSH(64, two, 32, 2), 30);
+    /* The second argument's bytes; the NUL of an empty one; the null alone. */
+    ENDS(PUSH(77840, two, 32, 2), 77824);
+    ENDS(PUSH(77840, none, 0, 1), 77839);
+    ENDS(PUSH(77840, none, 0, 0), 77832);
+    /* The pointer to the first argument, below the stack; the bytes of the first, past the top. */
+    ENDS(PUSH(stack + 48, two, 32, 2), stack - 16);
+    ENDS(PUSH(top + 16, two, 1, 1), top + 14);
+    ENDS(PUSH(top + 16, two, 32, 2), top);
+#undef PUSH
+}
+
+/* Where the pointer to the first argument and the bytes of the second both fail, it is the pointer. A stack of 16 pages lets arguments be
+ * longer than the two pages of data; below them is text. */
+static void pointer_before_bytes(void) {
+    static uint8_t bytes[8198];
+    memset(bytes, 'a', sizeof bytes);
+    setup.ustksize = 65536;
+    for (uint64_t at = 69640; at <= 69656; at += 8) {
+        const uint64_t lengths[2] = {1, 77840 - at - 3};
+        CHECK(accepted(holthrimi_start(LENT, 1, ELF, image, IMAGE, bytes, 1, bytes, 1, lengths, 1)));
+        CHECK(ended_at(holthrimi_push(LENT, 1, 0, 77840, bytes, 1 + lengths[1], lengths, 2), at == 69656 ? 77824 : at - 24));
+    }
+    setup.ustksize = 16384;
+}
+
+/* A replace names its first pointer or string, in reading order, that can't be read. */
+static void bad_arguments(void) {
+    const uint8_t *name = (const uint8_t *)"mot";
+#define REPLACE(argv) holthrimi_replace(LENT, 2, ELF, image, IMAGE, name, 3, argv)
+    /* A string that reaches an unmapped page, and one that isn't mapped. */
+    store_word(73728, 77823);
+    store_word(73736, 4096);
+    store(77823, "s", 1);
+    ENDS(REPLACE(73728), 77824);
+    ENDS(REPLACE(73736), 4096);
+    /* A string before the next pointer; the third pointer. */
+    store_word(77816, 4096);
+    ENDS(REPLACE(77816), 4096);
+    store_word(77808, 69632);
+    store_word(77816, 69632);
+    ENDS(REPLACE(77808), 77824);
+    /* A pointer that lies across the end of a page, and of the address space. */
+    ENDS(REPLACE(77820), 77824);
+    ENDS(REPLACE(top - 4), top);
+    ENDS(REPLACE(0), 0);
+    ENDS(REPLACE(last), last);
+#undef REPLACE
+}
+
+/* A process that ends for want of frames has no bad address: in 13 frames a child holds six alone, and none is free. */
+static void no_address(void) {
+    const uint8_t *name = (const uint8_t *)"lex";
+    CHECK(accepted(holthrimi_start(setup, frames, 13 * HOLTHRIMI_PAGE, book, 13 * HOLTHRIMI_FRAME_WORDS, &procs, 1, ELF, image, IMAGE,
+                                   name, 3, name, 3, (const uint64_t[]){3}, 1)));
+    CHECK(accepted(holthrimi_fork(setup, frames, 13 * HOLTHRIMI_PAGE, book, 13 * HOLTHRIMI_FRAME_WORDS, &procs, 1, 2)));
+    CHECK(ended(holthrimi_replace(setup, frames, 13 * HOLTHRIMI_PAGE, book, 13 * HOLTHRIMI_FRAME_WORDS, &procs, 2, ELF, image, IMAGE,
+                                  name, 3, top - 24),
+                HOLTHRIMI_ENOVMEM));
+    CHECK(accepted(holthrimi_end(LENT, 1)) && free_frames() == FRAMES);
+}
+
+/* No process lives before and afterwards. */
+static void addresses(void) {
+    const uint8_t *name = (const uint8_t *)"lex";
+    CHECK(accepted(holthrimi_start(LENT, 1, ELF, image, IMAGE, name, 3, name, 3, (const uint64_t[]){3}, 1)));
+    bad_ranges();
+    bad_strings();
+    bad_copies();
+    bad_pushes();
+    bad_arguments();
+    CHECK(accepted(holthrimi_end(LENT, 1)) && free_frames() == FRAMES);
+    pointer_before_bytes();
+    no_address();
+}
+
 int main(void) {
-    const uint64_t top = (uint64_t)1 << 47;
     struct holthrimi_answer a;
 
     /* The library and this header agree about the layout of what is lent. */
@@ -430,6 +618,9 @@ int main(void) {
 
     /* An image of Plan 9's form. */
     aouts();
+
+    /* Which address was bad. */
+    addresses();
 
     /* Start: two arguments, which end at the top of the stack. */
     const uint8_t *name = (const uint8_t *)"/bin/lex";
@@ -515,8 +706,8 @@ int main(void) {
     CHECK(*place(FRAMES - 1, 2) == 0 && *holders(FRAMES - 1) == 3 && peek(1, 65536) == 127 && peek(2, 65536) == 127);
 
     /* A bad address ends the process, with no byte copied; the string copy's doesn't. */
-    CHECK(refused(holthrimi_try_copy_str_from_user(LENT, 3, text, 8, 4096), HOLTHRIMI_EFAULT));
-    CHECK(ended(holthrimi_copy_to_user(LENT, 3, 65536, bytes, 1), HOLTHRIMI_EFAULT));
+    CHECK(refused_at(holthrimi_try_copy_str_from_user(LENT, 3, text, 8, 4096), 4096));
+    CHECK(ended_at(holthrimi_copy_to_user(LENT, 3, 65536, bytes, 1), 65536));
     CHECK(refused(holthrimi_end(LENT, 3), HOLTHRIMI_DEAD));
 
     /* End: the text stays with the last that holds it. */

@@ -3,12 +3,13 @@
 ghost use Rattle.spec.specs.Machine.{copy-from-user, call};
 ghost use Rattle.spec.specs.World.{Does, stateOf};
 use spec::Answer;
+use spec::Checked;
 use spec::Left;
 use spec::Procs;
 use spec::Setup;
 
-// Copies bytes of process `number` from `src` on into the whole of `dst`. A bad range ends the process with 35, and no byte is
-// copied. Refused with 1, 38, 39 or 2 to 4, it changes nothing.
+// Copies bytes of process `number` from `src` on into the whole of `dst`. A bad range ends the process with 35 and the bad
+// address, and no byte is copied. Refused with 1, 38, 39 or 2 to 4, it changes nothing.
 pub fn copy_from_user(
     setup: Setup,
     frames: &mut [u8],
@@ -41,11 +42,22 @@ pub fn copy_from_user(
         };
     }
     let len = dst.len() as u64;
-    if !uaccess::user_range_ok(setup, book, &tags, &bases, &table, number, src, len, false) {
+    let access = uaccess::user_range_ok(
+        setup,
+        book,
+        &tags,
+        &bases,
+        &table,
+        number,
+        src,
+        len,
+        false,
+    );
+    if let Checked::Bad(address) = access {
         let after = call_front::ending::forget(book, procs, number);
         return Left {
             procs: after,
-            answer: Answer::Ended(spec::BAD_ADDRESS),
+            answer: Answer::EndedAt(address),
         };
     }
     uaccess::read_user(frames, book, &tags, &bases, &table, number, src, dst);

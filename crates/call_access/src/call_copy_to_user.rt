@@ -3,11 +3,13 @@
 ghost use Rattle.spec.specs.Machine.{copy-to-user, plainly, call};
 ghost use Rattle.spec.specs.World.{Does, stateOf};
 use spec::Answer;
+use spec::Checked;
 use spec::Left;
 use spec::Procs;
 use spec::Setup;
 
-// Copies `bytes` to the memory of process `number` from `dst` on. A bad range ends the process with 35, and no byte is copied.
+// Copies `bytes` to the memory of process `number` from `dst` on. A bad range ends the process with 35 and the bad
+// address, and no byte is copied.
 // Refused with 1, 38, 39 or 2 to 4, it changes nothing.
 pub fn copy_to_user(
     setup: Setup,
@@ -41,11 +43,12 @@ pub fn copy_to_user(
         };
     }
     let len = bytes.len() as u64;
-    if !uaccess::user_range_ok(setup, book, &tags, &bases, &table, number, dst, len, true) {
+    let access = uaccess::user_range_ok(setup, book, &tags, &bases, &table, number, dst, len, true);
+    if let Checked::Bad(address) = access {
         let after = call_front::ending::forget(book, procs, number);
         return Left {
             procs: after,
-            answer: Answer::Ended(spec::BAD_ADDRESS),
+            answer: Answer::EndedAt(address),
         };
     }
     uaccess::write_user(frames, book, &tags, &bases, &table, number, dst, bytes);

@@ -3,6 +3,7 @@
 ghost use Rattle.spec.specs.Machine.{try-copy-str-from-user, call};
 ghost use Rattle.spec.specs.World.{Does, stateOf};
 use spec::Answer;
+use spec::Checked;
 use spec::Procs;
 use spec::Setup;
 
@@ -48,8 +49,9 @@ pub fn try_copy_str_from_user(
         dst,
         src,
     );
-    if !s.whole {
-        return Answer::Refused(spec::BAD_ADDRESS);
+    let access = s.access;
+    if let Checked::Bad(address) = access {
+        return Answer::RefusedAt(address);
     }
     Answer::Value(s.size as u64)
 }

@@ -3,11 +3,12 @@
 ghost use Rattle.spec.specs.Machine.{user-range-ok, plainly, call};
 ghost use Rattle.spec.specs.World.{Does, stateOf};
 use spec::Answer;
+use spec::Checked;
 use spec::Procs;
 use spec::Setup;
 
-// Whether process `number` could read, or write, `len` bytes from `addr` on: 1 for yes and 0 for no. It ends nothing and changes
-// nothing. Refused with 1, 38, 39 or 2 to 4.
+// Whether process `number` could read, or write, `len` bytes from `addr` on: 1 for yes, or no with the bad address. It ends nothing and
+// changes nothing. Refused with 1, 38, 39 or 2 to 4.
 pub fn user_range_ok(
     setup: Setup,
     frames: &[u8],
@@ -37,8 +38,19 @@ pub fn user_range_ok(
     if e != 0 {
         return Answer::Refused(e);
     }
-    if uaccess::user_range_ok(setup, book, &tags, &bases, &table, number, addr, len, write) {
-        return Answer::Value(1);
+    let access = uaccess::user_range_ok(
+        setup,
+        book,
+        &tags,
+        &bases,
+        &table,
+        number,
+        addr,
+        len,
+        write,
+    );
+    match access {
+        Checked::Fine => Answer::Value(1),
+        Checked::Bad(address) => Answer::No(address),
     }
-    Answer::Value(0)
 }

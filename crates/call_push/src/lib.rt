@@ -6,13 +6,14 @@ mod push_args;
 ghost use Rattle.spec.specs.Machine.{push, plainly, call};
 ghost use Rattle.spec.specs.World.{Does, stateOf};
 use spec::Answer;
+use spec::Checked;
 use spec::Left;
 use spec::Procs;
 use spec::Setup;
 
 // Pushes arguments below `top` in the memory of process `number`, and answers the registers to start at `pc` with. Refused with 1, 38, 39,
 // 2 to 4, with 36 for a top that isn't 16-byte aligned, and with 32 or 33 for the arguments, it changes nothing. A push below address 0,
-// or to memory that the process may not write, ends the process with 35, and no byte is written.
+// or to memory that the process may not write, ends the process with 35 and the bad address, and no byte is written.
 pub fn push(
     setup: Setup,
     frames: &mut [u8],
@@ -62,8 +63,7 @@ pub fn push(
             answer: Answer::Refused(error),
         };
     }
-    let nargs = lengths.len();
-    if !crate::push_args::push_ok(
+    let access = crate::push_args::push_ok(
         setup,
         book,
         &tags,
@@ -72,12 +72,13 @@ pub fn push(
         number,
         top,
         size,
-        nargs as u64,
-    ) {
+        lengths,
+    );
+    if let Checked::Bad(address) = access {
         let after = call_front::ending::forget(book, procs, number);
         return Left {
             procs: after,
-            answer: Answer::Ended(spec::BAD_ADDRESS),
+            answer: Answer::EndedAt(address),
         };
     }
     let regs = crate::push_args::push_args(

@@ -14,6 +14,7 @@ ghost use Rattle.call_replace.specs.Entering.{Enterable};
 ghost use Rattle.call_replace.specs.Becoming.{Became};
 use crate::enter::Entered;
 use exec::Plan;
+use exec_argv::Argv;
 use spec::Answer;
 use spec::Form;
 use spec::Left;
@@ -22,7 +23,7 @@ use spec::Procs;
 use spec::Setup;
 
 // Reads the arguments that the array of pointers at user address `argv` points to, and enters the image with them. A bad address among
-// them, 35, ends the process; arguments over the limit, 33, leave it as it was. `p` is the process's record.
+// them, 35, ends the process, and is told; arguments over the limit, 33, leave it as it was. `p` is the process's record.
 fn enter_argv(
     setup: Setup,
     frames: &mut [u8],
@@ -54,41 +55,43 @@ fn enter_argv(
         argv,
         &mut buf,
     );
-    if read.error == spec::BAD_ADDRESS {
-        book::release_owner(book, number as usize);
-        return Entered {
-            proc: call_front::record::zero_proc(),
-            answer: Answer::Ended(spec::BAD_ADDRESS),
-        };
-    }
-    if read.error == spec::ENOVMEM {
-        return Entered {
+    match read {
+        Argv::Bad(address) => {
+            book::release_owner(book, number as usize);
+            Entered {
+                proc: call_front::record::zero_proc(),
+                answer: Answer::EndedAt(address),
+            }
+        }
+        Argv::Over => Entered {
             proc: p,
             answer: Answer::Refused(spec::ENOVMEM),
-        };
+        },
+        Argv::Read(strings) => {
+            let used = strings.used;
+            let count = strings.count;
+            exec_args::pointers_behind(&mut buf, setup.ustktop, used, count);
+            crate::enter::enter(
+                setup,
+                frames,
+                book,
+                number,
+                form,
+                image,
+                plan,
+                name,
+                &buf,
+                used,
+                count,
+            )
+        }
     }
-    let used = read.used;
-    let count = read.count;
-    exec_args::pointers_behind(&mut buf, setup.ustktop, used, count);
-    crate::enter::enter(
-        setup,
-        frames,
-        book,
-        number,
-        form,
-        image,
-        plan,
-        name,
-        &buf,
-        used,
-        count,
-    )
 }
 
 // Replaces the program of process `number` by an image of the form that the caller names, with the last element of `name` as its name
 // and with the arguments that the array of pointers at user address `argv` points to. Refused with 1, 38, 39 or 2 to 4, with 30 or 31
-// for its image, or with 33 for its arguments, it changes nothing. A bad address among the arguments, 35, ends the process, and so does
-// 33 if the frames that it holds alone and the free ones don't hold the image's pages.
+// for its image, or with 33 for its arguments, it changes nothing. A bad address among the arguments, 35, ends the process, and is told;
+// 33 ends it if the frames that it holds alone and the free ones don't hold the image's pages.
 pub fn replace(
     setup: Setup,
     frames: &mut [u8],

@@ -1,5 +1,5 @@
 -- Bytes cut into arguments by lengths that sum to them.
-use Prim.Native.Nat.{ℕ, suc, _+_, _≤_}
+use Prim.Native.Nat.{ℕ, suc, _+_}
 use native.Mathlib.Omega.{arith}
 use mathlib.Core.Path.{_≡_, refl, sym, ap, _∙_}
 use mathlib.Core.Bool.{Bool, _||_}
@@ -9,8 +9,8 @@ use lib.Seq.{length-take-le}
 use Rattle.spec.specs.Tests.{_is_, any, has, sum}
 use Rattle.spec.proofs.Lists.{any-append}
 use Rattle.spec.specs.Numbers.{leBytes}
-use Rattle.spec.specs.Exec.{argsOf, strings, pointers}
-use Rattle.exec_args.specs.Sizes.{pointersBy}
+use Rattle.spec.specs.Exec.{argsOf, strings, pointers, copies}
+use Rattle.exec_args.specs.Sizes.{pointersBy, copiesBy}
 
 -- as many arguments as lengths
 pub cut-count : (bytes lengths : List ℕ) → length (argsOf bytes lengths) ≡ length lengths
@@ -44,3 +44,10 @@ pub cut-pointers : (s : ℕ) (bytes lengths : List ℕ) → sum lengths ≡ leng
 cut-pointers s bytes [] e = refl
 cut-pointers s bytes (n ∷ ns) e =
     rw (length-take-le n bytes (omega arith)) (ap (λ (x : List ℕ). leBytes 8 s ++ x) (cut-pointers (s + n + 1) (drop n bytes) ns (cut-rest bytes n ns e)))
+
+-- and so do the copies of a push
+pub cut-copies : (s p : ℕ) (bytes lengths : List ℕ) → sum lengths ≡ length bytes → copies s p (argsOf bytes lengths) ≡ copiesBy s p lengths
+cut-copies s p bytes [] e = refl
+cut-copies s p bytes (n ∷ ns) e =
+    rw (length-take-le n bytes (omega arith))
+    (ap (λ (x : List (ℕ × ℕ)). (s, n) ∷ (s + n, 1) ∷ (p, 8) ∷ x) (cut-copies (s + n + 1) (p + 8) (drop n bytes) ns (cut-rest bytes n ns e)))

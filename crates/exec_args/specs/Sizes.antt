@@ -29,6 +29,11 @@ abbrev pub pointersBy : ℕ → List ℕ → List ℕ
 pointersBy s [] = leBytes 8 0
 pointersBy s (n ∷ ns) = leBytes 8 s ++ pointersBy (s + n + 1) ns
 
+-- its `copies`, by the same
+abbrev pub copiesBy : ℕ → ℕ → List ℕ → List (ℕ × ℕ)
+copiesBy s p [] = (p, 8) ∷ []
+copiesBy s p (n ∷ ns) = (s, n) ∷ (s + n, 1) ∷ (p, 8) ∷ copiesBy (s + n + 1) (p + 8) ns
+
 -- its `belowZero`, `argvAt` and `registers`, by the size of the strings and the count of arguments
 abbrev pub belowZeroBy : ℕ → ℕ → ℕ → Bool
 belowZeroBy top size count = (top - size) / 8 * 8 below 8 * (count + 1)

@@ -12,10 +12,10 @@ use borrow.Rule.Slice.PartMut.{putMid, midOf}
 use Rattle.spec.specs.Tests.{_is_}
 use Rattle.spec.specs.Numbers.{argLimit}
 use Rattle.spec.specs.Frames.{Mem, put}
-use Rattle.spec.specs.Access.{userRangeOk, byteOf, bytesAt, Str, copyStr}
+use Rattle.spec.specs.Access.{access, byteOf, bytesAt, Str, copyStr}
 use Rattle.spec.specs.Exec.{argBuffer}
 use Rattle.spec.proofs.Bools.{split}
-use Rattle.spec.proofs.Ranges.{range-means}
+use Rattle.spec.proofs.Ranges.{access-passed, either}
 use Rattle.spec.specs.declared.Setup.{Setup}
 use Rattle.spec_laws.proofs.Contents.{length-bytes}
 use Rattle.spec_laws.proofs.Buffers.{string-copied}
@@ -27,19 +27,19 @@ use Rattle.exec_argv.specs.Strings.{Told}
 
 -- what a copy into one buffer and into another have in common
 pub record Alike (s t : Str) : Type 0 where
-  pub whole : s .whole ≡ t .whole
+  pub access : s .access ≡ t .access
   pub size : s .size ≡ t .size
 
 module _ (setup : Setup) (mem : Mem) where
   str-alike : (d e : List ℕ) (a : ℕ) → length d ≡ length e → Alike (copyStr setup mem d a) (copyStr setup mem e a)
-  str-alike [] [] a l = record { whole = refl; size = refl }
+  str-alike [] [] a l = record { access = refl; size = refl }
   str-alike [] (y ∷ e) a l = absurd (omega arith)
   str-alike (x ∷ d) [] a l = absurd (omega arith)
   str-alike (x ∷ d) (y ∷ e) a l =
       let more = str-alike d e (a + 1) (suc-inj l) in
-      split (userRangeOk setup mem false a 1)
-      (λ q. split (byteOf (mem a) is 0) (λ z. rw (q, z) (record { whole = refl; size = refl })) (λ z. rw (q, z) (record { whole = more .whole; size = ap (λ (n : ℕ). n + 1) (more .size) })))
-      (λ q. rw q (record { whole = refl; size = refl }))
+      either (access setup mem false a 1)
+      (λ q. split (byteOf (mem a) is 0) (λ z. rw (q, z) (record { access = refl; size = refl })) (λ z. rw (q, z) (record { access = more .access; size = ap (λ (n : ℕ). n + 1) (more .size) })))
+      (λ b q. rw q (record { access = refl; size = refl }))
 
   pub str-length : (d : List ℕ) (a : ℕ) → length (take (copyStr setup mem d a .size) (copyStr setup mem d a .buffer)) ≡ copyStr setup mem d a .size
   str-length d a = ap length (string-copied setup mem d a) ∙ length-bytes (λ b. byteOf (mem b)) a (copyStr setup mem d a .size)
@@ -47,20 +47,20 @@ module _ (setup : Setup) (mem : Mem) where
   str-most : (d : List ℕ) (a : ℕ) → copyStr setup mem d a .size ≤ length d
   str-most [] a = omega arith
   str-most (x ∷ d) a =
-      split (userRangeOk setup mem false a 1)
+      either (access setup mem false a 1)
       (λ q. split (byteOf (mem a) is 0) (λ z. rw (q, z) (omega arith)) (λ z. rw (q, z) (omega (arith, str-most d (a + 1)))))
-      (λ q. rw q (omega arith))
+      (λ b q. rw q (omega arith))
 
-  pub copied-most : (d : List ℕ) (a : ℕ) (r : Held) (x : List ℕ) → copied (r .whole) (r .size) x ≡ copyStr setup mem d a → r .size ≤ length d
+  pub copied-most : (d : List ℕ) (a : ℕ) (r : Held) (x : List ℕ) → copied (r .access) (r .size) x ≡ copyStr setup mem d a → r .size ≤ length d
   copied-most d a r x e = omega (arith, ap (λ (s : Str). s .size) e, str-most d a)
 
   -- the rest of the buffer is unchanged
   str-rest : (d : List ℕ) (a : ℕ) → drop (copyStr setup mem d a .size) (copyStr setup mem d a .buffer) ≡ drop (copyStr setup mem d a .size) d
   str-rest [] a = refl
   str-rest (x ∷ d) a =
-      split (userRangeOk setup mem false a 1)
+      either (access setup mem false a 1)
       (λ q. split (byteOf (mem a) is 0) (λ z. rw (q, z)) (λ z. rw (q, z, add-one (copyStr setup mem d (a + 1) .size)) (str-rest d (a + 1))))
-      (λ q. rw q)
+      (λ b q. rw q)
 
   -- ---- two buffers, one behind the other
 
@@ -68,19 +68,19 @@ module _ (setup : Setup) (mem : Mem) where
   str-short : (d e : List ℕ) (a : ℕ) → copyStr setup mem d a .size < length d → Alike (copyStr setup mem (d ++ e) a) (copyStr setup mem d a)
   str-short [] e a h = absurd (omega arith)
   str-short (x ∷ d) e a h =
-      split (userRangeOk setup mem false a 1)
+      either (access setup mem false a 1)
       (λ q.
       split (byteOf (mem a) is 0)
-      (λ z. rw (q, z) (record { whole = refl; size = refl }))
-      (λ z. let more = str-short d e (a + 1) (omega (arith, rw (q, z) at h)) in rw (q, z) (record { whole = more .whole; size = ap (λ (n : ℕ). n + 1) (more .size) })))
-      (λ q. rw q (record { whole = refl; size = refl }))
+      (λ z. rw (q, z) (record { access = refl; size = refl }))
+      (λ z. let more = str-short d e (a + 1) (omega (arith, rw (q, z) at h)) in rw (q, z) (record { access = more .access; size = ap (λ (n : ℕ). n + 1) (more .size) })))
+      (λ b q. rw q (record { access = refl; size = refl }))
 
   -- it goes on in the second
   str-full : (d e : List ℕ) (a : ℕ) → copyStr setup mem d a .size ≡ length d
-      → (copyStr setup mem (d ++ e) a .whole ≡ copyStr setup mem e (a + length d) .whole) × (copyStr setup mem (d ++ e) a .size ≡ length d + copyStr setup mem e (a + length d) .size)
+      → (copyStr setup mem (d ++ e) a .access ≡ copyStr setup mem e (a + length d) .access) × (copyStr setup mem (d ++ e) a .size ≡ length d + copyStr setup mem e (a + length d) .size)
   str-full [] e a h = rw (add-zero a) (refl, omega arith)
   str-full (x ∷ d) e a h =
-      split (userRangeOk setup mem false a 1)
+      either (access setup mem false a 1)
       (λ q.
       split (byteOf (mem a) is 0)
       (λ z. absurd (omega (arith, rw (q, z) at h)))
@@ -88,20 +88,20 @@ module _ (setup : Setup) (mem : Mem) where
       let more = str-full d e (a + 1) (omega (arith, rw (q, z) at h)) in
       let far : a + 1 + length d ≡ a + (length (x ∷ d)) = omega arith in
       rw (q, z, ← far) (more .0, omega (arith, more .1))))
-      (λ q. absurd (omega (arith, rw q at h)))
+      (λ b q. absurd (omega (arith, rw q at h)))
 
   -- and the first lies below UADDRTOP
   str-low : (d : List ℕ) (a : ℕ) → copyStr setup mem d a .size ≡ length d → 0 < length d → a + length d ≤ setup .uaddrtop
   str-low [] a h l = absurd (omega arith)
   str-low (x ∷ []) a h l =
-      split (userRangeOk setup mem false a 1) (λ q. range-means setup mem false a 1 q .top) (λ q. absurd (omega (arith, rw q at h)))
+      either (access setup mem false a 1) (λ q. omega (arith, access-passed setup mem false a 1 q .each a (omega arith) (omega arith) .0)) (λ b q. absurd (omega (arith, rw q at h)))
   str-low (x ∷ y ∷ d) a h l =
-      split (userRangeOk setup mem false a 1)
+      either (access setup mem false a 1)
       (λ q.
       split (byteOf (mem a) is 0)
       (λ z. absurd (omega (arith, rw (q, z) at h)))
       (λ z. omega (arith, str-low (y ∷ d) (a + 1) (omega (arith, rw (q, z) at h)) (omega arith))))
-      (λ q. absurd (omega (arith, rw q at h)))
+      (λ b q. absurd (omega (arith, rw q at h)))
 
   -- ---- a buffer of the limit
 
@@ -142,9 +142,9 @@ module _ (setup : Setup) (mem : Mem) where
     both = ap (λ (b : List ℕ). copyStr setup mem b a) (sym (take-append-drop size (argBuffer setup)))
 
     -- what was read, where it ends there
-    module _ (r : Held) (x : List ℕ) (read : copied (r .whole) (r .size) x ≡ copyStr setup mem part a) where
-      told-whole : r .whole ≡ copyStr setup mem part a .whole
-      told-whole = ap (λ (s : Str). s .whole) read
+    module _ (r : Held) (x : List ℕ) (read : copied (r .access) (r .size) x ≡ copyStr setup mem part a) where
+      told-access : r .access ≡ copyStr setup mem part a .access
+      told-access = ap (λ (s : Str). s .access) read
 
       told-size : r .size ≡ copyStr setup mem part a .size
       told-size = ap (λ (s : Str). s .size) read
@@ -163,7 +163,7 @@ module _ (setup : Setup) (mem : Mem) where
           let k : used + size - used ≡ size = omega arith in
           let l : length (take (r .size) x) ≡ used + r .size - used = ap length t ∙ str-length (argBuffer setup) a ∙ sym n ∙ (let z : r .size ≡ used + r .size - used = omega arith in z) in
           record {
-            whole = told-whole ∙ alike .whole ∙ sym (s .whole) ∙ sym (ap (λ (t : Str). t .whole) both);
+            access = told-access ∙ alike .access ∙ sym (s .access) ∙ sym (ap (λ (t : Str). t .access) both);
             size = n;
             text = λ g.
                 ap (putMid used size buf) all ∙ rw k at (part-front buf x used size (r .size) told-most) ∙ put-part buf (take (r .size) x) used (used + r .size - used) l ∙ ap (put buf used) t;
@@ -177,14 +177,14 @@ module _ (setup : Setup) (mem : Mem) where
         pub told-low : a + size ≤ setup .uaddrtop
         told-low = omega (arith, length-fore, str-low fore a full (omega (arith, length-fore)))
 
-        pub told-full : (d : List ℕ) (q : Held) (y after : List ℕ) → length d ≡ used → copied (q .whole) (q .size) y ≡ copyStr setup mem d (a + size)
-            → Told (argLimit setup) (string a) used buf (record { whole = q .whole; size = size + q .size }) after
+        pub told-full : (d : List ℕ) (q : Held) (y after : List ℕ) → length d ≡ used → copied (q .access) (q .size) y ≡ copyStr setup mem d (a + size)
+            → Told (argLimit setup) (string a) used buf (record { access = q .access; size = size + q .size }) after
         told-full d q y after l e =
             let s = str-full fore aft a full in
             let m = str-alike d aft (a + size) (l ∙ (let z : used ≡ length aft = omega (arith, length-drop size (argBuffer setup), buffer-length) in z)) in
             let f : copyStr setup mem aft (a + length fore) ≡ copyStr setup mem aft (a + size) = ap (λ (k : ℕ). copyStr setup mem aft (a + k)) length-fore in
             record {
-              whole = ap (λ (t : Str). t .whole) e ∙ m .whole ∙ sym (ap (λ (t : Str). t .whole) both ∙ s .0 ∙ ap (λ (t : Str). t .whole) f);
+              access = ap (λ (t : Str). t .access) e ∙ m .access ∙ sym (ap (λ (t : Str). t .access) both ∙ s .0 ∙ ap (λ (t : Str). t .access) f);
               size = ap₂ _+_ (sym length-fore) (ap (λ (t : Str). t .size) e ∙ m .size ∙ sym (ap (λ (t : Str). t .size) f)) ∙ sym (ap (λ (t : Str). t .size) both ∙ s .1);
               text = λ g. absurd (omega arith);
             }

@@ -11,13 +11,15 @@ ghost use Rattle.spec.specs.Access.{copyStr};
 ghost use Rattle.spec.specs.Exec.{argBuffer, stackSize};
 ghost use Rattle.sound.specs.Table.{Ready};
 ghost use Rattle.exec_argv.specs.Strings.{Told, Added};
+use spec::Checked;
 use spec::Setup;
 use uaccess::Str;
 
-// What one more string comes to: 35 or 33, or 0 with its length.
-pub struct More {
-    pub error: u64,
-    pub size: usize,
+// What one more string comes to: a bad address, 35; over the limit with the others, 33; or its length.
+pub enum More {
+    Bad(u64),
+    Over,
+    Size(usize),
 }
 
 // Reads the string at user address `s` behind `used` bytes of `buf`, and tells what a copy into a buffer of the limit comes to. What
@@ -67,10 +69,9 @@ fn read_string(
         &mut buf[..used],
         next,
     );
-    Str {
-        whole: rest.whole,
-        size: room + rest.size,
-    }
+    let access = rest.access;
+    let size = room + rest.size;
+    Str { access, size }
 }
 
 // Reads the string at user address `s`, and puts it and its NUL behind `used` bytes of `count` strings if it is within the limit with
@@ -109,21 +110,16 @@ pub fn copy_arg(
     let strings = (used + n + 1) as u64;
     let nargs = (count + 1) as u64;
     let over = (n as u64 == limit) | (exec_args::stack_size(strings, nargs) > limit);
-    if !str.whole {
+    let access = str.access;
+    if let Checked::Bad(address) = access {
         pagealloc::zero(buf);
-        return More {
-            error: spec::BAD_ADDRESS,
-            size: 0,
-        };
+        return More::Bad(address);
     }
     if over {
         pagealloc::zero(buf);
-        return More {
-            error: spec::ENOVMEM,
-            size: 0,
-        };
+        return More::Over;
     }
     let end = used + n;
     buf[end] = 0;
-    More { error: 0, size: n }
+    More::Size(n)
 }

@@ -13,21 +13,26 @@ ghost use Rattle.spec.specs.Book.{frameCount};
 ghost use Rattle.spec.specs.Frames.{memOf, store};
 ghost use Rattle.spec.specs.Exec.{copyArgv};
 ghost use Rattle.sound.specs.Table.{Ready};
-ghost use Rattle.exec_argv.specs.Reading.{Read};
+ghost use Rattle.exec_argv.specs.Reading.{Reads};
+use crate::copy_arg::More;
 use crate::pointers::Pointer;
 use spec::Setup;
 
-// What copy_argv comes to, for Option<Result<Vec<Vec<u8>>>>: 35 or 33, or 0 with the arguments, which are `count` strings in the first
-// `used` bytes of the lent buffer.
-pub struct Argv {
-    pub error: u64,
+// Strings with their NULs, one behind the other: `count` of them in the first `used` bytes of a lent buffer.
+pub struct Strings {
     pub used: usize,
     pub count: usize,
 }
 
+// What copy_argv comes to, for Option<Result<Vec<Vec<u8>>>>: a bad address, 35; arguments over the limit, 33; or the arguments.
+pub enum Argv {
+    Bad(u64),
+    Over,
+    Read(Strings),
+}
+
 // The strings that the null-terminated array of pointers at user address `argv` points to, copied in, stopping with 33 as soon as
-// they won't fit on the new stack. 35 for a bad address, which ends the process, once the caller says so. Where it is refused, the
-// buffer is zeros.
+// they won't fit on the new stack. A bad address, 35, ends the process, once the caller says so. Where it is refused, the buffer is zeros.
 pub fn copy_argv(
     setup: Setup,
     frames: &[u8],
@@ -41,7 +46,7 @@ pub fn copy_argv(
 ) -> Argv
     requires { ⌜ (length (now frames) ≡ 4096 * frameCount (now book)) × Ready (now book) number (now tags) (now bases) (now table) × (1 ≤ number) × (number ≤ 16) ⌝ }
     requires { ⌜ (argLimit setup ≤ length (now buf)) × SetupOk setup ⌝ }
-    ensures { λ r. ⌜ Read (copyArgv setup (memOf (store (now (frames .entry)) (now (book .entry))) number) argv) (now (buf .entry)) r (now (buf .exit)) ⌝ }
+    ensures { λ r. ⌜ Reads (copyArgv setup (memOf (store (now (frames .entry)) (now (book .entry))) number) argv) (now (buf .entry)) r (now (buf .exit)) ⌝ }
 {
     let mut used = 0;
     let mut count = 0;
@@ -49,20 +54,12 @@ pub fn copy_argv(
         let at = crate::pointers::pointer_addr(argv, count);
         let p = crate::pointers::read_pointer(setup, frames, book, tags, bases, table, number, at);
         match p {
-            Pointer::Bad => {
+            Pointer::Bad(address) => {
                 pagealloc::zero(buf);
-                return Argv {
-                    error: spec::BAD_ADDRESS,
-                    used: 0,
-                    count: 0,
-                };
+                return Argv::Bad(address);
             }
             Pointer::Null => {
-                return Argv {
-                    error: 0,
-                    used,
-                    count,
-                };
+                return Argv::Read(Strings { used, count });
             }
             Pointer::At(s) => {
                 let r = crate::copy_arg::copy_arg(
@@ -78,16 +75,18 @@ pub fn copy_argv(
                     used,
                     count,
                 );
-                let e = r.error;
-                if e != 0 {
-                    return Argv {
-                        error: e,
-                        used: 0,
-                        count: 0,
-                    };
+                match r {
+                    More::Bad(address) => {
+                        return Argv::Bad(address);
+                    }
+                    More::Over => {
+                        return Argv::Over;
+                    }
+                    More::Size(size) => {
+                        used += size + 1;
+                        count += 1;
+                    }
                 }
-                used += r.size + 1;
-                count += 1;
             }
         }
     }

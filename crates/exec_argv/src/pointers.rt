@@ -10,14 +10,16 @@ ghost use Rattle.spec.specs.Frames.{memOf, store};
 ghost use Rattle.sound.specs.Table.{Ready};
 ghost use Rattle.exec_args.specs.Sizes.{saturated};
 ghost use Rattle.exec_argv.specs.Places.{pointerAt};
+use spec::Checked;
 use spec::Setup;
 
 // The highest number of 64 bits.
 const MAX: u64 = 0xffff_ffff_ffff_ffff;
 
-// A place of the array of pointers: one that can't be read, the null behind the last pointer, or the address of a string.
+// A place of the array of pointers: one that can't be read, with the bad address, the null behind the last pointer, or the address of a
+// string.
 pub enum Pointer {
-    Bad,
+    Bad(u64),
     Null,
     At(u64),
 }
@@ -66,8 +68,9 @@ pub fn read_pointer(
     requires { ⌜ SetupOk setup ⌝ }
     ensures { λ r. ⌜ r ≡ pointerAt setup (memOf (store (now (frames .entry)) (now (book .entry))) number) at ⌝ }
 {
-    if !uaccess::user_range_ok(setup, book, tags, bases, table, number, at, 8, false) {
-        return Pointer::Bad;
+    let access = uaccess::user_range_ok(setup, book, tags, bases, table, number, at, 8, false);
+    if let Checked::Bad(address) = access {
+        return Pointer::Bad(address);
     }
     let mut p = [0u8; 8];
     uaccess::read_user(frames, book, tags, bases, table, number, at, &mut p);

@@ -4,21 +4,28 @@
 use Prim.Native.Nat.{ℕ}
 use mathlib.Core.Path.{_≡_}
 use mathlib.Core.List.{List, [], _∷_, map}
-use Rattle.spec.specs.Machine.{Outcome, accepted, refused, ended, outcomeOf, numberOf, regsOf, valueOf, Call}
+use Rattle.spec.specs.Machine.{numberOf, regsOf, valueOf, Call}
 use Rattle.spec.specs.World.{State, after, answer}
 use Rattle.spec.specs.History.{Entry, Ran}
 use Rattle.spec.specs.declared.Answer.{Answer}
+use Rattle.spec.specs.declared.Answer.the-variants.{Regs, Value, Done, No, Refused, Ended, RefusedAt, EndedAt}
 use Rattle.holthrimi.specs.declared.told.Told.{Told}
 
--- 0 accepted, 1 refused, 2 ended
-abbrev pub kindOf : Outcome → ℕ
-kindOf accepted = 0
-kindOf refused = 1
-kindOf ended = 2
+-- 0 accepted, 1 refused, 2 ended; and 3 for a range that can't be accessed (02, 4/13), since any value, 1 too, may be its bad address
+abbrev pub kindOf : Answer → ℕ
+kindOf (Regs regs) = 0
+kindOf (Value value) = 0
+kindOf Done = 0
+kindOf (No address) = 3
+kindOf (Refused number) = 1
+kindOf (Ended number) = 2
+kindOf (RefusedAt address) = 1
+kindOf (EndedAt address) = 2
 
--- an answer in numbers: its kind, the table's number or 0, its value and its registers, which are zeros where it has none
+-- an answer in numbers: its kind, the table's number or 0, its value, which is the bad address where there is one, and its registers;
+-- zeros where it has none
 abbrev pub toldOf : Answer → Told
-toldOf a = record { kind = kindOf (outcomeOf a); number = numberOf a; value = valueOf a; regs = regsOf a }
+toldOf a = record { kind = kindOf a; number = numberOf a; value = valueOf a; regs = regsOf a }
 
 -- `Does`, with the answer told in numbers: what a call that found s leaves, tells and gives back in its lent buffer are the
 -- definitions'

@@ -7,25 +7,14 @@ ghost use Rattle.holthrimi.specs.Tells.{toldOf};
 use spec::Answer;
 use spec::UserRegs;
 
-// What a call tells: its kind, 0 for accepted, 1 for refused and 2 for ended; if not accepted, the table's number; and its value and
-// registers, zeros where the call has none.
+// What a call tells: its kind, 0 for accepted, 1 for refused, 2 for ended and 3 for a range that can't be accessed; if refused or ended,
+// the table's number; and its value and registers, zeros where the call has none. A bad address is told as the value.
 #[repr(C)]
 pub struct Told {
     pub kind: u64,
     pub number: u64,
     pub value: u64,
     pub regs: UserRegs,
-}
-
-fn accepted(value: u64, regs: UserRegs) -> Told
-    ensures { λ r. ⌜ r ≡ record { kind = 0; number = 0; value = value; regs = regs } ⌝ }
-{
-    Told {
-        kind: 0,
-        number: 0,
-        value,
-        regs,
-    }
 }
 
 fn zero_regs() -> UserRegs
@@ -39,14 +28,26 @@ fn zero_regs() -> UserRegs
     }
 }
 
-// A refusal tells zeros besides its number.
-fn refused(kind: u64, number: u64) -> Told
-    ensures { λ r. ⌜ r ≡ record { kind = kind; number = number; value = 0; regs = zeroRegs } ⌝ }
+// An answer without registers.
+fn plain(kind: u64, number: u64, value: u64) -> Told
+    ensures { λ r. ⌜ r ≡ record { kind = kind; number = number; value = value; regs = zeroRegs } ⌝ }
 {
     let regs = zero_regs();
     Told {
         kind,
         number,
+        value,
+        regs,
+    }
+}
+
+// A program is entered.
+fn entered(regs: UserRegs) -> Told
+    ensures { λ r. ⌜ r ≡ record { kind = 0; number = 0; value = 0; regs = regs } ⌝ }
+{
+    Told {
+        kind: 0,
+        number: 0,
         value: 0,
         regs,
     }
@@ -56,16 +57,13 @@ pub fn tell(a: Answer) -> Told
     ensures { λ r. ⌜ r ≡ toldOf a ⌝ }
 {
     match a {
-        Answer::Regs(regs) => accepted(0, regs),
-        Answer::Value(value) => {
-            let regs = zero_regs();
-            accepted(value, regs)
-        }
-        Answer::Done => {
-            let regs = zero_regs();
-            accepted(0, regs)
-        }
-        Answer::Refused(number) => refused(1, number),
-        Answer::Ended(number) => refused(2, number),
+        Answer::Regs(regs) => entered(regs),
+        Answer::Value(value) => plain(0, 0, value),
+        Answer::Done => plain(0, 0, 0),
+        Answer::No(address) => plain(3, 0, address),
+        Answer::Refused(number) => plain(1, number, 0),
+        Answer::Ended(number) => plain(2, number, 0),
+        Answer::RefusedAt(address) => plain(1, spec::BAD_ADDRESS, address),
+        Answer::EndedAt(address) => plain(2, spec::BAD_ADDRESS, address),
     }
 }

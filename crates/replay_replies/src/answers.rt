@@ -18,21 +18,19 @@ pub(crate) fn put_answer(a: Answer) {
         Answer::Regs(r) => put_regs(r),
         Answer::Value(v) => put_named(b"ok ", v),
         Answer::Done => put(b"ok"),
+        Answer::No(address) => put_named(b"ok no ", address),
         Answer::Refused(n) => put_named(b"refused ", n),
         Answer::Ended(n) => put_named(b"ended ", n),
+        Answer::RefusedAt(address) => put_named(b"refused 35 ", address),
+        Answer::EndedAt(address) => put_named(b"ended 35 ", address),
     }
 }
 
-// Writes the answer of a range: yes or no.
+// Writes the answer of a range: its value says yes.
 pub(crate) fn put_yes(a: Answer) {
-    let Answer::Value(v) = a else {
-        put_answer(a);
-        return;
-    };
-    if v == 1 {
-        put(b"ok yes");
-    } else {
-        put(b"ok no");
+    match a {
+        Answer::Value(_) => put(b"ok yes"),
+        _ => put_answer(a),
     }
 }
 
@@ -44,16 +42,11 @@ pub(crate) fn put_copied(a: Answer, bytes: &[u8]) {
     }
 }
 
-// Writes the answer of a string copy: its length, or 35, and the whole buffer as it is left.
+// Writes the answer of a string copy: its length, or 35 and the bad address, and the whole buffer as it is left.
 pub(crate) fn put_string(a: Answer, bytes: &[u8]) {
     put_answer(a);
     match a {
-        Answer::Value(_) => put_bytes(bytes),
-        Answer::Refused(n) => {
-            if n == spec::BAD_ADDRESS {
-                put_bytes(bytes);
-            }
-        }
+        Answer::Value(_) | Answer::RefusedAt(_) => put_bytes(bytes),
         _ => {}
     }
 }

@@ -1,23 +1,26 @@
 -- The worked examples of the scope: what the definitions give, beside what the scope says, and one proof.
 use mathlib.Core.Path.{_≡_, refl}
-use mathlib.Core.Bool.{Bool, true, false, _&&_}
-use mathlib.Core.Option.{Option, none, some}
-use mathlib.Core.List.{List, [], _∷_, _++_, reverse}
+use mathlib.Core.Bool.{Bool, true, false, _||_}
+use mathlib.Core.Option.{none, some}
+use mathlib.Core.List.{List, [], _∷_, _++_, reverse, map}
 use Prim.Native.Nat.{ℕ, zero, suc, _+_, _-_, _^_}
 use lib.ListN.{replicate, length, take, set}
-use Rattle.spec.specs.Tests.{_is_, _⇒_else_, all, same, ascii}
+use Rattle.spec.specs.Tests.{_is_, within, _⇒_else_, all, same, ascii}
 use Rattle.spec.specs.Flags.{builtIn}
-use Rattle.spec.specs.Numbers.{deposit, limit, leBytes}
+use Rattle.spec.specs.Numbers.{deposit, limit, le, leBytes}
 use Rattle.spec.specs.Name.{elem, kstrcpy}
 use Rattle.spec.specs.Book.{range, segment, sameSegment, pageCount}
+use Rattle.spec.specs.Frames.{Mem}
 use Rattle.spec.specs.Program.{Program}
 use Rattle.spec.specs.Elf.{ehdrError, phdrs, phdrError, segmentsOf, elfError, elfProgram}
 use Rattle.spec.specs.Aout.{aoutError, aoutProgram}
-use Rattle.spec.specs.Exec.{imageError, programSegments, programBss, startPieces, fileByte, argsError, argvAt, registers, loaded, pushed, Argv, argBuffer, copyArgv}
-use Rattle.spec.specs.Access.{userRangeOk, copyStr}
+use Rattle.spec.specs.Exec.{imageError, programSegments, programBss, startPieces, fileByte, argsError, argvAt, registers, loaded, pushAccess, pushed, Argv, bad, over, read, argBuffer, copyArgv}
+use Rattle.spec.specs.Access.{_names_else_, access, userRangeOk, copyStr}
 use Rattle.spec.specs.Segment.{ibrk}
+use Rattle.spec.specs.Machine.{replace, push, user-range-ok, copy-from-user, copy-to-user, try-copy-str-from-user, weigh}
 use Rattle.spec.specs.Listing.{listError, listing}
 use Rattle.spec.specs.declared.Form.the-variants.{Elf, Aout}
+use Rattle.spec.specs.declared.Answer.the-variants.{No, RefusedAt, EndedAt}
 
 -- an ELF header whose unlisted fields are valid or 0, and a program header
 abbrev ehdr : ℕ → ℕ → ℕ → List ℕ
@@ -90,9 +93,28 @@ starred =
 
 -- pushed arguments read back as given
 abbrev readsBack : List (List ℕ) → Bool
-readsBack args =
-    let read : Argv = copyArgv deposit (pushed (deposit .ustktop) args (loaded deposit program)) (argvAt (deposit .ustktop) args) in
-    read .error is 0 && same (same _is_) (read .args) args
+readsBack args = said (copyArgv deposit (pushed (deposit .ustktop) args (loaded deposit program)) (argvAt (deposit .ustktop) args))
+  where
+    said : Argv → Bool
+    said (bad address) = false
+    said over = false
+    said (read more) = same (same _is_) more args
+
+-- 02, 4/13: a data page at 65,536, a text page behind it, and a data page below the top; the address that is named, or 0
+abbrev three : Mem
+three a =
+    within 65536 69632 a || within (2 ^ 47 - 4096) (2 ^ 47) a ⇒ some (record { perm = 3; byte = 7 }) else
+    within 69632 73728 a ⇒ some (record { perm = 1; byte = 7 }) else
+    none
+
+abbrev badAt : Bool → ℕ → ℕ → ℕ
+badAt write addr len = access deposit three write addr len names (λ address. address) else 0
+
+-- a push of two arguments where all is data but for two bytes; the address that is named, or 1. Below 80,000 its strings begin at 79,995
+-- and 79,998, its pointers at 79,968 and 79,976
+abbrev pushBad : ℕ → ℕ → ℕ → ℕ
+pushBad top x y =
+    pushAccess deposit (λ a. a is x || a is y ⇒ none else some (record { perm = 3; byte = 7 })) top (ascii "ab" ∷ ascii "c" ∷ []) names (λ address. address) else 1
 
 -- the others, and the listing
 abbrev unstarred : List (ℕ × ℕ)
@@ -104,6 +126,23 @@ unstarred =
     ∷ (ibrk deposit (some (range 69816 77824)) (limit deposit + 1) 9 .error, 34)
     ∷ (userRangeOk deposit (λ a. none) false (2 ^ 47) 0 ⇒ 1 else 0, 1)
     ∷ (userRangeOk deposit (λ a. none) false (2 ^ 47 + 1) 0 ⇒ 1 else 0, 0)
+    ∷ (badAt true (2 ^ 47 - 2) 2, 0)
+    ∷ (badAt true (2 ^ 47 - 2) 3, 2 ^ 47)
+    ∷ (badAt true (2 ^ 47 - 2) (2 ^ 64 - 1), 2 ^ 47)
+    ∷ (badAt true (2 ^ 47) 0, 0)
+    ∷ (badAt true (2 ^ 47) 1, 2 ^ 47)
+    ∷ (badAt true (2 ^ 47 + 1) 0, 2 ^ 47 + 1)
+    ∷ (badAt false (2 ^ 64 - 1) 2, 2 ^ 64 - 1)
+    ∷ (badAt false 69631 2, 0)
+    ∷ (badAt true 69631 2, 69632)
+    ∷ (badAt true 69700 2, 69700)
+    ∷ (badAt false 73727 2, 73728)
+    ∷ (badAt false (2 ^ 47 - 4097) 5000, 2 ^ 47 - 4097)
+    ∷ (pushBad 80000 0 0, 1)
+    ∷ (pushBad 80000 79997 79968, 79997)
+    ∷ (pushBad 80000 79998 79970, 79970)
+    ∷ (pushBad 80000 79999 79976, 79999)
+    ∷ (pushBad 16 80000 80000, 0)
     ∷ (copyStr deposit (λ a. none) [] 7 .size, 0)
     ∷ (elfError builtIn (set image184 0 126), 12)
     ∷ (elfError builtIn (set image184 4 1), 13)
@@ -173,8 +212,8 @@ abbrev lines184 : List ℕ
 lines184 = ascii "entry=65712\nsegment=text 65536 69632\nsegment=data 69632 73728\nbss=69816 77824\npages=7\n"
 
 -- names: an element, 27 bytes as they are, 28 cut at 24, a cut before a byte that continues a character, and at place 0
-abbrev pub names : List (List ℕ × List ℕ)
-names =
+abbrev pub keptNames : List (List ℕ × List ℕ)
+keptNames =
     (elem (ascii "bin/rc/lex"), ascii "lex")
     ∷ (elem (ascii "lex/"), [])
     ∷ (elem (ascii "lex"), ascii "lex")
@@ -193,8 +232,22 @@ unfolding ehdrError phdrs phdrError segmentsOf elfError ibrk
 starred-hold = refl
 
 pub unstarred-hold : agree unstarred ≡ true
-unfolding ehdrError phdrs phdrError segmentsOf elfError ibrk argBuffer copyArgv
+unfolding ehdrError phdrs phdrError segmentsOf elfError ibrk access argBuffer copyArgv
 unstarred-hold = refl
+
+-- 02, 4/13: a range that is asked for answers no; the string copy called by itself is refused; the others end the process
+pub bad-answers-hold : map (λ q. weigh (record { setup = deposit; segments = []; bss = range 0 0; mem = three }) 0 0 q .says)
+    (user-range-ok 69631 2 true
+    ∷ try-copy-str-from-user (0 ∷ 0 ∷ []) 73727
+    ∷ copy-from-user (0 ∷ 0 ∷ []) 73727
+    ∷ copy-to-user 69631 (1 ∷ 2 ∷ [])
+    ∷ push 0 73728 (7 ∷ []) (1 ∷ [])
+    ∷ replace Elf image184 [] 73727
+    ∷ replace Elf image184 [] 65536
+    ∷ [])
+    ≡ No 69632 ∷ RefusedAt 73728 ∷ EndedAt 73728 ∷ EndedAt 69632 ∷ EndedAt 73726 ∷ EndedAt 73728 ∷ EndedAt (le 8 (replicate 8 7) 0) ∷ []
+unfolding ehdrError phdrs phdrError segmentsOf elfError access argBuffer copyArgv
+bad-answers-hold = refl
 
 pub aouts-hold : agree aouts ≡ true
 unfolding aoutError
@@ -204,5 +257,5 @@ pub listing-holds : listing image184 ≡ lines184
 unfolding ehdrError phdrs phdrError segmentsOf elfError listError listing
 listing-holds = refl
 
-pub names-hold : all (λ row. same _is_ (row .0) (row .1)) names ≡ true
-names-hold = refl
+pub kept-names-hold : all (λ row. same _is_ (row .0) (row .1)) keptNames ≡ true
+kept-names-hold = refl

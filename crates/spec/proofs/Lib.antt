@@ -9,6 +9,7 @@ pub mod Setups
 pub mod Chain
 pub mod Ranges
 pub mod Args
+pub mod Pushes
 pub mod Free
 pub mod Flags
 pub mod Taken

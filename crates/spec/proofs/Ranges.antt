@@ -1,67 +1,177 @@
--- A range that userRangeOk passes: it ends at UADDRTOP or below, and each page of it may be read, or written.
-use Prim.Native.Nat.{ℕ, zero, suc, _+_, _*_, _-_, _/_, _≤_, _<_}
+-- What the check of a range names: each case of the rule by facts, what a passed range says of its bytes, and the rule as a reader would
+-- ask for it: the lowest byte of the range that can't be accessed.
+use Prim.Native.Nat.{ℕ, zero, suc, _+_, _-_, _≤_, _<_, min}
 use native.Mathlib.Omega.{arith}
-use native.Mathlib.Nat.{not-suc-le-zero, le-of-suc-le-suc, add-zero}
-use mathlib.Core.Path.{_≡_, refl}
-use mathlib.Core.Bool.{Bool, true, false, and-true}
-use borrow.Author.Tests.{ltb-false, ne-eqb}
-use Rattle.spec.proofs.Bools.{both, not-above}
-use Rattle.spec.specs.Tests.{_is_, _above_, _⇒_else_}
-use Rattle.spec.specs.Numbers.{pageDown, pageUp}
+use native.Mathlib.Nat.{not-suc-le-zero, add-zero}
+use mathlib.Core.Path.{_≡_, refl, sym, ap, subst, _∙_}
+use mathlib.Core.Bool.{Bool, true, false}
+use lib.Dec.{ltb}
+use borrow.Author.Tests.{ltb-true, ltb-false, lt-ltb}
+use Rattle.spec.proofs.Bools.{split, clash, not-above}
+use Rattle.spec.specs.Tests.{_above_, _⇒_else_}
 use Rattle.spec.specs.Frames.{Mem}
-use Rattle.spec.specs.Access.{cellOk, pagesOk, userRangeOk}
+use Rattle.spec.specs.Access.{cellOk, _names_else_, lowestBad, access, userRangeOk, Reached, Lowest, Passed, AccessMeans}
 use Rattle.spec.specs.declared.Setup.{Setup}
+use Rattle.spec.specs.declared.Checked.{Checked}
+use Rattle.spec.specs.declared.Checked.the-variants.{Fine, Bad}
 
-chain : (x y z : Bool) → (x ⇒ false else y ⇒ true else z) ≡ true → (x ≡ false) × (y ≡ false → z ≡ true)
-chain true y z e = absurd (let w : _≡_ {A = ℕ} 0 1 = cc in omega arith)
-chain false true z e = (refl, λ h. absurd (let w : _≡_ {A = ℕ} 0 1 = cc in omega arith))
-chain false false z e = (refl, λ h. e)
+-- ---- the lowest of k bytes
 
-page-at : (mem : Mem) (w : Bool) (k page : ℕ) → pagesOk mem w page k ≡ true → (i : ℕ) → i < k → cellOk w (mem (page + 4096 * i)) ≡ true
-page-at mem w zero page e i h = absurd (not-suc-le-zero h)
-page-at mem w (suc k) page e zero h = rw (add-zero page) (both (cellOk w (mem page)) (pagesOk mem w (page + 4096) k) e .0)
-page-at mem w (suc k) page e (suc i) h =
-    let q : page + 4096 + 4096 * i ≡ page + 4096 * suc i = omega arith in
-    rw (← q) (page-at mem w k (page + 4096) (both (cellOk w (mem page)) (pagesOk mem w (page + 4096) k) e .1) i (le-of-suc-le-suc h))
+data Low (mem : Mem) (w : Bool) (a k : ℕ) : Checked → Type 0 where
+  clear : ((i : ℕ) → i < k → cellOk w (mem (a + i)) ≡ true) → Low mem w a k Fine
+  hit : (j : ℕ) → j < k → ((i : ℕ) → i < j → cellOk w (mem (a + i)) ≡ true) → cellOk w (mem (a + j)) ≡ false → Low mem w a k (Bad (a + j))
 
-pages-all : (mem : Mem) (w : Bool) (k page : ℕ) → ((i : ℕ) → i < k → cellOk w (mem (page + 4096 * i)) ≡ true) → pagesOk mem w page k ≡ true
-pages-all mem w zero page h = refl
-pages-all mem w (suc k) page h =
-    let e₀ : cellOk w (mem page) ≡ true = rw (add-zero page) at (h 0 (omega arith)) in
-    let more : pagesOk mem w (page + 4096) k ≡ true = pages-all mem w k (page + 4096)
-    (λ i l. let q : page + 4096 + 4096 * i ≡ page + 4096 * suc i = omega arith in rw q (h (suc i) (omega arith))) in
-    rw (e₀, more)
+low : (mem : Mem) (w : Bool) (k a : ℕ) → Low mem w a k (lowestBad mem w a k)
+low mem w zero a = clear (λ i h. absurd (not-suc-le-zero h))
+low mem w (suc k) a =
+    split (cellOk w (mem a))
+    (λ q. rw q (more (lowestBad mem w (a + 1) k) (low mem w k (a + 1)) q))
+    (λ q.
+    let z : a + 0 ≡ a = add-zero a in
+    rw q (subst (λ (x : ℕ). Low mem w a (suc k) (Bad x)) z (hit 0 (omega arith) (λ i h. absurd (not-suc-le-zero h)) (rw z q))))
+  where
+    each : cellOk w (mem a) ≡ true → (n : ℕ) → ((i : ℕ) → i < n → cellOk w (mem (a + 1 + i)) ≡ true) → (i : ℕ) → i < suc n → cellOk w (mem (a + i)) ≡ true
+    each q n h zero l = rw (add-zero a) q
+    each q n h (suc i) l = let e : a + 1 + i ≡ a + suc i = omega arith in rw e at (h i (omega arith))
 
-module _ (setup : Setup) where
-  -- what a passed range says of each of its addresses
-  pub record InRange (mem : Mem) (w : Bool) (addr len : ℕ) : Type 0 where
-    pub top : addr + len ≤ setup .uaddrtop
-    pub each : (a : ℕ) → addr ≤ a → a < addr + len → cellOk w (mem (pageDown a)) ≡ true
+    more : (r : Checked) → Low mem w (a + 1) k r → cellOk w (mem a) ≡ true → Low mem w a (suc k) r
+    more Fine (clear h) q = clear (each q k h)
+    more (Bad b) (hit j l h f) q =
+        let e : a + 1 + j ≡ a + suc j = omega arith in
+        subst (λ (x : ℕ). Low mem w a (suc k) (Bad x)) (sym e) (hit (suc j) (omega arith) (each q j h) (rw e at f))
 
-  pub range-means : (mem : Mem) (w : Bool) (addr len : ℕ) → userRangeOk setup mem w addr len ≡ true → InRange mem w addr len
-  range-means mem w addr len e = record {
-    top = ltb-false _ _ (c .0);
-    each = λ a l h.
-        let p = c .1 (ne-eqb len 0 (λ z. omega arith)) in
-        let q : pageDown addr + 4096 * (a / 4096 - addr / 4096) ≡ pageDown a = omega arith in
-        rw q at (page-at mem w ((pageUp (addr + len) - pageDown addr) / 4096) (pageDown addr) p (a / 4096 - addr / 4096) (omega arith));
-  }
+-- where the first bytes can be accessed, it lies behind them
+low-fine : (mem : Mem) (w : Bool) (a k : ℕ) → ((i : ℕ) → i < k → cellOk w (mem (a + i)) ≡ true) → lowestBad mem w a k ≡ Fine
+low-fine mem w a k h = go (lowestBad mem w a k) (low mem w k a)
+  where
+    go : (r : Checked) → Low mem w a k r → r ≡ Fine
+    go Fine (clear g) = refl
+    go (Bad b) (hit j l g f) = clash (cellOk w (mem (a + j))) (h j l) f
+
+low-bad : (mem : Mem) (w : Bool) (a k j : ℕ) → j < k → ((i : ℕ) → i < j → cellOk w (mem (a + i)) ≡ true) → cellOk w (mem (a + j)) ≡ false → lowestBad mem w a k ≡ Bad (a + j)
+low-bad mem w a k j l h f = go (lowestBad mem w a k) (low mem w k a)
+  where
+    go : (r : Checked) → Low mem w a k r → r ≡ Bad (a + j)
+    go Fine (clear g) = clash (cellOk w (mem (a + j))) (g j l) f
+    go (Bad b) (hit i m g e) =
+        split (ltb i j)
+        (λ q. clash (cellOk w (mem (a + i))) (h i (ltb-true i j q)) e)
+        (λ q. split (ltb j i)
+        (λ z. clash (cellOk w (mem (a + j))) (g j (ltb-true j i z)) f)
+        (λ z. let same : i ≡ j = omega (arith, ltb-false i j q, ltb-false j i z) in ap (λ (x : ℕ). Bad (a + x)) same))
+
+-- ---- the rule, case by case
+
+module _ (setup : Setup) (mem : Mem) (w : Bool) (addr len : ℕ) where
+  abbrev top : ℕ
+  top = setup .uaddrtop
+
+  pub bad-above : top < addr → access setup mem w addr len ≡ Bad addr
+  unfolding access
+  bad-above h = rw (lt-ltb top addr h)
+
+  pub bad-at : (a : ℕ) → addr ≤ a → a < addr + len → a < top → cellOk w (mem a) ≡ false → ((b : ℕ) → addr ≤ b → b < a → cellOk w (mem b) ≡ true) → access setup mem w addr len ≡ Bad a
+  unfolding access
+  bad-at a l u t f h =
+      let e : addr + (a - addr) ≡ a = omega arith in
+      let b : lowestBad mem w addr (min len (top - addr)) ≡ Bad a =
+      low-bad mem w addr (min len (top - addr)) (a - addr) (omega arith) (λ i x. h (addr + i) (omega arith) (omega arith)) (rw e f) ∙ ap Bad e in
+      rw (not-above addr top (omega arith), b)
+
+  pub bad-top : addr ≤ top → top < addr + len → ((b : ℕ) → addr ≤ b → b < top → cellOk w (mem b) ≡ true) → access setup mem w addr len ≡ Bad top
+  unfolding access
+  bad-top l u h = rw (not-above addr top l, low-fine mem w addr (min len (top - addr)) (λ i x. h (addr + i) (omega arith) (omega arith)), lt-ltb top (addr + len) u)
+
+  pub fine-all : addr + len ≤ top → ((b : ℕ) → addr ≤ b → b < addr + len → cellOk w (mem b) ≡ true) → access setup mem w addr len ≡ Fine
+  unfolding access
+  fine-all l h =
+      rw (not-above addr top (omega arith), low-fine mem w addr (min len (top - addr)) (λ i x. h (addr + i) (omega arith) (omega arith)), not-above (addr + len) top l)
+
+  -- what it says
+  means : (r : Checked) → Low mem w addr (min len (top - addr)) r → addr ≤ top → (a : ℕ) → (r names Bad else addr + len above top ⇒ Bad top else Fine) ≡ Bad a → Lowest setup mem w addr len a
+  means (Bad b) (hit j l g f) t a e =
+      let z : addr + j ≡ a = cc in
+      record {
+        in-range = λ n. (omega arith, omega arith);
+        empty = λ n. absurd (omega arith);
+        unreached = λ r. clash (cellOk w (mem (addr + j))) (rw z (r .1)) f;
+        lower = λ b x y. (omega arith, (let q : addr + (b - addr) ≡ b = omega arith in rw q at (g (b - addr) (omega arith))));
+      }
+  means Fine (clear g) t a e =
+      split (addr + len above top)
+      (λ q.
+      let past : top < addr + len = ltb-true top (addr + len) q in
+      let y : Bad top ≡ Bad a = rw q at e in
+      let z : top ≡ a = cc in
+      record {
+        in-range = λ n. (omega arith, omega arith);
+        empty = λ n. absurd (omega arith);
+        unreached = λ r. absurd (omega (arith, r .0));
+        lower = λ b x y. (omega arith, (let q : addr + (b - addr) ≡ b = omega arith in rw q at (g (b - addr) (omega arith))));
+      })
+      (λ q. absurd (let y : Fine ≡ Bad a = rw q at e in let w : _≡_ {A = ℕ} 0 1 = cc in omega arith))
+
+  pub access-named : (a : ℕ) → access setup mem w addr len ≡ Bad a → Lowest setup mem w addr len a
+  unfolding access
+  access-named a e =
+      split (addr above top)
+      (λ q.
+      let past : top < addr = ltb-true top addr q in
+      let y : Bad addr ≡ Bad a = rw q at e in
+      let z : addr ≡ a = cc in
+      record {
+        in-range = λ n. (omega arith, omega arith);
+        empty = λ n. (sym z, past);
+        unreached = λ r. absurd (omega (arith, r .0));
+        lower = λ b x y. absurd (omega arith);
+      })
+      (λ q. means (lowestBad mem w addr (min len (top - addr))) (low mem w (min len (top - addr)) addr) (ltb-false top addr q) a (rw q at e))
+
+  passes : (r : Checked) → Low mem w addr (min len (top - addr)) r → addr ≤ top → (r names Bad else addr + len above top ⇒ Bad top else Fine) ≡ Fine → Passed setup mem w addr len
+  passes (Bad b) l t e = absurd (let y : Bad b ≡ Fine = e in let w : _≡_ {A = ℕ} 0 1 = cc in omega arith)
+  passes Fine (clear g) t e =
+      split (addr + len above top)
+      (λ q. absurd (let y : Bad top ≡ Fine = rw q at e in let w : _≡_ {A = ℕ} 0 1 = cc in omega arith))
+      (λ q. let fits : addr + len ≤ top = ltb-false top (addr + len) q in
+      record { start = t; each = λ b x y. (omega arith, (let q : addr + (b - addr) ≡ b = omega arith in rw q at (g (b - addr) (omega arith)))) })
+
+  pub access-passed : access setup mem w addr len ≡ Fine → Passed setup mem w addr len
+  unfolding access
+  access-passed e =
+      split (addr above top)
+      (λ q. absurd (let y : Bad addr ≡ Fine = rw q at e in let w : _≡_ {A = ℕ} 0 1 = cc in omega arith))
+      (λ q. passes (lowestBad mem w addr (min len (top - addr))) (low mem w (min len (top - addr)) addr) (ltb-false top addr q) (rw q at e))
+
+pub access-means : AccessMeans
+access-means = record { named = access-named; passed = access-passed }
+
+-- ---- a range that passes
+
+module _ (setup : Setup) (mem : Mem) (w : Bool) (addr len : ℕ) where
+  pub ok-fine : userRangeOk setup mem w addr len ≡ true → access setup mem w addr len ≡ Fine
+  ok-fine e = go (access setup mem w addr len) e
     where
-      c : ((addr + len above setup .uaddrtop) ≡ false) × ((len is 0) ≡ false → pagesOk mem w (pageDown addr) ((pageUp (addr + len) - pageDown addr) / 4096) ≡ true)
-      c = chain (addr + len above setup .uaddrtop) (len is 0) _ e
+      go : (r : Checked) → (r names (λ address. false) else true) ≡ true → r ≡ Fine
+      go Fine e = refl
+      go (Bad a) e = clash false e refl
 
-  pub range-all : (mem : Mem) (w : Bool) (addr len : ℕ) → 1 ≤ len → InRange mem w addr len → userRangeOk setup mem w addr len ≡ true
-  range-all mem w addr len h r =
-      rw (not-above (addr + len) (setup .uaddrtop) (r .top), ne-eqb len 0 (λ z. omega arith))
-      (pages-all mem w _ (pageDown addr) (λ i l. page i l))
-    where
-      page : (i : ℕ) → i < (pageUp (addr + len) - pageDown addr) / 4096 → cellOk w (mem (pageDown addr + 4096 * i)) ≡ true
-      page zero l = rw (add-zero (pageDown addr)) (r .each addr (omega arith) (omega arith))
-      page (suc i) l =
-          let a : ℕ = pageDown addr + 4096 * suc i in
-          let q : pageDown a ≡ pageDown addr + 4096 * suc i = omega arith in
-          rw q at (r .each a (omega arith) (omega arith))
+  pub range-means : userRangeOk setup mem w addr len ≡ true → Passed setup mem w addr len
+  range-means e = access-passed setup mem w addr len (ok-fine e)
 
-  -- one byte
-  pub range-one : (mem : Mem) (a : ℕ) → a + 1 ≤ setup .uaddrtop → userRangeOk setup mem false a 1 ≡ cellOk false (mem (pageDown a))
-  range-one mem a h = let one : (pageUp (a + 1) - pageDown a) / 4096 ≡ 1 = omega arith in rw (not-above (a + 1) (setup .uaddrtop) h, one) (and-true (cellOk false (mem (pageDown a))))
+-- either way
+pub either : {P : Type 0} (r : Checked) → (r ≡ Fine → P) → ((a : ℕ) → r ≡ Bad a → P) → P
+either Fine f g = f refl
+either (Bad a) f g = g a refl
+
+-- two checks that both pass
+pub both-fine : (r q : Checked) → (r names Bad else q) ≡ Fine → (r ≡ Fine) × (q ≡ Fine)
+both-fine Fine q e = (refl, e)
+both-fine (Bad a) q e = absurd (let y : Bad a ≡ Fine = e in let w : _≡_ {A = ℕ} 0 1 = cc in omega arith)
+
+-- one byte
+pub one-fine : (setup : Setup) (mem : Mem) (w : Bool) (a : ℕ) → Reached setup mem w a → access setup mem w a 1 ≡ Fine
+one-fine setup mem w a r = fine-all setup mem w a 1 (omega (arith, r .0)) (λ b l u. let e : a ≡ b = omega arith in rw e at (r .1))
+
+-- it is bad at itself alone
+pub one-bad : (setup : Setup) (mem : Mem) (w : Bool) (a b : ℕ) → access setup mem w a 1 ≡ Bad b → b ≡ a
+one-bad setup mem w a b e = let l = access-named setup mem w a 1 b e .in-range (omega arith) in omega (arith, l)

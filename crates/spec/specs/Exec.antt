@@ -10,7 +10,7 @@ use Rattle.spec.specs.Tests.{_is_, _isnt_, _below_, _above_, _⇒_else_,
 use Rattle.spec.specs.Numbers.{limit, argLimit, pageUp, pageDown, le, leBytes}
 use Rattle.spec.specs.Book.{range, segment, stack, bssSegment, permAt}
 use Rattle.spec.specs.Frames.{Cell, Mem}
-use Rattle.spec.specs.Access.{userRangeOk, bytesAt, write, Str, copyStr}
+use Rattle.spec.specs.Access.{_names_else_, access, bytesAt, write, Str, copyStr}
 use Rattle.spec.specs.Program.{Segment, inFile, Program}
 use Rattle.spec.specs.Image.{readError, programOf}
 use Rattle.spec.specs.declared.Setup.{Setup}
@@ -18,6 +18,8 @@ use Rattle.spec.specs.declared.Form.{Form}
 use Rattle.spec.specs.declared.VirtRange.{VirtRange}
 use Rattle.spec.specs.declared.UserSegment.{UserSegment}
 use Rattle.spec.specs.declared.UserRegs.{UserRegs}
+use Rattle.spec.specs.declared.Checked.{Checked}
+use Rattle.spec.specs.declared.Checked.the-variants.{Fine, Bad}
 
 -- ---- layout
 
@@ -119,12 +121,20 @@ pointers s (a ∷ args) = leBytes 8 s ++ pointers (s + length a + 1) args
 abbrev pub belowZero : ℕ → List (List ℕ) → Bool
 belowZero top args = stringsAt top args / 8 * 8 below 8 * (length args + 1)
 
--- it may write its strings and its pointers
-abbrev pub pushOk : Setup → Mem → ℕ → List (List ℕ) → Bool
-pushOk setup mem top args =
-    not (belowZero top args)
-    && userRangeOk setup mem true (stringsAt top args) (length (strings args))
-    && userRangeOk setup mem true (argvAt top args) (8 * (length args + 1))
+-- its copies, place and length, in the Rust's writing order from strings s and pointers p on: of each argument its bytes, its NUL and its
+-- pointer; then the null pointer
+abbrev pub copies : ℕ → ℕ → List (List ℕ) → List (ℕ × ℕ)
+copies s p [] = (p, 8) ∷ []
+copies s p (a ∷ args) = (s, length a) ∷ (s + length a, 1) ∷ (p, 8) ∷ copies (s + length a + 1) (p + 8) args
+
+-- the first of them that can't be written names the address
+abbrev pub firstBad : Setup → Mem → List (ℕ × ℕ) → Checked
+firstBad setup mem [] = Fine
+firstBad setup mem ((at, len) ∷ more) = access setup mem true at len names Bad else firstBad setup mem more
+
+-- whether it may write its strings and its pointers (02, 4/13): a push below address 0 is bad at 0
+abbrev pub pushAccess : Setup → Mem → ℕ → List (List ℕ) → Checked
+pushAccess setup mem top args = belowZero top args ⇒ Bad 0 else firstBad setup mem (copies (stringsAt top args) (argvAt top args) args)
 
 -- and what it leaves
 abbrev pub pushed : ℕ → List (List ℕ) → Mem → Mem
@@ -132,10 +142,17 @@ pushed top args mem = write (argvAt top args) (pointers (stringsAt top args) arg
 
 -- ---- the arguments of replace
 
--- what `copy_argv` comes to: 35, 33 or 0, and the arguments
-pub record Argv : Type 0 where
-  pub error : ℕ
-  pub args : List (List ℕ)
+-- what `copy_argv` comes to: a bad address, 35; arguments over the limit, 33; or the arguments
+pub data Argv : Type 0 where
+  bad : (address : ℕ) → Argv
+  over : Argv
+  read : (args : List (List ℕ)) → Argv
+
+-- the arguments, none where they are refused
+abbrev pub argsRead : Argv → List (List ℕ)
+argsRead (bad address) = []
+argsRead over = []
+argsRead (read args) = args
 
 -- the buffer that each string is copied to
 unfoldable pub argBuffer : Setup → List ℕ
@@ -144,18 +161,18 @@ argBuffer setup = replicate (argLimit setup) 0
 -- in reading order: pointer, string, limit, next. `before` are the arguments read so far; each takes 8 bytes of the limit or more,
 -- so that argLimit turns are never used up
 abbrev pub argvFrom : Setup → Mem → ℕ → List (List ℕ) → ℕ → Argv
-argvFrom setup mem argv before zero = record { error = 33; args = [] }
+argvFrom setup mem argv before zero = over
 argvFrom setup mem argv before (suc turns) =
     let at : ℕ = argv + 8 * length before in
     let s : ℕ = le 8 (bytesAt mem at 8) 0 in
     let str : Str = copyStr setup mem (argBuffer setup) s in
     let args : List (List ℕ) = before ++ take (str .size) (str .buffer) ∷ [] in
     let more : Argv = argvFrom setup mem argv args turns in
-    not (userRangeOk setup mem false at 8) ⇒ record { error = 35; args = [] } else
-    s is 0 ⇒ record { error = 0; args = before } else
-    not (str .whole) ⇒ record { error = 35; args = [] } else
-    str .size is argLimit setup ⇒ record { error = 33; args = [] } else
-    stackSize (length (strings args)) (length args) above argLimit setup ⇒ record { error = 33; args = [] } else
+    access setup mem false at 8 names bad else
+    s is 0 ⇒ read before else
+    str .access names bad else
+    str .size is argLimit setup ⇒ over else
+    stackSize (length (strings args)) (length args) above argLimit setup ⇒ over else
     more
 
 -- the arguments in the array of pointers at `argv`

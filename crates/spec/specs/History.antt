@@ -11,7 +11,7 @@ use Rattle.spec.specs.Tests.{_is_, _⇒_else_, all}
 use Rattle.spec.specs.Numbers.{setupError, argLimit}
 use Rattle.spec.specs.Book.{valid, free, pieces, permAt}
 use Rattle.spec.specs.Frames.{Cell, Mem, sized}
-use Rattle.spec.specs.Exec.{argsOf, copyArgv}
+use Rattle.spec.specs.Exec.{argsOf, read, argsRead, copyArgv}
 use Rattle.spec.specs.Machine.{Ask, start, replace, push, break, fork, end, user-range-ok, copy-from-user, copy-to-user, try-copy-str-from-user, Call, Kind, begins, forks, plain, kind, Outcome, accepted, refused, ended, Reply, outcome, Machine, off, feed, judge}
 use Rattle.spec.specs.World.{State, sound, taken, view, aloneFor, answer, readable, after, Does}
 use Rattle.spec.specs.declared.Setup.{Setup}
@@ -146,14 +146,14 @@ pub record Claim : Type 0 where
 -- registers tell of arguments that were pushed below `top`
 pub record ArgsAt (setup : Setup) (mem : Mem) (top : ℕ) (args : List (List ℕ)) (regs : UserRegs) : Type 0 where
   pub count : regs .argc ≡ length args
-  pub read-back : copyArgv setup mem (regs .argv) ≡ record { error = 0; args = args }
+  pub read-back : copyArgv setup mem (regs .argv) ≡ read args
   pub near : (regs .sp ≤ top) × (top - regs .sp ≤ argLimit setup)
 
 -- what registers that were answered tell of memory after the call: of start and push the arguments given, of replace those that it
 -- read before; no other call answers registers
 abbrev pub ArgsRead : Machine → Ask → Mem → UserRegs → Type 0
 ArgsRead m (start form image name bytes lengths) mem regs = ArgsAt (m .setup) mem (m .setup .ustktop) (argsOf bytes lengths) regs
-ArgsRead m (replace form image name argv) mem regs = ArgsAt (m .setup) mem (m .setup .ustktop) (copyArgv (m .setup) (m .mem) argv .args) regs
+ArgsRead m (replace form image name argv) mem regs = ArgsAt (m .setup) mem (m .setup .ustktop) (argsRead (copyArgv (m .setup) (m .mem) argv)) regs
 ArgsRead m (push pc top bytes lengths) mem regs = ArgsAt (m .setup) mem top (argsOf bytes lengths) regs
 ArgsRead m (break addr) mem regs = ⊥
 ArgsRead m (fork child segments) mem regs = ⊥

@@ -9,10 +9,10 @@ use Rattle.spec.specs.Tests.{_is_, _isnt_, _above_, _⇒_else_, same, su
 use Rattle.spec.specs.Numbers.{pageUp}
 use Rattle.spec.specs.Book.{valid, range, stack, sameSegment, dataOnly, pieces, pageCount}
 use Rattle.spec.specs.Frames.{Mem}
-use Rattle.spec.specs.Access.{userRangeOk, bytesAt, write, Str, copyStr}
+use Rattle.spec.specs.Access.{_names_else_, access, bytesAt, write, Str, copyStr}
 use Rattle.spec.specs.Program.{Program}
 use Rattle.spec.specs.Image.{programOf}
-use Rattle.spec.specs.Exec.{imageError, programSegments, programBss, startPieces, loaded, argsOf, argsError, registers, pushOk, pushed, Argv, copyArgv}
+use Rattle.spec.specs.Exec.{imageError, programSegments, programBss, startPieces, loaded, argsOf, argsError, registers, pushAccess, pushed, Argv, bad, over, read, argsRead, copyArgv}
 use Rattle.spec.specs.Segment.{Break, ibrk, moved}
 use Rattle.spec.specs.declared.Setup.{Setup}
 use Rattle.spec.specs.declared.Form.{Form}
@@ -20,7 +20,7 @@ use Rattle.spec.specs.declared.VirtRange.{VirtRange}
 use Rattle.spec.specs.declared.UserSegment.{UserSegment}
 use Rattle.spec.specs.declared.UserRegs.{UserRegs}
 use Rattle.spec.specs.declared.Answer.{Answer}
-use Rattle.spec.specs.declared.Answer.the-variants.{Regs, Value, Done, Refused, Ended}
+use Rattle.spec.specs.declared.Answer.the-variants.{Regs, Value, Done, No, Refused, Ended, RefusedAt, EndedAt}
 
 -- ---- calls and answers
 
@@ -59,8 +59,11 @@ abbrev pub outcomeOf : Answer → Outcome
 outcomeOf (Regs regs) = accepted
 outcomeOf (Value value) = accepted
 outcomeOf Done = accepted
+outcomeOf (No address) = accepted
 outcomeOf (Refused number) = refused
 outcomeOf (Ended number) = ended
+outcomeOf (RefusedAt address) = refused
+outcomeOf (EndedAt address) = ended
 
 abbrev pub outcome : Reply → Outcome
 outcome r = outcomeOf (r .says)
@@ -70,10 +73,13 @@ abbrev pub numberOf : Answer → ℕ
 numberOf (Regs regs) = 0
 numberOf (Value value) = 0
 numberOf Done = 0
+numberOf (No address) = 0
 numberOf (Refused number) = number
 numberOf (Ended number) = number
+numberOf (RefusedAt address) = 35
+numberOf (EndedAt address) = 35
 
--- its values: a refusal answers zeros
+-- its values: a refusal answers zeros, but for the bad address (02, 4/13)
 abbrev pub zeroRegs : UserRegs
 zeroRegs = record { pc = 0; sp = 0; argc = 0; argv = 0 }
 
@@ -81,15 +87,21 @@ abbrev pub regsOf : Answer → UserRegs
 regsOf (Regs regs) = regs
 regsOf (Value value) = zeroRegs
 regsOf Done = zeroRegs
+regsOf (No address) = zeroRegs
 regsOf (Refused number) = zeroRegs
 regsOf (Ended number) = zeroRegs
+regsOf (RefusedAt address) = zeroRegs
+regsOf (EndedAt address) = zeroRegs
 
 abbrev pub valueOf : Answer → ℕ
 valueOf (Regs regs) = 0
 valueOf (Value value) = value
 valueOf Done = 0
+valueOf (No address) = address
 valueOf (Refused number) = 0
 valueOf (Ended number) = 0
+valueOf (RefusedAt address) = address
+valueOf (EndedAt address) = address
 
 -- the buffer that a call is lent
 abbrev pub lent : Ask → List ℕ
@@ -209,20 +221,24 @@ weighStart setup free error program args =
 
 -- replace (`sysexec` after reading): 30, 31, then `copy_argv`'s 35 or 33 in reading order, then 33 if the frames that it holds alone
 -- and the free ones don't suffice; 35 and the last 33 end the process
-abbrev pub weighReplace : Setup → ℕ → ℕ → ℕ → Program → Argv → Answer
-weighReplace setup free alone error program read =
-    error isnt 0 ⇒ Refused error else
-    read .error is 35 ⇒ Ended 35 else
-    read .error is 33 ⇒ Refused 33 else
+abbrev pub weighRead : Setup → ℕ → ℕ → Program → Argv → Answer
+weighRead setup free alone program (bad address) = EndedAt address
+weighRead setup free alone program over = Refused 33
+weighRead setup free alone program (read args) =
     pageCount (startPieces setup program) above alone + free ⇒ Ended 33 else
-    Regs (registers (program .entry) (setup .ustktop) (read .args))
+    Regs (registers (program .entry) (setup .ustktop) args)
+
+abbrev pub weighReplace : Setup → ℕ → ℕ → ℕ → Program → Argv → Answer
+weighReplace setup free alone error program argv =
+    error isnt 0 ⇒ Refused error else
+    weighRead setup free alone program argv
 
 -- push: 36, 32, 33, 35
 abbrev pub weighPush : Machine → ℕ → ℕ → List (List ℕ) → Answer
 weighPush m pc top args =
     top % 16 isnt 0 ⇒ Refused 36 else
     argsError (m .setup) args isnt 0 ⇒ Refused (argsError (m .setup) args) else
-    not (pushOk (m .setup) (m .mem) top args) ⇒ Ended 35 else
+    pushAccess (m .setup) (m .mem) top args names EndedAt else
     Regs (registers pc top args)
 
 -- break: `ibrk`'s rule; a living process has a bss
@@ -233,9 +249,7 @@ weighBreak b =
 
 -- the string copy called by itself: 35 ends nothing
 abbrev pub weighStr : Str → Answer
-weighStr s =
-    not (s .whole) ⇒ Refused 35 else
-    Value (s .size)
+weighStr s = s .access names RefusedAt else Value (s .size)
 
 -- after 1 to 5, each call's own numbers in its order
 abbrev pub weigh : Machine → ℕ → ℕ → Ask → Reply
@@ -245,11 +259,11 @@ weigh m free alone (push pc top bytes lengths) = plainly (weighPush m pc top (ar
 weigh m free alone (break addr) = plainly (weighBreak (ibrk (m .setup) (some (m .bss)) addr free))
 weigh m free alone (fork child segments) = plainly (copied m above free ⇒ Refused 33 else Done)
 weigh m free alone end = plainly Done
-weigh m free alone (user-range-ok addr len write) = plainly (Value (userRangeOk (m .setup) (m .mem) write addr len ⇒ 1 else 0))
+weigh m free alone (user-range-ok addr len write) = plainly (access (m .setup) (m .mem) write addr len names No else Value 1)
 weigh m free alone (copy-from-user buffer src) =
-    not (userRangeOk (m .setup) (m .mem) false src (length buffer)) ⇒ record { says = Ended 35; buffer = buffer } else
+    access (m .setup) (m .mem) false src (length buffer) names (λ address. record { says = EndedAt address; buffer = buffer }) else
     record { says = Done; buffer = bytesAt (m .mem) src (length buffer) }
-weigh m free alone (copy-to-user dst bytes) = plainly (not (userRangeOk (m .setup) (m .mem) true dst (length bytes)) ⇒ Ended 35 else Done)
+weigh m free alone (copy-to-user dst bytes) = plainly (access (m .setup) (m .mem) true dst (length bytes) names EndedAt else Done)
 weigh m free alone (try-copy-str-from-user buffer src) =
     let str : Str = copyStr (m .setup) (m .mem) buffer src in
     record { says = weighStr str; buffer = str .buffer }
@@ -285,7 +299,7 @@ movedTo top m = record { setup = m .setup; segments = m .segments; bss = range (
 -- an accepted call; fork, reads and checks make no change
 abbrev pub run : Machine → Ask → Machine
 run m (start form image name bytes lengths) = begun (m .setup) (programOf (m .setup) form image) (argsOf bytes lengths)
-run m (replace form image name argv) = begun (m .setup) (programOf (m .setup) form image) (copyArgv (m .setup) (m .mem) argv .args)
+run m (replace form image name argv) = begun (m .setup) (programOf (m .setup) form image) (argsRead (copyArgv (m .setup) (m .mem) argv))
 run m (push pc top bytes lengths) = withMem m (pushed top (argsOf bytes lengths) (m .mem))
 run m (break addr) = addr is 0 ⇒ m else movedTo (pageUp addr) m
 run m (fork child segments) = m

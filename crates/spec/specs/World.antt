@@ -15,7 +15,7 @@ use Rattle.spec.specs.Frames.{Store, store, sized, memOf, pagesOf, place
 use Rattle.spec.specs.Sound.{soundBook}
 use Rattle.spec.specs.Program.{Program}
 use Rattle.spec.specs.Image.{programOf}
-use Rattle.spec.specs.Exec.{programSegments, programBss, startPieces, fileByte, argsOf, strings, stringsAt, argvAt, pointers, copyArgv}
+use Rattle.spec.specs.Exec.{programSegments, programBss, startPieces, fileByte, argsOf, strings, stringsAt, argvAt, pointers, argsRead, copyArgv}
 use Rattle.spec.specs.Machine.{Ask, start, replace, push, break, fork, end, user-range-ok, copy-from-user, copy-to-user, try-copy-str-from-user, Call, Outcome, accepted, refused, ended, Reply, outcome, refuse, Machine, lengthsFit, replaces, judge}
 use Rattle.spec.specs.declared.Setup.{Setup}
 use Rattle.spec.specs.declared.Proc.{Proc}
@@ -131,7 +131,7 @@ withStore s m = record { setup = s .setup; store = m; procs = s .procs }
 -- an accepted call; replace frees the old pages first, and has read its arguments before
 abbrev pub settle : State → ℕ → Ask → State
 settle s n (start form image name bytes lengths) = load s n (programOf (s .setup) form image) name (argsOf bytes lengths)
-settle s n (replace form image name argv) = load (forget s n) n (programOf (s .setup) form image) name (copyArgv (s .setup) (view s n .mem) argv .args)
+settle s n (replace form image name argv) = load (forget s n) n (programOf (s .setup) form image) name (argsRead (copyArgv (s .setup) (view s n .mem) argv))
 settle s n (push pc top bytes lengths) = withStore s (pushIn (s .store) n top (argsOf bytes lengths))
 settle s n (break addr) = addr is 0 ⇒ s else brk s n (procAt (s .procs) n) (pageUp addr)
 settle s n (fork child segments) = copy s n child (procAt (s .procs) n)

@@ -109,14 +109,26 @@ pub struct UserRegs {
 pub enum Answer {
     // Accepted, with the registers to enter a program with: start, replace, push.
     Regs(UserRegs),
-    // Accepted, with a value: a break's; a string's length; of a range 1 for yes and 0 for no.
+    // Accepted, with a value: a break's; a string's length; of a range that can be accessed 1.
     Value(u64),
     // Accepted: fork, end and the two copies.
     Done,
-    // Refused with a number of the table. Nothing changed.
+    // Accepted: a range that can't be accessed, with the bad address.
+    No(u64),
+    // Refused with a number of the table other than 35. Nothing changed.
     Refused(u64),
-    // Refused with a number of the table, and the process has ended.
+    // Refused with a number of the table other than 35, and the process has ended.
     Ended(u64),
+    // Refused with 35, with the bad address: the string copy called by itself. Nothing changed but its buffer.
+    RefusedAt(u64),
+    // Refused with 35, with the bad address, and the process has ended.
+    EndedAt(u64),
+}
+
+// What a check of user memory comes to: every byte can be accessed, or the address of one that can't.
+pub enum Checked {
+    Fine,
+    Bad(u64),
 }
 
 // The records after a call, and its answer.

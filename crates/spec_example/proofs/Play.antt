@@ -5,11 +5,12 @@ use mathlib.Core.Bool.{true, false}
 use mathlib.Core.List.{List, [], _∷_, map}
 use Prim.Native.Nat.{ℕ, _-_, _*_}
 use lib.ListN.{replicate, set}
-use Rattle.spec.specs.Tests.{_is_, all, same, ascii}
+use Rattle.spec.specs.Tests.{ascii}
 use Rattle.spec.specs.Flags.{builtIn, flagsOk}
 use Rattle.spec.specs.Numbers.{setupOk, setupError, pageBytes, zeroPage}
 use Rattle.spec.specs.Book.{zeroProc, segment, stack}
 use Rattle.spec.specs.Frames.{place, share, release, pokes}
+use Rattle.spec.specs.Access.{access}
 use Rattle.spec.specs.Sound.{soundBook}
 use Rattle.spec.specs.Elf.{ehdrError, phdrs, phdrError, segmentsOf, elfError}
 use Rattle.spec.specs.Aout.{aoutError}
@@ -41,7 +42,8 @@ abbrev told : Reply → List ℕ
 told r = numberOf (r .says) ∷ valueOf (r .says) ∷ r .buffer
 
 -- the process starts with two arguments; its data hold file bytes; it writes; its break grows and the new page is zero; it forks; each
--- writes its own byte and reads its own; the break shrinks inside a page and the tail stays; a string is read; a bad range ends the child
+-- writes its own byte and reads its own; the break shrinks inside a page and the tail stays; a range up to its page's end passes, and one
+-- byte more is bad at that end (02, 4/13); a string is read; a write to text ends the child, with its address
 abbrev calls : List Call
 calls =
     call 1 (start Elf image184 (ascii "bin/lex") (ascii "lexmot") (3 ∷ 3 ∷ []))
@@ -56,6 +58,7 @@ calls =
     ∷ call 1 (break 73729)
     ∷ call 1 (copy-from-user (replicate 2 9) 73730)
     ∷ call 1 (user-range-ok 77823 1 false)
+    ∷ call 1 (user-range-ok 77823 2 false)
     ∷ call 1 (try-copy-str-from-user (replicate 5 9) (school .ustktop - 8))
     ∷ call 2 (copy-to-user 65536 (1 ∷ []))
     ∷ call 2 (break 0)
@@ -64,14 +67,15 @@ calls =
 
 pub played : map told (play (fresh school 10) calls)
     ≡ (0 ∷ 0 ∷ []) ∷ (0 ∷ 0 ∷ 1 ∷ 2 ∷ 3 ∷ 4 ∷ 0 ∷ 0 ∷ []) ∷ (0 ∷ 0 ∷ []) ∷ (0 ∷ 0 ∷ []) ∷ (0 ∷ 0 ∷ 0 ∷ 0 ∷ 0 ∷ []) ∷ (0 ∷ 0 ∷ []) ∷ (0 ∷ 0 ∷ [])
-    ∷ (0 ∷ 0 ∷ 5 ∷ 6 ∷ []) ∷ (0 ∷ 0 ∷ 7 ∷ 6 ∷ []) ∷ (0 ∷ 0 ∷ []) ∷ (0 ∷ 0 ∷ 5 ∷ 6 ∷ []) ∷ (0 ∷ 1 ∷ []) ∷ (0 ∷ 3 ∷ 108 ∷ 101 ∷ 120 ∷ 9 ∷ 9 ∷ [])
-    ∷ (35 ∷ 0 ∷ []) ∷ (4 ∷ 0 ∷ []) ∷ (0 ∷ 0 ∷ []) ∷ []
-unfolding setupOk flagsOk setupError ehdrError phdrs phdrError segmentsOf elfError ibrk argBuffer copyArgv place share release pokes soundBook pageBytes zeroPage judge answer after
+    ∷ (0 ∷ 0 ∷ 5 ∷ 6 ∷ []) ∷ (0 ∷ 0 ∷ 7 ∷ 6 ∷ []) ∷ (0 ∷ 0 ∷ []) ∷ (0 ∷ 0 ∷ 5 ∷ 6 ∷ []) ∷ (0 ∷ 1 ∷ []) ∷ (0 ∷ 77824 ∷ []) ∷ (0 ∷ 3 ∷ 108 ∷ 101 ∷ 120 ∷ 9 ∷ 9 ∷ [])
+    ∷ (35 ∷ 65536 ∷ []) ∷ (4 ∷ 0 ∷ []) ∷ (0 ∷ 0 ∷ []) ∷ []
+unfolding setupOk flagsOk setupError ehdrError phdrs phdrError segmentsOf elfError ibrk access argBuffer copyArgv place share release pokes soundBook pageBytes zeroPage judge answer after
 played = refl
 
 -- ---- its limits
 
--- a break one page past its limit, and to it, which wants more frames; its last byte and an empty range one past it, a start with arguments over a quarter of its stack
+-- a start with arguments over a quarter of its stack; a break one page past its limit, and to it, which wants more frames; its last byte,
+-- and an empty range one past it, which is bad at its own start
 pub at-school : map told (play (fresh school 4)
     (call 1 (start Elf image184 (ascii "bin/lex") (replicate 1000 7) (1000 ∷ []))
     ∷ call 1 (start Elf image184 (ascii "bin/lex") (replicate 999 7) (999 ∷ []))
@@ -80,8 +84,8 @@ pub at-school : map told (play (fresh school 4)
     ∷ call 1 (user-range-ok 1048575 1 true)
     ∷ call 1 (user-range-ok 1048577 0 true)
     ∷ []))
-    ≡ (33 ∷ 0 ∷ []) ∷ (0 ∷ 0 ∷ []) ∷ (34 ∷ 0 ∷ []) ∷ (33 ∷ 0 ∷ []) ∷ (0 ∷ 1 ∷ []) ∷ (0 ∷ 0 ∷ []) ∷ []
-unfolding setupOk flagsOk setupError ehdrError phdrs phdrError segmentsOf elfError ibrk argBuffer copyArgv place share release pokes soundBook pageBytes zeroPage judge answer after
+    ≡ (33 ∷ 0 ∷ []) ∷ (0 ∷ 0 ∷ []) ∷ (34 ∷ 0 ∷ []) ∷ (33 ∷ 0 ∷ []) ∷ (0 ∷ 1 ∷ []) ∷ (0 ∷ 1048577 ∷ []) ∷ []
+unfolding setupOk flagsOk setupError ehdrError phdrs phdrError segmentsOf elfError ibrk access argBuffer copyArgv place share release pokes soundBook pageBytes zeroPage judge answer after
 at-school = refl
 
 -- ---- shared text
@@ -101,7 +105,7 @@ begin = call 1 (start Elf image184 (ascii "bin/lex") [] [])
 
 -- a start takes four frames, a fork three more
 pub too-few : map told (play (fresh school 6) (begin ∷ forked ∷ [])) ≡ (0 ∷ 0 ∷ []) ∷ (33 ∷ 0 ∷ []) ∷ []
-unfolding setupOk flagsOk setupError ehdrError phdrs phdrError segmentsOf elfError ibrk argBuffer copyArgv place share release pokes soundBook pageBytes zeroPage judge answer after
+unfolding setupOk flagsOk setupError ehdrError phdrs phdrError segmentsOf elfError ibrk access argBuffer copyArgv place share release pokes soundBook pageBytes zeroPage judge answer after
 too-few = refl
 
 -- a child that replaces its image wants four, and holds three alone: it ends. Once its parent has ended, a child has the text alone, and
@@ -109,7 +113,7 @@ too-few = refl
 pub shared : map told (play (fresh school 7) (begin ∷ forked ∷ text 1 ∷ text 2 ∷ again ∷ text 2 ∷ forked ∷ call 1 end ∷ text 2 ∷ again ∷ text 2 ∷ call 2 (copy-from-user (replicate 4 9) 69630) ∷ []))
     ≡ (0 ∷ 0 ∷ []) ∷ (0 ∷ 0 ∷ []) ∷ (0 ∷ 0 ∷ 127 ∷ 69 ∷ 76 ∷ 70 ∷ []) ∷ (0 ∷ 0 ∷ 127 ∷ 69 ∷ 76 ∷ 70 ∷ []) ∷ (33 ∷ 0 ∷ []) ∷ (4 ∷ 0 ∷ 9 ∷ 9 ∷ 9 ∷ 9 ∷ [])
     ∷ (0 ∷ 0 ∷ []) ∷ (0 ∷ 0 ∷ []) ∷ (0 ∷ 0 ∷ 127 ∷ 69 ∷ 76 ∷ 70 ∷ []) ∷ (0 ∷ 0 ∷ []) ∷ (0 ∷ 0 ∷ 0 ∷ 0 ∷ 12 ∷ 71 ∷ []) ∷ (0 ∷ 0 ∷ 0 ∷ 0 ∷ 187 ∷ 187 ∷ []) ∷ []
-unfolding setupOk flagsOk setupError ehdrError phdrs phdrError segmentsOf elfError aoutError ibrk argBuffer copyArgv place share release pokes soundBook pageBytes zeroPage judge answer after
+unfolding setupOk flagsOk setupError ehdrError phdrs phdrError segmentsOf elfError aoutError ibrk access argBuffer copyArgv place share release pokes soundBook pageBytes zeroPage judge answer after
 shared = refl
 
 -- ---- bad setups

@@ -11,39 +11,47 @@ use Rattle.spec.proofs.Bools.{split, both, not-true, un-not}
 use Rattle.spec.specs.Tests.{_is_, _isnt_, _below_, _above_, _⇒_else_}
 use Rattle.spec.specs.Numbers.{limit, pageUp}
 use Rattle.spec.specs.Book.{valid, free, alone, pageCount}
-use Rattle.spec.specs.Access.{userRangeOk}
+use Rattle.spec.specs.Access.{_names_else_, access}
 use Rattle.spec.specs.Program.{Program}
 use Rattle.spec.specs.Image.{programOf}
-use Rattle.spec.specs.Exec.{imageError, startPieces, argsOf, argsError, registers, pushOk, Argv, copyArgv}
+use Rattle.spec.specs.Exec.{imageError, startPieces, argsOf, argsError, registers, pushAccess, Argv, bad, over, read, argsRead, copyArgv}
 use Rattle.spec.specs.Segment.{Break, refusedBy, endsAt, ibrk}
-use Rattle.spec.specs.Machine.{Ask, start, replace, push, break, fork, end, copy-to-user, Call, Outcome, accepted, refused, ended, outcome, outcomeOf, copied}
+use Rattle.spec.specs.Machine.{Ask, start, replace, push, break, fork, end, copy-to-user, Call, Outcome, accepted, refused, ended, outcome, outcomeOf, copied, weighRead}
 use Rattle.spec.specs.World.{State, taken, view, aloneFor, answer}
 use Rattle.spec.specs.declared.VirtRange.{VirtRange}
 use Rattle.spec.specs.declared.UserSegment.{UserSegment}
 use Rattle.spec.specs.declared.UserRegs.{UserRegs}
 use Rattle.spec.specs.declared.Answer.{Answer}
-use Rattle.spec.specs.declared.Answer.the-variants.{Regs, Value, Done, Refused, Ended}
+use Rattle.spec.specs.declared.Answer.the-variants.{Regs, Value, Done, Refused, Ended, EndedAt}
+use Rattle.spec.specs.declared.Checked.{Checked}
+use Rattle.spec.specs.declared.Checked.the-variants.{Fine, Bad}
 use Rattle.spec.specs.declared.Setup.{Setup}
 use Rattle.spec.specs.declared.Form.{Form}
 use Rattle.spec_laws.proofs.Accepted.{Accepted, accepted-means}
+use Rattle.spec_laws.proofs.Argv.{Fits, argv-fits}
 use Rattle.spec_history.proofs.Passed.{Good, good-setup, answered, accepted≢, Passed, passed}
 
 -- ---- any call
 
 -- a call that is not refused has passed 1 to 5
-pub not-refused : (s : State) → Good s → (c : Call) (o : Outcome) → outcome (answer s c) ≡ o → (o ≡ refused → ⊥) → Passed (view s (c .number)) (free (s .store .book)) (aloneFor s c) (taken s) c o
+pub not-refused : (s : State) → Good s → (c : Call) (o : Outcome) → outcome (answer s c) ≡ o → (o ≡ refused → ⊥) → Passed (view s (c .number)) (free (s .store .book)) (aloneFor s c) (taken s) c (λ r. outcome r ≡ o)
 not-refused s g c o e h = passed (view s (c .number)) (free (s .store .book)) (aloneFor s c) (taken s) c o (ap outcome (sym (answered s g c)) ∙ e) h
 
 abbrev Accepts : State → ℕ → Ask → Type 0
 Accepts s n q = outcome (answer s (record { number = n; ask = q })) ≡ accepted
 
-went : (s : State) → Good s → (n : ℕ) (q : Ask) → Accepts s n q → Passed (view s n) (free (s .store .book)) (aloneFor s (record { number = n; ask = q })) (taken s) (record { number = n; ask = q }) accepted
+went : (s : State) → Good s → (n : ℕ) (q : Ask) → Accepts s n q → Passed (view s n) (free (s .store .book)) (aloneFor s (record { number = n; ask = q })) (taken s) (record { number = n; ask = q }) (λ r. outcome r ≡ accepted)
 went s g n q e = not-refused s g (record { number = n; ask = q }) accepted e accepted≢
 
 -- a choice that comes to what its first answer isn't
 pub past : {A : Type 0} (P : A → Type 0) (t : Bool) (x y : A) → P (t ⇒ x else y) → (P x → ⊥) → (t ≡ false) × P y
 past P true x y e h = absurd (h e)
 past P false x y e h = (refl, e)
+
+-- a check that comes to what no bad address is answered with
+pub past-check : {A : Type 0} (P : A → Type 0) (t : Checked) (f : ℕ → A) (y : A) → P (t names f else y) → ((a : ℕ) → P (f a) → ⊥) → (t ≡ Fine) × P y
+past-check P (Bad a) f y e h = absurd (h a e)
+past-check P Fine f y e h = (refl, e)
 
 abbrev Goes : Answer → Type 0
 Goes a = outcomeOf a ≡ accepted
@@ -99,24 +107,27 @@ pub record Replaces (s : State) (n : ℕ) (program : Program) (argv : ℕ) : Typ
   pub number : valid n ≡ true
   pub living : taken s n ≡ true
   pub program-fits : Accepted (s .setup) program
-  pub readable : (copyArgv (s .setup) (view s n .mem) argv .error is 35) ≡ false
-  pub within-limit : (copyArgv (s .setup) (view s n .mem) argv .error is 33) ≡ false
+  pub args-fit : argsError (s .setup) (argsRead (copyArgv (s .setup) (view s n .mem) argv)) ≡ 0
   pub room : pageCount (startPieces (s .setup) program) ≤ alone (s .store .book) n + free (s .store .book)
+
+-- arguments that were read, and frames for the new pages
+read-on : (setup : Setup) (free alone : ℕ) (program : Program) (r : Argv) → Fits setup r → Goes (weighRead setup free alone program r)
+    → (argsError setup (argsRead r) ≡ 0) × (pageCount (startPieces setup program) ≤ alone + free)
+read-on setup free alone program (bad address) fits e = absurd (ended-not e)
+read-on setup free alone program over fits e = absurd (refused-not e)
+read-on setup free alone program (read args) fits e =
+    let p = past Goes (pageCount (startPieces setup program) above alone + free) (Ended 33) (Regs (registers (program .entry) (setup .ustktop) args)) e ended-not in
+    (fits, ltb-false _ _ (p .0))
 
 pub replaces : (s : State) → Good s → (n : ℕ) (form : Form) (image name : List ℕ) (argv : ℕ) → Accepts s n (replace form image name argv) → Replaces s n (programOf (s .setup) form image) argv
 replaces s g n form image name argv e =
     let program : Program = programOf (s .setup) form image in
     let w = went s g n (replace form image name argv) e in
-    let read : Argv = copyArgv (s .setup) (view s n .mem) argv in
-    let a₄ : Answer = Regs (registers (program .entry) (s .setup .ustktop) (read .args)) in
-    let a₃ : Answer = pageCount (startPieces (s .setup) program) above alone (s .store .book) n + free (s .store .book) ⇒ Ended 33 else a₄ in
-    let a₂ : Answer = read .error is 33 ⇒ Refused 33 else a₃ in
-    let a₁ : Answer = read .error is 35 ⇒ Ended 35 else a₂ in
+    let r : Argv = copyArgv (s .setup) (view s n .mem) argv in
+    let a₁ : Answer = weighRead (s .setup) (free (s .store .book)) (alone (s .store .book) n) program r in
     let p₁ = past Goes (imageError (s .setup) form image isnt 0) (Refused (imageError (s .setup) form image)) a₁ (w .weighed) refused-not in
-    let p₂ = past Goes (read .error is 35) (Ended 35) a₂ (p₁ .1) ended-not in
-    let p₃ = past Goes (read .error is 33) (Refused 33) a₃ (p₂ .1) refused-not in
-    let p₄ = past Goes (pageCount (startPieces (s .setup) program) above alone (s .store .book) n + free (s .store .book)) (Ended 33) a₄ (p₃ .1) ended-not in
-    record { number = w .number; living = w .lives; program-fits = accepted-means (s .setup) (good-setup s g) form image (zero-is _ (p₁ .0)); readable = p₂ .0; within-limit = p₃ .0; room = ltb-false _ _ (p₄ .0) }
+    let p₂ = read-on (s .setup) (free (s .store .book)) (alone (s .store .book) n) program r (argv-fits (s .setup) (good-setup s g) (view s n .mem) argv r refl) (p₁ .1) in
+    record { number = w .number; living = w .lives; program-fits = accepted-means (s .setup) (good-setup s g) form image (zero-is _ (p₁ .0)); args-fit = p₂ .0; room = p₂ .1 }
 
 -- ---- push
 
@@ -125,19 +136,19 @@ pub record Pushes (s : State) (n top : ℕ) (args : List (List ℕ)) : Type 0 wh
   pub living : taken s n ≡ true
   pub aligned : top % 16 ≡ 0
   pub args-fit : argsError (s .setup) args ≡ 0
-  pub writable : pushOk (s .setup) (view s n .mem) top args ≡ true
+  pub writable : pushAccess (s .setup) (view s n .mem) top args ≡ Fine
 
 pub pushes : (s : State) → Good s → (n pc top : ℕ) (bytes lengths : List ℕ) → Accepts s n (push pc top bytes lengths) → Pushes s n top (argsOf bytes lengths)
 pushes s g n pc top bytes lengths e =
     let args : List (List ℕ) = argsOf bytes lengths in
     let w = went s g n (push pc top bytes lengths) e in
     let a₃ : Answer = Regs (registers pc top args) in
-    let a₂ : Answer = not (pushOk (s .setup) (view s n .mem) top args) ⇒ Ended 35 else a₃ in
+    let a₂ : Answer = pushAccess (s .setup) (view s n .mem) top args names EndedAt else a₃ in
     let a₁ : Answer = argsError (s .setup) args isnt 0 ⇒ Refused (argsError (s .setup) args) else a₂ in
     let p₁ = past Goes (top % 16 isnt 0) (Refused 36) a₁ (w .weighed) refused-not in
     let p₂ = past Goes (argsError (s .setup) args isnt 0) (Refused (argsError (s .setup) args)) a₂ (p₁ .1) refused-not in
-    let p₃ = past Goes (not (pushOk (s .setup) (view s n .mem) top args)) (Ended 35) a₃ (p₂ .1) ended-not in
-    record { number = w .number; living = w .lives; aligned = zero-is _ (p₁ .0); args-fit = zero-is _ (p₂ .0); writable = un-not _ (p₃ .0) }
+    let p₃ = past-check Goes (pushAccess (s .setup) (view s n .mem) top args) EndedAt a₃ (p₂ .1) (λ a. ended-not) in
+    record { number = w .number; living = w .lives; aligned = zero-is _ (p₁ .0); args-fit = zero-is _ (p₂ .0); writable = p₃ .0 }
 
 -- ---- break
 
@@ -208,10 +219,10 @@ ends s g n e = let w = went s g n end e in record { number = w .number; living =
 pub record Writes (s : State) (n dst : ℕ) (bytes : List ℕ) : Type 0 where
   pub number : valid n ≡ true
   pub living : taken s n ≡ true
-  pub writable : userRangeOk (s .setup) (view s n .mem) true dst (length bytes) ≡ true
+  pub writable : access (s .setup) (view s n .mem) true dst (length bytes) ≡ Fine
 
 pub writes : (s : State) → Good s → (n dst : ℕ) (bytes : List ℕ) → Accepts s n (copy-to-user dst bytes) → Writes s n dst bytes
 writes s g n dst bytes e =
     let w = went s g n (copy-to-user dst bytes) e in
-    let p = past Goes (not (userRangeOk (s .setup) (view s n .mem) true dst (length bytes))) (Ended 35) Done (w .weighed) ended-not in
-    record { number = w .number; living = w .lives; writable = un-not _ (p .0) }
+    let p = past-check Goes (access (s .setup) (view s n .mem) true dst (length bytes)) EndedAt Done (w .weighed) (λ a. ended-not) in
+    record { number = w .number; living = w .lives; writable = p .0 }

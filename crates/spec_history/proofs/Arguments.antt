@@ -1,25 +1,25 @@
 -- Demand 2's last sentence: registers that a call answers tell of its arguments, of any good state.
-use Prim.Native.Nat.{ℕ, zero, suc, _+_, _*_, _-_, _/_, _%_, _≤_, _<_}
+use Prim.Native.Nat.{ℕ, _+_, _*_, _-_, _%_, _≤_, _<_}
 use native.Mathlib.Omega.{arith}
 use mathlib.Core.Path.{_≡_, refl, sym, ap, subst, _∙_}
-use mathlib.Core.Bool.{Bool, true, false, not, _&&_}
-use mathlib.Core.Option.{Option, none, some}
+use mathlib.Core.Bool.{Bool, true, false}
+use mathlib.Core.Option.{Option, some}
 use mathlib.Core.List.{List, [], _∷_, _++_}
 use lib.ListN.{length}
-use borrow.Author.Tests.{eq-eqb, le-ltb, eqb-true, eqb-false}
+use borrow.Author.Tests.{eq-eqb}
 use Rattle.spec.proofs.Args.{args-means}
-use Rattle.spec.proofs.Bools.{split, and-test, not-false, within-test}
-use Rattle.spec.proofs.Ranges.{InRange, range-all}
+use Rattle.spec.proofs.Bools.{within-test}
+use Rattle.spec.proofs.Pushes.{Writable, push-fine}
 use Rattle.spec.proofs.ReadBack.{Stacked, start-args, replace-args, push-args}
-use Rattle.spec.specs.Tests.{_is_, _isnt_, _above_, _⇒_else_}
-use Rattle.spec.specs.Numbers.{SetupOk, pageDown}
+use Rattle.spec.specs.Tests.{_isnt_, _above_, _⇒_else_}
+use Rattle.spec.specs.Numbers.{SetupOk}
 use Rattle.spec.specs.Book.{free, alone, stack, bssSegment, permAt, pageCount}
-use Rattle.spec.specs.Access.{cellOk, userRangeOk, bytesAt, Str, copyStr}
+use Rattle.spec.specs.Access.{cellOk, _names_else_, access, bytesAt, Str, copyStr}
 use Rattle.spec.specs.Program.{Program}
 use Rattle.spec.specs.Image.{programOf}
-use Rattle.spec.specs.Exec.{imageError, programSegments, programBss, startPieces, fileByte, cellOf, loaded, argsOf, strings, argsError, stringsAt, argvAt, belowZero, registers, pushOk, Argv, copyArgv}
+use Rattle.spec.specs.Exec.{imageError, programSegments, programBss, startPieces, fileByte, cellOf, loaded, argsOf, strings, argsError, stringsAt, argvAt, registers, pushAccess, Argv, bad, over, read, argsRead, copyArgv}
 use Rattle.spec.specs.Segment.{Break, ibrk}
-use Rattle.spec.specs.Machine.{Ask, start, replace, push, break, fork, end, user-range-ok, copy-from-user, copy-to-user, try-copy-str-from-user, Call, begins, plain, Outcome, accepted, Reply, outcome, outcomeOf, Machine, copied, weigh, run}
+use Rattle.spec.specs.Machine.{Ask, start, replace, push, break, fork, end, user-range-ok, copy-from-user, copy-to-user, try-copy-str-from-user, Call, begins, plain, Outcome, accepted, Reply, outcome, outcomeOf, Machine, copied, weighRead, weigh, run}
 use Rattle.spec.specs.World.{State, taken, view, aloneFor, answer, after}
 use Rattle.spec.specs.History.{put, ArgsRead}
 use Rattle.spec.specs.declared.Setup.{Setup}
@@ -27,11 +27,11 @@ use Rattle.spec.specs.declared.Form.{Form}
 use Rattle.spec.specs.declared.UserSegment.{UserSegment}
 use Rattle.spec.specs.declared.UserRegs.{UserRegs}
 use Rattle.spec.specs.declared.Answer.{Answer}
-use Rattle.spec.specs.declared.Answer.the-variants.{Regs, Value, Done, Refused, Ended}
+use Rattle.spec.specs.declared.Answer.the-variants.{Regs, Value, Done, No, Refused, Ended, RefusedAt, EndedAt}
+use Rattle.spec.specs.declared.Checked.{Checked}
+use Rattle.spec.specs.declared.Checked.the-variants.{Fine, Bad}
 use Rattle.spec_laws.proofs.Accepted.{Accepted}
-use Rattle.spec_laws.proofs.Allowed.{cell-page}
-use Rattle.spec_laws.proofs.Argv.{argv-fits}
-use Rattle.spec_laws.proofs.Pieces.{Pieces, perm-page, perm-tail, perm-here}
+use Rattle.spec_laws.proofs.Pieces.{Pieces, perm-tail, perm-here}
 use Rattle.spec_laws.proofs.Started.{start-apart}
 use Rattle.spec_history.proofs.Passed.{Good, good-setup, answered, accepted≢, weighs}
 use Rattle.spec_history.proofs.Whole.{effect}
@@ -60,42 +60,20 @@ module _ (setup : Setup) (set : SetupOk setup) (program : Program) (ok : Accepte
   writable : (b : ℕ) (o : Option ℕ) → o ≡ some 3 → cellOk true (cellOf b o) ≡ true
   writable b o e = rw e refl
 
-  by-perm : (b d : ℕ) (o : Option ℕ) → cellOk true (cellOf b o) ≡ cellOk true (cellOf d o)
-  by-perm b d none = refl
-  by-perm b d (some q) = refl
-
-  by-page : (a : ℕ) → cellOk true (loaded setup program a) ≡ cellOk true (loaded setup program (pageDown a))
-  by-page a =
-      by-perm (fileByte (program .segments) a) (fileByte (program .segments) (pageDown a)) (permAt (startPieces setup program) a)
-      ∙ ap (λ (o : Option ℕ). cellOk true (cellOf (fileByte (program .segments) (pageDown a)) o)) (sym (perm-page (startPieces setup program) a (start-apart setup set program ok)))
-
-  stack-range : (addr len : ℕ) → setup .ustktop - setup .ustksize ≤ addr → addr + len ≤ setup .ustktop → InRange setup (loaded setup program) true addr len
-  stack-range addr len l h = record {
-    top = omega arith;
-    each = λ a x y. writable _ (permAt (startPieces setup program) (pageDown a)) (stack-perm (pageDown a) (omega arith) (omega arith));
-  }
-
-  no-bytes : (addr len : ℕ) → len ≡ 0 → addr ≤ setup .uaddrtop → userRangeOk setup (loaded setup program) true addr len ≡ true
-  no-bytes addr len z h = rw (le-ltb (setup .uaddrtop) (addr + len) (omega arith), eq-eqb len 0 z) refl
-
-  some-byte : (k : ℕ) → (k ≡ 0 → ⊥) → 1 ≤ k
-  some-byte zero nz = absurd (nz refl)
-  some-byte (suc k) nz = omega arith
+  stack-range : (addr len : ℕ) → setup .ustktop - setup .ustksize ≤ addr → addr + len ≤ setup .ustktop → Writable setup (loaded setup program) addr len
+  stack-range addr len l h a x y = (omega arith, writable (fileByte (program .segments) a) (permAt (startPieces setup program) a) (stack-perm a (omega arith) (omega arith)))
 
   stacked : (args : List (List ℕ)) → argsError setup args ≡ 0 → Stacked setup program args
   stacked args e = record {
     accepted = set;
-    whole = by-page;
     fit = e;
     room =
         let small = args-means setup args e .1 in
-        and-test (not (belowZero (setup .ustktop) args) && userRangeOk setup (loaded setup program) true (stringsAt (setup .ustktop) args) (length (strings args))) (userRangeOk setup (loaded setup program) true (argvAt (setup .ustktop) args) (8 * (length args + 1)))
-        (and-test (not (belowZero (setup .ustktop) args)) (userRangeOk setup (loaded setup program) true (stringsAt (setup .ustktop) args) (length (strings args)))
-        (not-false (belowZero (setup .ustktop) args) (le-ltb (stringsAt (setup .ustktop) args / 8 * 8) (8 * (length args + 1)) (omega arith)))
-        (split (length (strings args) is 0)
-        (λ z. no-bytes (stringsAt (setup .ustktop) args) (length (strings args)) (eqb-true _ _ z) (omega arith))
-        (λ z. range-all setup (loaded setup program) true (stringsAt (setup .ustktop) args) (length (strings args)) (some-byte _ (eqb-false (length (strings args)) 0 z)) (stack-range _ _ (omega arith) (omega arith)))))
-        (range-all setup (loaded setup program) true (argvAt (setup .ustktop) args) (8 * (length args + 1)) (omega arith) (stack-range _ _ (omega arith) (omega arith)));
+        push-fine setup (loaded setup program) (setup .ustktop) args (record {
+          low = omega arith;
+          strings-at = stack-range (stringsAt (setup .ustktop) args) (length (strings args)) (omega arith) (omega arith);
+          pointers-at = stack-range (argvAt (setup .ustktop) args) (8 * (length args + 1)) (omega arith) (omega arith);
+        });
   }
 
 -- ---- answers with registers
@@ -105,8 +83,11 @@ abbrev shows : Answer → ℕ
 shows (Regs regs) = 1
 shows (Value value) = 0
 shows Done = 0
+shows (No address) = 0
 shows (Refused number) = 0
 shows (Ended number) = 0
+shows (RefusedAt address) = 0
+shows (EndedAt address) = 0
 
 -- of an answer with registers only the last of a chain is left
 past-regs : (t : Bool) (x y : Answer) (regs : UserRegs) → shows x ≡ 0 → (t ⇒ x else y) ≡ Regs regs → y ≡ Regs regs
@@ -116,9 +97,24 @@ past-regs false x y regs n e = e
 no-regs : (t : Bool) (x y : Answer) (regs : UserRegs) → shows x ≡ 0 → shows y ≡ 0 → (t ⇒ x else y) ≡ Regs regs → ⊥
 no-regs t x y regs m n e = let z : shows y ≡ 1 = ap shows (past-regs t x y regs m e) in omega arith
 
-pick : (t : Bool) (x y : Reply) → (t ⇒ x else y) .says ≡ (t ⇒ x .says else y .says)
-pick true x y = refl
-pick false x y = refl
+-- nor of one that a check gives
+past-check : (t : Checked) (f : ℕ → Answer) (y : Answer) (regs : UserRegs) → ((a : ℕ) → shows (f a) ≡ 0) → (t names f else y) ≡ Regs regs → y ≡ Regs regs
+past-check (Bad a) f y regs n e = absurd (let z : shows (f a) ≡ 1 = ap shows e in omega (arith, n a))
+past-check Fine f y regs n e = e
+
+no-regs-check : (t : Checked) (f : ℕ → Answer) (y : Answer) (regs : UserRegs) → ((a : ℕ) → shows (f a) ≡ 0) → shows y ≡ 0 → (t names f else y) ≡ Regs regs → ⊥
+no-regs-check t f y regs m n e = let z : shows y ≡ 1 = ap shows (past-check t f y regs m e) in omega arith
+
+pick : (t : Checked) (f : ℕ → Reply) (y : Reply) → (t names f else y) .says ≡ (t names (λ a. f a .says) else y .says)
+pick (Bad a) f y = refl
+pick Fine f y = refl
+
+-- a replace's registers tell of the arguments that were read
+past-read : (setup : Setup) (free alone : ℕ) (program : Program) (r : Argv) (regs : UserRegs) → weighRead setup free alone program r ≡ Regs regs
+    → Regs (registers (program .entry) (setup .ustktop) (argsRead r)) ≡ Regs regs
+past-read setup free alone program (bad address) regs e = absurd (let z : _≡_ {A = ℕ} 0 1 = ap shows e in omega arith)
+past-read setup free alone program over regs e = absurd (let z : _≡_ {A = ℕ} 0 1 = ap shows e in omega arith)
+past-read setup free alone program (read args) regs e = past-regs (pageCount (startPieces setup program) above alone + free) (Ended 33) (Regs (registers (program .entry) (setup .ustktop) args)) regs refl e
 
 regs-are : (x y : UserRegs) → Regs x ≡ Regs y → x ≡ y
 regs-are x y e = cc
@@ -171,21 +167,15 @@ module _ (s : State) (g : Good s) (n : ℕ) (regs : UserRegs) where
   of-replace form image name argv e =
       let q : Ask = replace form image name argv in
       let program : Program = programOf (s .setup) form image in
-      let read : Argv = copyArgv (s .setup) (view s n .mem) argv in
+      let r : Argv = copyArgv (s .setup) (view s n .mem) argv in
       let p = replaces s g n form image name argv (goes q e) in
-      let a₄ : Answer = Regs (registers (program .entry) (s .setup .ustktop) (read .args)) in
-      let a₃ : Answer = pageCount (startPieces (s .setup) program) above alone (s .store .book) n + free (s .store .book) ⇒ Ended 33 else a₄ in
-      let a₂ : Answer = read .error is 33 ⇒ Refused 33 else a₃ in
-      let a₁ : Answer = read .error is 35 ⇒ Ended 35 else a₂ in
-      finish q (registers (program .entry) (s .setup .ustktop) (read .args))
+      let a₁ : Answer = weighRead (s .setup) (free (s .store .book)) (alone (s .store .book) n) program r in
+      finish q (registers (program .entry) (s .setup .ustktop) (argsRead r))
       (each-call s g (call q) .each n (p .number) ∙ ap (λ (o : Outcome). effect (s .setup) (view s) (call q) plain o n) (goes q e) ∙ put-here (view s) _)
       (regs-are _ regs
-      (past-regs (pageCount (startPieces (s .setup) program) above alone (s .store .book) n + free (s .store .book)) (Ended 33) a₄ regs refl
-      (past-regs (read .error is 33) (Refused 33) a₃ regs refl
-      (past-regs (read .error is 35) (Ended 35) a₂ regs refl (past-regs (imageError (s .setup) form image isnt 0) (Refused (imageError (s .setup) form image)) a₁ regs refl (weighed q e))))))
-      (replace-args (view s n) (program .entry) form image name argv
-      (stacked (s .setup) (good-setup s g) program (p .program-fits) (read .args)
-      (argv-fits (s .setup) (good-setup s g) (view s n .mem) argv read refl (eqb-false (read .error) 35 (p .readable)) (eqb-false (read .error) 33 (p .within-limit)) .1)))
+      (past-read (s .setup) (free (s .store .book)) (alone (s .store .book) n) program r regs
+      (past-regs (imageError (s .setup) form image isnt 0) (Refused (imageError (s .setup) form image)) a₁ regs refl (weighed q e))))
+      (replace-args (view s n) (program .entry) form image name argv (stacked (s .setup) (good-setup s g) program (p .program-fits) (argsRead r) (p .args-fit)))
 
   of-push : (pc top : ℕ) (bytes lengths : List ℕ) → Answers (push pc top bytes lengths) → ArgsRead (view s n) (push pc top bytes lengths) (view (after s (call (push pc top bytes lengths))) n .mem) regs
   unfolding effect
@@ -194,14 +184,14 @@ module _ (s : State) (g : Good s) (n : ℕ) (regs : UserRegs) where
       let args : List (List ℕ) = argsOf bytes lengths in
       let p = pushes s g n pc top bytes lengths (goes q e) in
       let a₃ : Answer = Regs (registers pc top args) in
-      let a₂ : Answer = not (pushOk (s .setup) (view s n .mem) top args) ⇒ Ended 35 else a₃ in
+      let a₂ : Answer = pushAccess (s .setup) (view s n .mem) top args names EndedAt else a₃ in
       let a₁ : Answer = argsError (s .setup) args isnt 0 ⇒ Refused (argsError (s .setup) args) else a₂ in
       finish q (registers pc top args)
       (each-call s g (call q) .each n (p .number) ∙ ap (λ (o : Outcome). effect (s .setup) (view s) (call q) plain o n) (goes q e) ∙ put-here (view s) _)
       (regs-are _ regs
-      (past-regs (not (pushOk (s .setup) (view s n .mem) top args)) (Ended 35) a₃ regs refl
+      (past-check (pushAccess (s .setup) (view s n .mem) top args) EndedAt a₃ regs (λ a. refl)
       (past-regs (argsError (s .setup) args isnt 0) (Refused (argsError (s .setup) args)) a₂ regs refl (past-regs (top % 16 isnt 0) (Refused 36) a₁ regs refl (weighed q e)))))
-      (push-args (view s n) pc (good-setup s g) top bytes lengths (λ a. cell-page (s .store) n a true) (p .aligned) (p .args-fit) (p .writable))
+      (push-args (view s n) pc (good-setup s g) top bytes lengths (p .aligned) (p .args-fit) (p .writable))
 
   of-each : (q : Ask) → Answers q → ArgsRead (view s n) q (view (after s (call q)) n .mem) regs
   of-each (start form image name bytes lengths) e = of-start form image name bytes lengths e
@@ -212,16 +202,14 @@ module _ (s : State) (g : Good s) (n : ℕ) (regs : UserRegs) where
       no-regs (b .error isnt 0) (Refused (b .error)) (Value (b .value)) regs refl refl (weighed (break addr) e)
   of-each (fork child segments) e = no-regs (copied (view s n) above free (s .store .book)) (Refused 33) Done regs refl refl (weighed (fork child segments) e)
   of-each end e = no-regs false Done Done regs refl refl (weighed end e)
-  of-each (user-range-ok addr len write) e =
-      let v : Answer = Value (userRangeOk (s .setup) (view s n .mem) write addr len ⇒ 1 else 0) in
-      no-regs false v v regs refl refl (weighed (user-range-ok addr len write) e)
+  of-each (user-range-ok addr len write) e = no-regs-check (access (s .setup) (view s n .mem) write addr len) No (Value 1) regs (λ a. refl) refl (weighed (user-range-ok addr len write) e)
   of-each (copy-from-user buffer src) e =
-      let t : Bool = not (userRangeOk (s .setup) (view s n .mem) false src (length buffer)) in
-      no-regs t (Ended 35) Done regs refl refl (sym (pick t (record { says = Ended 35; buffer = buffer }) (record { says = Done; buffer = bytesAt (view s n .mem) src (length buffer) })) ∙ weighed (copy-from-user buffer src) e)
-  of-each (copy-to-user dst bytes) e = no-regs (not (userRangeOk (s .setup) (view s n .mem) true dst (length bytes))) (Ended 35) Done regs refl refl (weighed (copy-to-user dst bytes) e)
+      let t : Checked = access (s .setup) (view s n .mem) false src (length buffer) in
+      no-regs-check t EndedAt Done regs (λ a. refl) refl (sym (pick t (λ a. record { says = EndedAt a; buffer = buffer }) (record { says = Done; buffer = bytesAt (view s n .mem) src (length buffer) })) ∙ weighed (copy-from-user buffer src) e)
+  of-each (copy-to-user dst bytes) e = no-regs-check (access (s .setup) (view s n .mem) true dst (length bytes)) EndedAt Done regs (λ a. refl) refl (weighed (copy-to-user dst bytes) e)
   of-each (try-copy-str-from-user buffer src) e =
       let str : Str = copyStr (s .setup) (view s n .mem) buffer src in
-      no-regs (not (str .whole)) (Refused 35) (Value (str .size)) regs refl refl (weighed (try-copy-str-from-user buffer src) e)
+      no-regs-check (str .access) RefusedAt (Value (str .size)) regs (λ a. refl) refl (weighed (try-copy-str-from-user buffer src) e)
 
 pub args-read : (s : State) → Good s → (c : Call) (regs : UserRegs) → answer s c .says ≡ Regs regs → ArgsRead (view s (c .number)) (c .ask) (view (after s c) (c .number) .mem) regs
 args-read s g c regs e = of-each s g (c .number) regs (c .ask) e

@@ -12,14 +12,13 @@ use Rattle.spec.specs.Numbers.{pageUp}
 use Rattle.spec.specs.Book.{valid, procAt}
 use Rattle.spec.specs.Program.{Program}
 use Rattle.spec.specs.Image.{programOf}
-use Rattle.spec.specs.Exec.{argsOf, copyArgv}
+use Rattle.spec.specs.Exec.{argsOf, argsRead, copyArgv}
 use Rattle.spec.specs.Machine.{Ask, start, replace, push, break, fork, end, user-range-ok, copy-from-user, copy-to-user, try-copy-str-from-user, Call, kind, Outcome, accepted, refused, ended, outcome, Machine, off, begun, movedTo}
 use Rattle.spec.specs.World.{State, view, answer, forget, load, brk, settle, leave, after}
 use Rattle.spec.specs.History.{put}
 use Rattle.spec.specs.declared.Form.{Form}
 use Rattle.spec.proofs.Args.{args-means}
-use Rattle.spec_laws.proofs.Argv.{argv-fits}
-use Rattle.spec_history.proofs.Passed.{Good, good-setup, ended≢, valid-number}
+use Rattle.spec_history.proofs.Passed.{Good, ended≢, valid-number}
 use Rattle.spec_history.proofs.Whole.{put-self, effect, effect-refused}
 use Rattle.spec_history.proofs.Accepted.{not-refused, starts, start-ends-nobody, replaces, pushes, breaks, forks-child, ends, writes}
 use Rattle.spec_history.proofs.Change.{Change, change-view, change-good}
@@ -43,17 +42,17 @@ idle s g n = record { good = g; each = λ q v. sym (put-self (view s) n q (view 
 -- ---- replace: the old pages go first
 
 replaced : (s : State) → Good s → (n : ℕ) (form : Form) (image name : List ℕ) (argv : ℕ) → outcome (answer s (record { number = n; ask = replace form image name argv })) ≡ accepted
-    → Sees (settle s n (replace form image name argv)) (put (view s) n (begun (s .setup) (programOf (s .setup) form image) (copyArgv (s .setup) (view s n .mem) argv .args)))
+    → Sees (settle s n (replace form image name argv)) (put (view s) n (begun (s .setup) (programOf (s .setup) form image) (argsRead (copyArgv (s .setup) (view s n .mem) argv))))
 replaced s g n form image name argv e =
     let h = replaces s g n form image name argv e in
     let program : Program = programOf (s .setup) form image in
-    let args : List (List ℕ) = copyArgv (s .setup) (view s n .mem) argv .args in
+    let args : List (List ℕ) = argsRead (copyArgv (s .setup) (view s n .mem) argv) in
     let m : Machine = begun (s .setup) program args in
     let c = forget-change s g n (h .number) in
     let g₁ = change-good s (forget s n) g n (off (s .setup)) c in
     let d =
     load-change (forget s n) g₁ n program name args (h .number) (forget-dead s g n (h .number)) (h .program-fits)
-    (omega (arith, h .room, forget-free s g n (h .number))) (args-means (s .setup) args (argv-fits (s .setup) (good-setup s g) (view s n .mem) argv (copyArgv (s .setup) (view s n .mem) argv) refl (eqb-false _ 35 (h .readable)) (eqb-false _ 33 (h .within-limit)) .1) .1) in
+    (omega (arith, h .room, forget-free s g n (h .number))) (args-means (s .setup) args (h .args-fit) .1) in
     record { good = change-good (forget s n) (load (forget s n) n program name args) g₁ n m d; each = λ q v. change-view (forget s n) (load (forget s n) n program name args) n m d q v ∙ twice q (eqb q n) refl (change-view s (forget s n) n (off (s .setup)) c q v) m }
   where
     twice : (q : ℕ) (b : Bool) → eqb q n ≡ b → view (forget s n) q ≡ put (view s) n (off (s .setup)) q → (m : Machine) → (b ⇒ m else view (forget s n) q) ≡ (b ⇒ m else view s q)

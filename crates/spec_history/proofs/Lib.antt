@@ -13,5 +13,6 @@ pub mod Loaded
 pub mod EachCall
 pub mod Arguments
 pub mod Demand3
+pub mod Named
 pub mod Users
 pub mod Shared

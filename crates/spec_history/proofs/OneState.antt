@@ -1,26 +1,27 @@
 -- Laws of one state: what its test says, what a dead number sees, which numbers are taken, which pages and bytes are seen.
-use Prim.Native.Nat.{ℕ, suc, _+_, _-_}
+use Prim.Native.Nat.{ℕ, suc, _-_}
 use native.Mathlib.Omega.{arith}
 use mathlib.Core.Path.{_≡_, refl, sym, ap, _∙_}
 use mathlib.Core.Bool.{Bool, true, false, not}
 use mathlib.Core.Option.{Option, none, some}
 use mathlib.Core.List.{List, [], _∷_, _++_}
 use lib.ListN.{length}
-use borrow.Author.Tests.{ltb-false, ne-eqb}
-use Rattle.spec.proofs.Bools.{split}
-use Rattle.spec.proofs.Ranges.{range-one}
-use Rattle.spec.specs.Tests.{_is_, _above_, _⇒_else_}
+use borrow.Author.Tests.{ne-eqb}
+use Rattle.spec.proofs.Bools.{split, clash}
+use Rattle.spec.proofs.Ranges.{access-passed, either, one-fine}
+use Rattle.spec.specs.Tests.{_is_, _⇒_else_}
 use Rattle.spec.specs.Numbers.{pageDown}
 use Rattle.spec.specs.Book.{valid, frameOf, lives, used, permAt, pieces, procAt}
 use Rattle.spec.specs.Sound.{Sound}
 use Rattle.spec.specs.Frames.{cellIn}
-use Rattle.spec.specs.Access.{cellOk, userRangeOk, byteOf, bytesAt}
+use Rattle.spec.specs.Access.{cellOk, _names_else_, access, byteOf, bytesAt}
 use Rattle.spec.specs.Machine.{copy-from-user, Call, Reply, outcome, refuse, judge, Machine, off}
 use Rattle.spec.specs.World.{State, taken, view, given, readable}
 use Rattle.spec.specs.History.{Begin, byteIn, held, heldPerm}
 use Rattle.spec.specs.declared.UserSegment.{UserSegment}
 use Rattle.spec.specs.declared.Proc.{Proc}
-use Rattle.spec.specs.declared.Answer.the-variants.{Done, Ended}
+use Rattle.spec.specs.declared.Answer.the-variants.{Done, EndedAt}
+use Rattle.spec.specs.declared.Checked.{Checked}
 use Rattle.spec_laws.proofs.Frame.{Fits, sized-fits, mem-perm}
 use Rattle.spec_laws.proofs.Record.{Whole, typed-whole, dead-zero}
 use Rattle.spec_laws.proofs.Shape.{shape-used}
@@ -83,50 +84,38 @@ pages s g n a v = let k = known s g in mem-perm (s .store) n a ∙ sound-perm (s
 
 -- ---- readable
 
--- one byte may be read exactly where a page is found
-cell-range : (s : State) → Good s → (n a : ℕ) → valid n ≡ true → (o : Option ℕ) → frameOf (s .store .book) n (pageDown a) ≡ o → userRangeOk (s .setup) (view s n .mem) false a 1 ≡ cellOk false (cellIn (s .store) n a o)
-cell-range s g n a v o e = go o e
-  where
-    page : (o : Option ℕ) → frameOf (s .store .book) n (pageDown a) ≡ o → cellOk false (view s n .mem (pageDown a)) ≡ cellOk false (cellIn (s .store) n (pageDown a) o)
-    page o e =
-        let d : pageDown (pageDown a) ≡ pageDown a = omega arith in
-        ap (λ (x : Option ℕ). cellOk false (cellIn (s .store) n (pageDown a) x)) (ap (frameOf (s .store .book) n) d ∙ e)
-
-    go : (o : Option ℕ) → frameOf (s .store .book) n (pageDown a) ≡ o → userRangeOk (s .setup) (view s n .mem) false a 1 ≡ cellOk false (cellIn (s .store) n a o)
-    go none e =
-        split (a + 1 above s .setup .uaddrtop)
-        (λ q. rw q)
-        (λ q. range-one (s .setup) (view s n .mem) a (ltb-false (s .setup .uaddrtop) (a + 1) q) ∙ page none e)
-    go (some k) e =
-        let low = found-between (s .setup) (s .store .book) (s .procs) (known s g .facts) n a k v e .1 in
-        range-one (s .setup) (view s n .mem) a (omega (arith, low)) ∙ page (some k) e
-
 abbrev oneByte : ℕ → ℕ → Call
 oneByte n a = record { number = n; ask = copy-from-user (0 ∷ []) a }
 
-read-chain : (v t r : Bool) (x y z w : Reply) → v ≡ true → (not v ⇒ x else not t ⇒ y else not r ⇒ z else w) ≡ (not t ⇒ y else not r ⇒ z else w)
-read-chain v t r x y z w p = rw p
+-- the replies of copy_from_user of one byte, by its check
+abbrev byte-reply : State → ℕ → ℕ → Checked → Reply
+byte-reply s n a t = t names (λ address. record { says = EndedAt address; buffer = 0 ∷ [] }) else record { says = Done; buffer = bytesAt (view s n .mem) a 1 }
+
+read-chain : (v t : Bool) (x y z : Reply) → v ≡ true → (not v ⇒ x else not t ⇒ y else z) ≡ (not t ⇒ y else z)
+read-chain v t x y z p = rw p
 
 abbrev given-of : Reply → Option ℕ
 given-of x = given x (outcome x)
 
--- what copy_from_user of one byte comes to, by whether it may
-abbrev one : State → ℕ → ℕ → Bool → Option ℕ
-one s n a b = given-of (not b ⇒ record { says = Ended 35; buffer = 0 ∷ [] } else record { says = Done; buffer = bytesAt (view s n .mem) a 1 })
+-- one byte may be read exactly where a page is found
+one-byte : (s : State) → Good s → (n a : ℕ) → valid n ≡ true → (o : Option ℕ) → frameOf (s .store .book) n (pageDown a) ≡ o
+    → given-of (byte-reply s n a (access (s .setup) (view s n .mem) false a 1)) ≡ byteIn (cellIn (s .store) n a o)
+one-byte s g n a v none e =
+    either (access (s .setup) (view s n .mem) false a 1)
+    (λ q.
+    let passed = access-passed (s .setup) (view s n .mem) false a 1 q .each a (omega arith) (omega arith) .1 in
+    clash false (sym (ap (λ (o : Option ℕ). cellOk false (cellIn (s .store) n a o)) e) ∙ passed) refl)
+    (λ b q. ap (λ (t : Checked). given-of (byte-reply s n a t)) q)
+one-byte s g n a v (some k) e =
+    let low = found-between (s .setup) (s .store .book) (s .procs) (known s g .facts) n a k v e .1 in
+    ap (λ (t : Checked). given-of (byte-reply s n a t)) (one-fine (s .setup) (view s n .mem) false a (low, ap (λ (o : Option ℕ). cellOk false (cellIn (s .store) n a o)) e))
+    ∙ ap (λ (o : Option ℕ). some (byteOf (cellIn (s .store) n a o))) e
 
 pub reads : (s : State) → Good s → (n a : ℕ) → valid n ≡ true → readable s n a ≡ held (view s n) a
 unfolding judge
 reads s g n a v =
-    let r : Bool = userRangeOk (s .setup) (view s n .mem) false a 1 in
-    let z : Reply = record { says = Ended 35; buffer = 0 ∷ [] } in
-    let w : Reply = record { says = Done; buffer = bytesAt (view s n .mem) a 1 } in
-    ap given-of (answered s g (oneByte n a) ∙ read-chain (valid n) (taken s n) r (refuse 3 (oneByte n a .ask)) (refuse 4 (oneByte n a .ask)) z w v)
+    let z : Reply = byte-reply s n a (access (s .setup) (view s n .mem) false a 1) in
+    ap given-of (answered s g (oneByte n a) ∙ read-chain (valid n) (taken s n) (refuse 3 (oneByte n a .ask)) (refuse 4 (oneByte n a .ask)) z v)
     ∙ split (taken s n)
-    (λ t. ap (λ (b : Bool). given-of (not b ⇒ refuse 4 (oneByte n a .ask) else not r ⇒ z else w)) t ∙ go (frameOf (s .store .book) n (pageDown a)) refl)
-    (λ t. ap (λ (b : Bool). given-of (not b ⇒ refuse 4 (oneByte n a .ask) else not r ⇒ z else w)) t ∙ sym (ap (λ (m : Machine). held m a) (dead-view s g n v t)))
-  where
-    go : (o : Option ℕ) → frameOf (s .store .book) n (pageDown a) ≡ o → one s n a (userRangeOk (s .setup) (view s n .mem) false a 1) ≡ held (view s n) a
-    go none e = ap (one s n a) (cell-range s g n a v none e) ∙ sym (ap (λ (o : Option ℕ). byteIn (cellIn (s .store) n a o)) e)
-    go (some k) e =
-        ap (one s n a) (cell-range s g n a v (some k) e)
-        ∙ ap (λ (o : Option ℕ). some (byteOf (cellIn (s .store) n a o))) e ∙ sym (ap (λ (o : Option ℕ). byteIn (cellIn (s .store) n a o)) e)
+    (λ t. ap (λ (b : Bool). given-of (not b ⇒ refuse 4 (oneByte n a .ask) else z)) t ∙ one-byte s g n a v (frameOf (s .store .book) n (pageDown a)) refl)
+    (λ t. ap (λ (b : Bool). given-of (not b ⇒ refuse 4 (oneByte n a .ask) else z)) t ∙ sym (ap (λ (m : Machine). held m a) (dead-view s g n v t)))

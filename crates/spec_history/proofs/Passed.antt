@@ -1,4 +1,5 @@
--- The tests 1 to 5: which a call has passed that is not refused, and that a number outside 1 to 16 is refused.
+-- The tests 1 to 5: which a call has passed that is not refused, or is refused with an address, and that a number outside 1 to 16 is
+-- refused.
 use Prim.Native.Nat.{ℕ}
 use native.Mathlib.Omega.{arith}
 use mathlib.Core.Path.{_≡_, refl, sym}
@@ -49,32 +50,36 @@ accepted≢ e = let z : _≡_ {A = ℕ} 0 1 = cc in omega arith
 pub ended≢ : ended ≡ refused → ⊥
 ended≢ e = let z : _≡_ {A = ℕ} 0 1 = cc in omega arith
 
-pub record Passed (m : Machine) (f al : ℕ) (t : ℕ → Bool) (c : Call) (o : Outcome) : Type 0 where
+pub record Passed (m : Machine) (f al : ℕ) (t : ℕ → Bool) (c : Call) (P : Reply → Type 0) : Type 0 where
   pub lengths : lengthsFit (c .ask) ≡ true
   pub list : listFits m (c .number) (kind (c .ask)) ≡ true
   pub number : numbered (c .number) (kind (c .ask)) ≡ true
   pub lives : living t (c .number) (kind (c .ask)) ≡ true
   pub new : unclaimed t (c .number) (kind (c .ask)) ≡ true
-  pub weighed : outcome (weigh m f al (c .ask)) ≡ o
+  pub weighed : P (weigh m f al (c .ask))
 
-refusing : (t : Bool) (k : ℕ) (d : Ask) (x : Reply) (o : Outcome) → outcome (not t ⇒ refuse k d else x) ≡ o → (o ≡ refused → ⊥) → (t ≡ true) × (outcome x ≡ o)
-refusing true k d x o e h = (refl, e)
-refusing false k d x o e h = absurd (h (sym e))
+refusing : (P : Reply → Type 0) (t : Bool) (k : ℕ) (d : Ask) (x : Reply) → P (not t ⇒ refuse k d else x) → ((n : ℕ) → P (refuse n d) → ⊥) → (t ≡ true) × P x
+refusing P true k d x e h = (refl, e)
+refusing P false k d x e h = absurd (h k e)
 
--- has passed 1 to 5, and comes to what its own tests give
-pub passed : (m : Machine) (f al : ℕ) (t : ℕ → Bool) (c : Call) (o : Outcome) → outcome (judge m f al t c) ≡ o → (o ≡ refused → ⊥) → Passed m f al t c o
+-- a call with a reply that no refusal by a number alone is has passed 1 to 5, and comes to what its own tests give
+pub passed-by : (P : Reply → Type 0) (m : Machine) (f al : ℕ) (t : ℕ → Bool) (c : Call) → P (judge m f al t c) → ((n : ℕ) → P (refuse n (c .ask)) → ⊥) → Passed m f al t c P
 unfolding judge
-passed m f al t c o e h =
+passed-by P m f al t c e h =
     let a5 : Reply = not (unclaimed t (c .number) (kind (c .ask))) ⇒ refuse 5 (c .ask) else weigh m f al (c .ask) in
     let a4 : Reply = not (living t (c .number) (kind (c .ask))) ⇒ refuse 4 (c .ask) else a5 in
     let a3 : Reply = not (numbered (c .number) (kind (c .ask))) ⇒ refuse 3 (c .ask) else a4 in
     let a2 : Reply = not (listFits m (c .number) (kind (c .ask))) ⇒ refuse 2 (c .ask) else a3 in
-    let h1 = refusing (lengthsFit (c .ask)) 1 (c .ask) a2 o e h in
-    let h2 = refusing (listFits m (c .number) (kind (c .ask))) 2 (c .ask) a3 o (h1 .1) h in
-    let h3 = refusing (numbered (c .number) (kind (c .ask))) 3 (c .ask) a4 o (h2 .1) h in
-    let h4 = refusing (living t (c .number) (kind (c .ask))) 4 (c .ask) a5 o (h3 .1) h in
-    let h5 = refusing (unclaimed t (c .number) (kind (c .ask))) 5 (c .ask) (weigh m f al (c .ask)) o (h4 .1) h in
+    let h1 = refusing P (lengthsFit (c .ask)) 1 (c .ask) a2 e h in
+    let h2 = refusing P (listFits m (c .number) (kind (c .ask))) 2 (c .ask) a3 (h1 .1) h in
+    let h3 = refusing P (numbered (c .number) (kind (c .ask))) 3 (c .ask) a4 (h2 .1) h in
+    let h4 = refusing P (living t (c .number) (kind (c .ask))) 4 (c .ask) a5 (h3 .1) h in
+    let h5 = refusing P (unclaimed t (c .number) (kind (c .ask))) 5 (c .ask) (weigh m f al (c .ask)) (h4 .1) h in
     record { lengths = h1 .0; list = h2 .0; number = h3 .0; lives = h4 .0; new = h5 .0; weighed = h5 .1 }
+
+-- so one that is accepted, or ends its process
+pub passed : (m : Machine) (f al : ℕ) (t : ℕ → Bool) (c : Call) (o : Outcome) → outcome (judge m f al t c) ≡ o → (o ≡ refused → ⊥) → Passed m f al t c (λ r. outcome r ≡ o)
+passed m f al t c o e h = passed-by (λ r. outcome r ≡ o) m f al t c e (λ n z. h (sym z))
 
 -- and the other way round
 pub weighs : (m : Machine) (f al : ℕ) (t : ℕ → Bool) (c : Call) → lengthsFit (c .ask) ≡ true → listFits m (c .number) (kind (c .ask)) ≡ true → numbered (c .number) (kind (c .ask)) ≡ true

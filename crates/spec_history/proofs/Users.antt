@@ -1,40 +1,46 @@
 -- What a program's author asks: whose bytes a call changes, what a child, a start and a moved break find, where a program's arguments
--- are, and which starts fit.
+-- are, which starts fit, and what a bad address that is named tells.
 -- Of any good state, and so after any list of calls.
 use Prim.Native.Nat.{ℕ, _+_, _-_, _≤_, _<_}
 use native.Mathlib.Omega.{arith}
 use mathlib.Core.Path.{_≡_, refl, sym, ap, _∙_}
 use mathlib.Core.Bool.{Bool, true, false, not}
 use mathlib.Core.Option.{none, some}
-use mathlib.Core.List.{List, [], _∷_}
+use mathlib.Core.List.{List, [], _∷_, map}
 use lib.ListN.{length}
 use borrow.Author.Tests.{eq-eqb, ne-eqb}
 use Rattle.spec.proofs.Args.{args-means}
+use Rattle.spec.proofs.Ranges.{access-means, one-fine}
 use Rattle.spec.proofs.Bools.{clash, neither, not-true, not-above, not-false, within-test, within-not}
 use Rattle.spec.specs.Tests.{_is_, _isnt_, _above_, within, _⇒_else_, any, same, sum}
 use Rattle.spec.specs.Numbers.{argLimit, pageUp}
 use Rattle.spec.specs.Book.{valid, free, alone, sameSegment, permAt, pageCount}
+use Rattle.spec.specs.Access.{_names_else_, access}
 use Rattle.spec.specs.Program.{Segment, inFile, Program}
 use Rattle.spec.specs.Image.{programOf}
-use Rattle.spec.specs.Exec.{imageError, startPieces, fileByte, loaded, argsOf, strings, argsError, stringsAt, argvAt, registers, pointers, pushed, copyArgv}
+use Rattle.spec.specs.Exec.{imageError, startPieces, fileByte, loaded, argsOf, strings, argsError, stringsAt, argvAt, registers, pointers, pushed, argsRead, copyArgv}
 use Rattle.spec.specs.Segment.{moved}
-use Rattle.spec.specs.Machine.{Ask, start, replace, push, break, fork, end, Call, Kind, begins, forks, plain, kind, Outcome, accepted, refused, ended, outcome, plainly, Machine, off, begun, feed, copied, unclaimed}
-use Rattle.spec.specs.World.{State, taken, view, answer, readable, after}
-use Rattle.spec.specs.History.{state, put, byteIn, held, ArgsAt}
+use Rattle.spec.specs.Machine.{Ask, start, replace, push, break, fork, end, user-range-ok, Call, Kind, begins, forks, plain, kind, Outcome, accepted, refused, ended, outcome, numberOf, valueOf, plainly, Machine, off, begun, feed, copied, numbered, living, unclaimed, judge}
+use Rattle.spec.specs.World.{State, taken, view, aloneFor, answer, readable, after}
+use Rattle.spec.specs.History.{state, put, lines, machine, byteIn, held, Begin, ArgsAt}
 use Rattle.spec.specs.declared.UserSegment.{UserSegment}
 use Rattle.spec.specs.declared.UserRegs.{UserRegs}
 use Rattle.spec.specs.declared.Answer.{Answer}
-use Rattle.spec.specs.declared.Answer.the-variants.{Regs, Done, Refused}
+use Rattle.spec.specs.declared.Answer.the-variants.{Regs, Value, Done, No, Refused}
+use Rattle.spec.specs.declared.Checked.{Checked}
+use Rattle.spec.specs.declared.Checked.the-variants.{Bad}
 use Rattle.spec.specs.declared.Setup.{Setup}
 use Rattle.spec.specs.declared.Form.{Form}
 use Rattle.spec_laws.proofs.Lists.{Each}
 use Rattle.spec_history.proofs.Passed.{Good, answered, accepted≢, weighs}
-use Rattle.spec_history.proofs.Whole.{effect}
+use Rattle.spec_history.proofs.Whole.{effect, good-after, seen-after}
 use Rattle.spec_history.proofs.OneState.{reads, numbers}
 use Rattle.spec_history.proofs.Accepted.{not-refused, starts, breaks, forks-child, ends}
 use Rattle.spec_history.proofs.Ended.{forget-free}
 use Rattle.spec_history.proofs.EachCall.{each-call}
 use Rattle.spec_history.proofs.Arguments.{args-read}
+use Rattle.spec_history.proofs.Demand3.{laws}
+use Rattle.spec_history.proofs.Named.{named, check, toWrite, fed, fed-same, Names, weigh-names, named-passed, one-no, check-unreached, no-page-0, answer-tells}
 
 abbrev call : ℕ → Ask → Call
 call n q = record { number = n; ask = q }
@@ -88,6 +94,84 @@ pub others-read : (s : State) → Good s → (q : ℕ) → valid q ≡ true → 
 others-read s g q v t h ne a =
     let r = others-keep s g q v t h ne in
     reads (state s h) (r .0) q a v ∙ ap (λ (m : Machine). held m a) (r .1) ∙ sym (reads s g q a v)
+
+-- ---- bad addresses (02, 4/13)
+
+-- a call that names one is a living process's, which has a number
+record Living (s : State) (n : ℕ) (q : Ask) (a : ℕ) : Type 0 where
+  number : valid n ≡ true
+  lives : taken s n ≡ true
+  told : Names (view s n) (free (s .store .book)) (aloneFor s (call n q)) q a
+
+named-lives : (s : State) → Good s → (n : ℕ) (q : Ask) (a : ℕ) → named (answer s (call n q) .says) ≡ some a → Living s n q a
+named-lives s g n q a e =
+    let p = named-passed s g (call n q) a e in
+    let w = weigh-names (view s n) (free (s .store .book)) (aloneFor s (call n q)) q a (p .weighed) in
+    record { number = sym (ap (numbered n) (w .own)) ∙ p .number; lives = sym (ap (living (taken s) n) (w .own)) ∙ p .lives; told = w }
+
+-- a process that holds the same gets the same answer
+named-same : (s t : State) → Good s → Good t → (n : ℕ) (q : Ask) (a : ℕ) → view t n ≡ view s n → named (answer s (call n q) .says) ≡ some a → answer t (call n q) ≡ answer s (call n q)
+named-same s t g h n q a same e =
+    let p = named-passed s g (call n q) a e in
+    let l = named-lives s g n q a e in
+    let k = l .told .own in
+    let lives : living (taken t) n (kind q) ≡ true = ap (living (taken t) n) k ∙ lives-same s t g h n n (l .number) (l .number) same ∙ l .lives in
+    let new : unclaimed (taken t) n (kind q) ≡ true = ap (unclaimed (taken t) n) k in
+    answered t h (call n q)
+    ∙ ap (λ (m : Machine). judge m (free (t .store .book)) (aloneFor t (call n q)) (taken t) (call n q)) same
+    ∙ weighs (view s n) (free (t .store .book)) (aloneFor t (call n q)) (taken t) (call n q) (p .lengths) (p .list) (p .number) lives new
+    ∙ l .told .whatever-is-free (free (t .store .book)) (aloneFor t (call n q))
+    ∙ sym (answered s g (call n q) ∙ weighs (view s n) (free (s .store .book)) (aloneFor s (call n q)) (taken s) (call n q) (p .lengths) (p .list) (p .number) (p .lives) (p .new))
+
+answers-range : (s : State) → Good s → (n addr len : ℕ) (write : Bool) → valid n ≡ true → taken s n ≡ true
+    → answer s (call n (user-range-ok addr len write)) ≡ plainly (access (s .setup) (view s n .mem) write addr len names No else Value 1)
+answers-range s g n addr len write v t =
+    answered s g (call n (user-range-ok addr len write))
+    ∙ weighs (view s n) (free (s .store .book)) 0 (taken s) (call n (user-range-ok addr len write)) refl refl v t refl
+
+-- 35 always comes with an address, which is the answer's value: no other refusal has that number
+pub bad-told : (s : State) (c : Call) → numberOf (answer s c .says) ≡ 35 → named (answer s c .says) ≡ some (valueOf (answer s c .says))
+bad-told s c e = answer-tells s c e
+
+-- the process can't access it: asked for that byte alone, in place of the call that named it, `user_range_ok` answers no and names it too
+pub bad-stays-bad : (s : State) → Good s → (n : ℕ) (q : Ask) (a : ℕ) → named (answer s (call n q) .says) ≡ some a → answer s (call n (user-range-ok a 1 (toWrite q))) ≡ plainly (No a)
+bad-stays-bad s g n q a e =
+    let l = named-lives s g n q a e in
+    let no = check-unreached (view s n) q a (no-page-0 s g n (l .number)) (l .told .by) in
+    answers-range s g n a 1 (toWrite q) (l .number) (l .lives) ∙ ap (λ (t : Checked). plainly (t names No else Value 1)) (one-no (s .setup) (view s n .mem) (toWrite q) a no)
+
+-- and of a range it is the lowest such byte: asked for a lower one of the range alone, `user_range_ok` answers yes
+pub bad-lowest : (s : State) → Good s → (n addr len : ℕ) (write : Bool) (a : ℕ) → answer s (call n (user-range-ok addr len write)) .says ≡ No a
+    → (b : ℕ) → addr ≤ b → b < a → answer s (call n (user-range-ok b 1 write)) ≡ plainly (Value 1)
+bad-lowest s g n addr len write a e b l u =
+    let p = named-lives s g n (user-range-ok addr len write) a (ap named e) in
+    let low = access-means .named (s .setup) (view s n .mem) write addr len a (p .told .by) .lower b l u in
+    answers-range s g n b 1 write (p .number) (p .lives) ∙ ap (λ (t : Checked). plainly (t names No else Value 1)) (one-fine (s .setup) (view s n .mem) write b low)
+
+-- it comes from the process's own line alone: it is what the call's check gives over the machine fed that line. Free frames, the numbers
+-- taken and other processes' memory are nothing that the check is given
+pub bad-by-line : (s : State) → Begin s → (h : List Call) (n : ℕ) (q : Ask) (a : ℕ) → named (answer (state s h) (call n q) .says) ≡ some a → check (machine (s .setup) (lines s h n)) q ≡ Bad a
+bad-by-line s b h n q a e =
+    let l = named-lives (state s h) (good-after laws s b h) n q a e in
+    ap (λ (m : Machine). check m q) (sym (seen-after laws s b h n (l .number))) ∙ l .told .by
+
+-- so the same call names the same address, and is answered alike, in any other history in which the process has made the same calls with
+-- the same outcomes, whatever others did there, and however many frames are free
+pub bad-alike : (s t : State) → Begin s → Begin t → s .setup ≡ t .setup → (h g : List Call) (n : ℕ) → map fed (lines s h n) ≡ map fed (lines t g n)
+    → (q : Ask) (a : ℕ) → named (answer (state s h) (call n q) .says) ≡ some a → answer (state t g) (call n q) ≡ answer (state s h) (call n q)
+bad-alike s t b d u h g n same q a e =
+    let good = good-after laws s b h in
+    let v = named-lives (state s h) good n q a e .number in
+    named-same (state s h) (state t g) good (good-after laws t d g) n q a
+    (seen-after laws t d g n v ∙ ap (λ (x : Setup). machine x (lines t g n)) (sym u) ∙ fed-same (s .setup) (lines t g n) (lines s h n) (sym same) ∙ sym (seen-after laws s b h n v)) e
+
+-- and calls of others between leave it as it is
+pub bad-kept : (s : State) → Good s → (n : ℕ) (q : Ask) (a : ℕ) → named (answer s (call n q) .says) ≡ some a
+    → (h : List Call) → Each (λ c. n ≡ c .number → ⊥) h → answer (state s h) (call n q) ≡ answer s (call n q)
+bad-kept s g n q a e h ne =
+    let l = named-lives s g n q a e in
+    let k = others-keep s g n (l .number) (l .lives) h ne in
+    named-same s (state s h) g (k .0) n q a (k .1) e
 
 -- ---- fork
 
@@ -190,7 +274,7 @@ start-tells s g n form image name bytes lengths regs e = args-read s g (call n (
 
 -- one that replaced another finds those that the other had in memory
 pub replace-tells : (s : State) → Good s → (n : ℕ) (form : Form) (image name : List ℕ) (argv : ℕ) (regs : UserRegs) → answer s (call n (replace form image name argv)) .says ≡ Regs regs
-    → ArgsAt (s .setup) (view (after s (call n (replace form image name argv))) n .mem) (s .setup .ustktop) (copyArgv (s .setup) (view s n .mem) argv .args) regs
+    → ArgsAt (s .setup) (view (after s (call n (replace form image name argv))) n .mem) (s .setup .ustktop) (argsRead (copyArgv (s .setup) (view s n .mem) argv)) regs
 replace-tells s g n form image name argv regs e = args-read s g (call n (replace form image name argv)) regs e
 
 -- and so does one that arguments are pushed to

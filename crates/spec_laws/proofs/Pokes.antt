@@ -16,13 +16,12 @@ use Rattle.spec.specs.Book.{permOf, valid, frameCount, mapping, frameOf}
 use Rattle.spec.specs.Sound.{Mappings}
 use Rattle.spec.specs.History as history
 use Rattle.spec.specs.Frames.{Store, sized, Cell, Mem, cellIn, memOf, put, poke, pokes}
-use Rattle.spec.specs.Access.{cellOk, userRangeOk, rewrite, write}
+use Rattle.spec.specs.Access.{cellOk, rewrite, write}
 use Rattle.spec.specs.declared.Setup.{Setup}
 use Rattle.spec.proofs.Bools.{split, clash, within-means, within-test, within-not}
-use Rattle.spec.proofs.Ranges.{range-means}
+use Rattle.spec.proofs.Pushes.{Writable}
 use Rattle.spec.proofs.Free.{poke-book, pokes-book}
 use Rattle.spec_laws.proofs.Lists.{put-sets}
-use Rattle.spec_laws.proofs.Allowed.{cell-page}
 use Rattle.spec_laws.proofs.Frame.{Fits, sized-same, fits-same, frame-found, cell-eq}
 
 -- ---- one byte
@@ -120,9 +119,9 @@ sole-data m n a len h v is-data x k l u e q w ne =
     (λ z. eqb-true _ _ z)
     (λ z. absurd (h .beside k n q (f .0) v w (λ y. ne (sym y)) (f .1 .used) (eqb-false _ _ z) .no-data three))
 
--- a range that passes for writing is data
-pub data-range : (setup : Setup) (m : Store) (n a len : ℕ) → userRangeOk setup (memOf m n) true a len ≡ true → DataAt (memOf m n) a len
-data-range setup m n a len ok x q l u e = go (memOf m n x) (cell-page m n x true ∙ range-means setup (memOf m n) true a len ok .each x l u) e
+-- a range that may be written is data
+pub data-range : (setup : Setup) (m : Store) (n a len : ℕ) → Writable setup (memOf m n) a len → DataAt (memOf m n) a len
+data-range setup m n a len ok x q l u e = go (memOf m n x) (ok x l u .1) e
   where
     go : (c : Option Cell) → cellOk true c ≡ true → history.permIn c ≡ some q → q ≡ 3
     go none t e = absurd (let w : _≡_ {A = ℕ} 0 1 = cc in omega arith)

@@ -2,22 +2,23 @@
 use Prim.Native.Nat.{ℕ, zero, suc, _+_, _*_, _-_, _≤_, _<_}
 use native.Mathlib.Omega.{arith}
 use mathlib.Core.Path.{_≡_, refl, sym, ap, _∙_}
-use mathlib.Core.Bool.{Bool, true, false, not}
+use mathlib.Core.Bool.{Bool, true, false}
 use mathlib.Core.List.{List, [], _∷_, _++_}
 use lib.ListN.{length, take, length-append}
 use borrow.Author.Tests.{ltb-false}
-use Rattle.spec.specs.Tests.{_is_, _above_, _⇒_else_}
+use Rattle.spec.specs.Tests.{_is_, _above_}
 use Rattle.spec.specs.Numbers.{argLimit, le, SetupOk}
 use Rattle.spec.specs.Frames.{Mem}
-use Rattle.spec.specs.Access.{userRangeOk, bytesAt, Str, copyStr}
+use Rattle.spec.specs.Access.{access, bytesAt, Str, copyStr}
 use Rattle.spec.specs.Exec.{strings, stackSize, Argv, argBuffer, argvFrom, copyArgv}
 use Rattle.spec.specs.declared.Setup.{Setup}
+use Rattle.spec.specs.declared.Checked.{Checked}
+use Rattle.spec_laws.proofs.Argv.{turn}
 
 -- a turn whose next turns agree wherever they are taken
-turn-same : (t z w f g : Bool) (u v x y q r s : Argv) → (g ≡ false → r ≡ s)
-    → (not t ⇒ u else z ⇒ v else not w ⇒ x else f ⇒ y else g ⇒ q else r) ≡ (not t ⇒ u else z ⇒ v else not w ⇒ x else f ⇒ y else g ⇒ q else s)
-turn-same t z w f true u v x y q r s h = refl
-turn-same t z w f false u v x y q r s h = ap (λ (k : Argv). not t ⇒ u else z ⇒ v else not w ⇒ x else f ⇒ y else k) (h refl)
+turn-same : (t : Checked) (z : Bool) (w : Checked) (f g : Bool) (before : List (List ℕ)) (r s : Argv) → (g ≡ false → r ≡ s) → turn t z w f g before r ≡ turn t z w f g before s
+turn-same t z w f true before r s h = refl
+turn-same t z w f false before r s h = ap (turn t z w f false before) (h refl)
 
 -- each argument takes 8 bytes of the limit or more, besides 16
 turns-past : (setup : Setup) (mem : Mem) (argv extra turns : ℕ) (before : List (List ℕ)) → 1 ≤ turns → argLimit setup < 8 * (length before + turns + 2)
@@ -30,8 +31,8 @@ turns-past setup mem argv extra (suc turns) before l h =
     let args : List (List ℕ) = before ++ take (str .size) (str .buffer) ∷ [] in
     let more : suc turns + extra ≡ suc (turns + extra) = omega arith in
     ap (argvFrom setup mem argv before) more
-    ∙ turn-same (userRangeOk setup mem false at 8) (s is 0) (str .whole) (str .size is argLimit setup) (stackSize (length (strings args)) (length args) above argLimit setup)
-    (record { error = 35; args = [] }) (record { error = 0; args = before }) (record { error = 35; args = [] }) (record { error = 33; args = [] }) (record { error = 33; args = [] })
+    ∙ turn-same (access setup mem false at 8) (s is 0) (str .access) (str .size is argLimit setup) (stackSize (length (strings args)) (length args) above argLimit setup)
+    before
     (argvFrom setup mem argv args (turns + extra)) (argvFrom setup mem argv args turns)
     (λ q.
     let fits : stackSize (length (strings args)) (length args) ≤ argLimit setup = ltb-false (argLimit setup) (stackSize (length (strings args)) (length args)) q in

@@ -1,63 +1,61 @@
 -- A range, page by page.
-use Prim.Native.Nat.{ℕ, suc, _+_, _-_, _/_, _%_, _≤_, _<_}
+use Prim.Native.Nat.{ℕ, zero, suc, _+_, _%_, _≤_, _<_}
 use native.Mathlib.Omega.{arith}
 use mathlib.Core.Path.{_≡_, sym, ap, _∙_}
 use mathlib.Core.Bool.{Bool, true, false}
 use mathlib.Core.List.{List}
-use borrow.Author.Tests.{lt-ltb, le-ltb, eq-eqb, ne-eqb}
-use Rattle.spec.specs.Numbers.{pageDown, pageUp, SetupOk}
+use lib.Dec.{ltb}
+use borrow.Author.Tests.{ltb-true, ltb-false}
+use Rattle.spec.specs.Numbers.{pageDown, SetupOk}
 use Rattle.spec.specs.Frames.{Mem, memOf, store}
-use Rattle.spec.specs.Access.{cellOk, pagesOk, userRangeOk}
-use Rattle.spec.proofs.Ranges.{range-means, range-one}
+use Rattle.spec.specs.Access.{cellOk, access, userRangeOk}
+use Rattle.spec.proofs.Bools.{split}
+use Rattle.spec.proofs.Ranges.{access-passed, range-means, one-fine}
 use Rattle.spec.specs.declared.Setup.{Setup}
-use Rattle.spec_laws.proofs.Allowed.{cell-allowed, cell-page}
+use Rattle.spec.specs.declared.Checked.the-variants.{Fine}
+use Rattle.spec_laws.proofs.Allowed.{cell-allowed}
+
+-- each address is allowed what its page is
+abbrev pub Paged : Mem → Type 0
+Paged mem = (a : ℕ) (write : Bool) → cellOk write (mem a) ≡ cellOk write (mem (pageDown a))
 
 -- ---- the check
 
--- the pages from va on of a range that ends at `end`
-abbrev pub pagesTo : Mem → Bool → ℕ → ℕ → Bool
-pagesTo mem write va end = pagesOk mem write va ((pageUp end - va) / 4096)
+-- the addresses from low up to high are allowed
+abbrev pub Clear : Mem → Bool → ℕ → ℕ → Type 0
+Clear mem write low high = (a : ℕ) → low ≤ a → a < high → cellOk write (mem a) ≡ true
 
--- a page that isn't allowed ends it, after one that is it goes on, and past the last page it is passed
-pub range-bad : (mem : Mem) (write : Bool) (va end : ℕ) → va % 4096 ≡ 0 → va < end → cellOk write (mem va) ≡ false → pagesTo mem write va end ≡ false
-range-bad mem write va end z l e =
-    let k : (pageUp end - va) / 4096 ≡ suc ((pageUp end - (va + 4096)) / 4096) = omega arith in
-    ap (pagesOk mem write va) k ∙ rw e
+-- after a page that is, it goes on
+pub checked-page : (mem : Mem) → Paged mem → (write : Bool) (low va : ℕ) → va % 4096 ≡ 0 → cellOk write (mem va) ≡ true → Clear mem write low va → Clear mem write low (va + 4096)
+checked-page mem paged write low va z e h a l u =
+    split (ltb a va)
+    (λ q. h a l (ltb-true a va q))
+    (λ q. let p : pageDown a ≡ va = omega (arith, ltb-false a va q) in paged a write ∙ ap (λ (x : ℕ). cellOk write (mem x)) p ∙ e)
 
-pub range-good : (mem : Mem) (write : Bool) (va end : ℕ) → va % 4096 ≡ 0 → va < end → cellOk write (mem va) ≡ true → pagesTo mem write va end ≡ pagesTo mem write (va + 4096) end
-range-good mem write va end z l e =
-    let k : (pageUp end - va) / 4096 ≡ suc ((pageUp end - (va + 4096)) / 4096) = omega arith in
-    ap (pagesOk mem write va) k ∙ rw e
+-- a page that isn't has no address that is
+pub page-bad : (mem : Mem) → Paged mem → (write : Bool) (va a : ℕ) → pageDown a ≡ va → cellOk write (mem va) ≡ false → cellOk write (mem a) ≡ false
+page-bad mem paged write va a p e = paged a write ∙ ap (λ (x : ℕ). cellOk write (mem x)) p ∙ e
 
-pub range-done : (mem : Mem) (write : Bool) (va end : ℕ) → va % 4096 ≡ 0 → end ≤ va → pagesTo mem write va end ≡ true
-range-done mem write va end z l =
-    let k : (pageUp end - va) / 4096 ≡ 0 = omega arith in
-    ap (pagesOk mem write va) k
+-- a range that is fine has passed
+pub fine-ok : (setup : Setup) (mem : Mem) (write : Bool) (addr len : ℕ) → access setup mem write addr len ≡ Fine → userRangeOk setup mem write addr len ≡ true
+fine-ok setup mem write addr len e = rw e
 
-module _ (setup : Setup) where
-  -- what comes before the pages
-  pub range-past : (mem : Mem) (write : Bool) (addr len : ℕ) → setup .uaddrtop < addr + len → userRangeOk setup mem write addr len ≡ false
-  range-past mem write addr len h = rw (lt-ltb (setup .uaddrtop) (addr + len) h)
+-- ---- what a range that passed says
 
-  pub range-empty : (mem : Mem) (write : Bool) (addr len : ℕ) → addr + len ≤ setup .uaddrtop → len ≡ 0 → userRangeOk setup mem write addr len ≡ true
-  range-empty mem write addr len h z = rw (le-ltb (setup .uaddrtop) (addr + len) h, eq-eqb len 0 z)
+-- each of its addresses may be read, or written, whatever the frames hold by now
+pub range-cell : (setup : Setup) (f g book : List ℕ) (n : ℕ) (write : Bool) (addr len a : ℕ) → userRangeOk setup (memOf (store f book) n) write addr len ≡ true → addr ≤ a → a < addr + len
+    → cellOk write (memOf (store g book) n a) ≡ true
+range-cell setup f g book n write addr len a e l h =
+    cell-allowed (store g book) n a write ∙ sym (cell-allowed (store f book) n a write) ∙ range-means setup (memOf (store f book) n) write addr len e .each a l h .1
 
-  pub range-pages : (mem : Mem) (write : Bool) (addr len : ℕ) → addr + len ≤ setup .uaddrtop → (len ≡ 0 → ⊥) → userRangeOk setup mem write addr len ≡ pagesTo mem write (pageDown addr) (addr + len)
-  range-pages mem write addr len h z = rw (le-ltb (setup .uaddrtop) (addr + len) h, ne-eqb len 0 z)
-
-  -- ---- what a range that passed says
-
-  -- each of its addresses may be read, or written, whatever the frames hold by now
-  pub range-cell : (f g book : List ℕ) (n : ℕ) (write : Bool) (addr len a : ℕ) → userRangeOk setup (memOf (store f book) n) write addr len ≡ true → addr ≤ a → a < addr + len
-      → cellOk write (memOf (store g book) n a) ≡ true
-  range-cell f g book n write addr len a e l h =
-      cell-allowed (store g book) n a write ∙ sym (cell-allowed (store f book) n a write) ∙ cell-page (store f book) n a write ∙ range-means setup (memOf (store f book) n) write addr len e .each a l h
-
--- ---- one byte
+-- it ends at or below the top
+pub range-end : (setup : Setup) (mem : Mem) (write : Bool) (addr len : ℕ) → userRangeOk setup mem write addr len ≡ true → addr + len ≤ setup .uaddrtop
+range-end setup mem write addr zero e = omega (arith, range-means setup mem write addr 0 e .start)
+range-end setup mem write addr (suc n) e = omega (arith, range-means setup mem write addr (suc n) e .each (addr + n) (omega arith) (omega arith) .0)
 
 -- where one byte of a page can be read, each further one can
-pub range-along : (setup : Setup) (ok : SetupOk setup) (mem : Mem) (a i : ℕ) → userRangeOk setup mem false a 1 ≡ true → a % 4096 + i < 4096 → userRangeOk setup mem false (a + i) 1 ≡ true
-range-along setup ok mem a i e h =
-    let top = range-means setup mem false a 1 e .top in
+pub range-along : (setup : Setup) (ok : SetupOk setup) (mem : Mem) → Paged mem → (a i : ℕ) → access setup mem false a 1 ≡ Fine → a % 4096 + i < 4096 → access setup mem false (a + i) 1 ≡ Fine
+range-along setup ok mem paged a i e h =
+    let r = access-passed setup mem false a 1 e .each a (omega arith) (omega arith) in
     let q : pageDown (a + i) ≡ pageDown a = omega arith in
-    range-one setup mem (a + i) (omega arith) ∙ ap (λ (p : ℕ). cellOk false (mem p)) q ∙ sym (range-one setup mem a (omega arith)) ∙ e
+    one-fine setup mem false (a + i) (omega (arith, ok, r .0), paged (a + i) false ∙ ap (λ (p : ℕ). cellOk false (mem p)) q ∙ sym (paged a false) ∙ r .1)

@@ -3,20 +3,22 @@ use Prim.Native.Nat.{ℕ, zero, suc, _+_, _-_, _%_, _≤_, _<_}
 use native.Mathlib.Omega.{arith}
 use native.Mathlib.Nat.{add-zero}
 use mathlib.Core.Path.{_≡_, refl, sym, ap, _∙_}
-use mathlib.Core.Bool.{Bool, true, false}
+use mathlib.Core.Bool.{false}
 use mathlib.Core.List.{List, [], _∷_, _++_, append-assoc}
 use lib.ListN.{length, getD, take, drop, length-append, length-drop, take-append-drop, drop-of-length-le}
 use lib.Seq.{drop-cons, length-take-le, take-add, drop-drop, take-take}
 use borrow.Rule.Slice.PartMut.{putMid, midOf}
 use Rattle.spec.specs.Frames.{Mem}
-use Rattle.spec.specs.Access.{userRangeOk, byteOf, bytesAt, Str, copyStr}
+use Rattle.spec.specs.Access.{access, byteOf, bytesAt, Str, copyStr}
 use Rattle.spec.specs.Numbers.{SetupOk}
 use Rattle.spec.specs.declared.Setup.{Setup}
+use Rattle.spec.specs.declared.Checked.{Checked}
+use Rattle.spec.specs.declared.Checked.the-variants.{Fine, Bad}
 use Rattle.spec_laws.proofs.Contents.{length-bytes, get-bytes}
 use Rattle.kstr.specs.Nul.{toNul}
 use Rattle.kstr.proofs.BeforeNul.{nul-most, nul-before, nul-at}
 use Rattle.uaccess.specs.Copied.{copied}
-use Rattle.uaccess.proofs.InRange.{range-along}
+use Rattle.uaccess.proofs.InRange.{Paged, range-along}
 use Rattle.uaccess.proofs.CopyParts.{bytes-part}
 use Rattle.spec_laws.proofs.Overwrite.{mix, mix-part}
 use Rattle.uaccess.proofs.Chunk.{Readable, afterBytes, none, chunk-whole, chunk-nul, chunk-bad}
@@ -35,18 +37,18 @@ part-front l s n chunk k h =
     rw (c, d, append-assoc (take k s) (drop k (take chunk (drop n l))) (drop chunk (drop n l)), drop-split (drop n l) k chunk h) refl
 
 -- the bytes that a process sees in one page can be read
-readable : (setup : Setup) (ok : SetupOk setup) (mem : Mem) (a chunk : ℕ) → userRangeOk setup mem false a 1 ≡ true → a % 4096 + chunk ≤ 4096 → Readable setup mem a (bytesAt mem a chunk)
-readable setup ok mem a chunk may h =
+readable : (setup : Setup) (ok : SetupOk setup) (mem : Mem) → Paged mem → (a chunk : ℕ) → access setup mem false a 1 ≡ Fine → a % 4096 + chunk ≤ 4096 → Readable setup mem a (bytesAt mem a chunk)
+readable setup ok mem paged a chunk may h =
     let f : ℕ → ℕ = λ b. byteOf (mem b) in
     let l = length-bytes f a chunk in
-    record { ok = λ i g. range-along setup ok mem a i may (omega arith); bytes = λ i g. sym (get-bytes f a chunk i (omega arith)) }
+    record { ok = λ i g. range-along setup ok mem paged a i may (omega arith); bytes = λ i g. sym (get-bytes f a chunk i (omega arith)) }
 
 -- the copy after n bytes
 abbrev pub copyFrom : (setup : Setup) → Mem → List ℕ → ℕ → ℕ → Str
 copyFrom setup mem dst src n = afterBytes (take n (bytesAt mem src (length dst))) (copyStr setup mem (drop n dst) (src + n))
 
 module _ (setup : Setup) (ok : SetupOk setup) where
-  module _ (mem : Mem) (dst : List ℕ) (src : ℕ) where
+  module _ (mem : Mem) (paged : Paged mem) (dst : List ℕ) (src : ℕ) where
     abbrev bytes : List ℕ
     bytes = bytesAt mem src (length dst)
 
@@ -54,36 +56,36 @@ module _ (setup : Setup) (ok : SetupOk setup) where
     length-all = length-bytes (λ a. byteOf (mem a)) src (length dst)
 
     -- a copy that stops k bytes further on
-    stopped : (whole : Bool) (n k : ℕ) → n + k ≤ length dst → afterBytes (take n bytes) (copied whole k (take k (drop n bytes) ++ drop k (drop n dst))) ≡ copied whole (n + k) (mix bytes dst (n + k))
+    stopped : (told : Checked) (n k : ℕ) → n + k ≤ length dst → afterBytes (take n bytes) (copied told k (take k (drop n bytes) ++ drop k (drop n dst))) ≡ copied told (n + k) (mix bytes dst (n + k))
     unfolding mix
-    stopped whole n k h =
+    stopped told n k h =
         let l : length (take n bytes) ≡ n = length-take-le n bytes (omega (arith, length-all)) in
         let size : length (take n bytes) + k ≡ n + k = ap (λ (j : ℕ). j + k) l in
         let buffer : take n bytes ++ (take k (drop n bytes) ++ drop k (drop n dst)) ≡ take (n + k) bytes ++ drop (n + k) dst =
         rw (take-add n k bytes, ← drop-drop k n dst) (sym (append-assoc (take n bytes) (take k (drop n bytes)) (drop k (drop n dst)))) in
-        λ i. copied whole (size i) (buffer i)
+        λ i. copied told (size i) (buffer i)
 
-    halted : (whole : Bool) (n : ℕ) → n ≤ length dst → copyStr setup mem (drop n dst) (src + n) ≡ copied whole 0 (drop n dst) → copyFrom setup mem dst src n ≡ copied whole n (mix bytes dst n)
-    halted whole n h e =
-        ap (afterBytes (take n bytes)) e ∙ stopped whole n 0 (omega arith) ∙ ap (λ (j : ℕ). copied whole j (mix bytes dst j)) (add-zero n)
+    halted : (told : Checked) (n : ℕ) → n ≤ length dst → copyStr setup mem (drop n dst) (src + n) ≡ copied told 0 (drop n dst) → copyFrom setup mem dst src n ≡ copied told n (mix bytes dst n)
+    halted told n h e =
+        ap (afterBytes (take n bytes)) e ∙ stopped told n 0 (omega arith) ∙ ap (λ (j : ℕ). copied told j (mix bytes dst j)) (add-zero n)
 
     pub str-none : copyStr setup mem dst src ≡ copyFrom setup mem dst src 0
     str-none = none (copyStr setup mem dst src) ∙ ap (λ (a : ℕ). afterBytes [] (copyStr setup mem dst a)) (sym (add-zero src))
 
     -- the buffer is full
-    pub str-end : (n : ℕ) → n ≤ length dst → length dst ≤ n → copyFrom setup mem dst src n ≡ copied true n (mix bytes dst n)
+    pub str-end : (n : ℕ) → n ≤ length dst → length dst ≤ n → copyFrom setup mem dst src n ≡ copied Fine n (mix bytes dst n)
     str-end n h l =
         let e : drop n dst ≡ [] = drop-of-length-le dst l in
-        halted true n h (rw e)
+        halted Fine n h (rw e)
 
     -- a bad page
-    pub str-bad : (n : ℕ) → n < length dst → userRangeOk setup mem false (src + n) 1 ≡ false → copyFrom setup mem dst src n ≡ copied false n (mix bytes dst n)
-    str-bad n h e =
+    pub str-bad : (n b : ℕ) → n < length dst → access setup mem false (src + n) 1 ≡ Bad b → copyFrom setup mem dst src n ≡ copied (Bad b) n (mix bytes dst n)
+    str-bad n b h e =
         let c : drop n dst ≡ getD dst n 0 ∷ drop (suc n) dst = drop-cons dst n 0 h in
-        halted false n (omega arith) (rw c (chunk-bad setup mem (getD dst n 0) (drop (suc n) dst) (src + n) e))
+        halted (Bad b) n (omega arith) (rw c (chunk-bad setup mem (getD dst n 0) (drop (suc n) dst) (src + n) b e))
 
     -- one page's part
-    module _ (n chunk : ℕ) (room : n + chunk ≤ length dst) (may : userRangeOk setup mem false (src + n) 1 ≡ true) (page : (src + n) % 4096 + chunk ≤ 4096) (k : ℕ) (count : k ≡ toNul (bytesAt mem (src + n) chunk)) where
+    module _ (n chunk : ℕ) (room : n + chunk ≤ length dst) (may : access setup mem false (src + n) 1 ≡ Fine) (page : (src + n) % 4096 + chunk ≤ 4096) (k : ℕ) (count : k ≡ toNul (bytesAt mem (src + n) chunk)) where
       abbrev part : List ℕ
       part = bytesAt mem (src + n) chunk
 
@@ -111,13 +113,13 @@ module _ (setup : Setup) (ok : SetupOk setup) where
           ∙ mix-part bytes dst (take k part) n k length-all (omega (arith, most)) front
 
       -- a NUL in it
-      pub str-nul : k < chunk → copyFrom setup mem dst src n ≡ copied true (n + k) (mix bytes dst (n + k))
+      pub str-nul : k < chunk → copyFrom setup mem dst src n ≡ copied Fine (n + k) (mix bytes dst (n + k))
       str-nul l =
           ap (afterBytes (take n bytes))
-          (chunk-nul setup mem part (drop n dst) (src + n) k (readable setup ok mem (src + n) chunk may page) fits (omega (arith, length-part)) (rw count (nul-at part (omega (arith, length-part, count))))
+          (chunk-nul setup mem part (drop n dst) (src + n) k (readable setup ok mem paged (src + n) chunk may page) fits (omega (arith, length-part)) (rw count (nul-at part (omega (arith, length-part, count))))
           (λ i h. nul-before part i (omega (arith, count)))
-          ∙ ap (λ (x : List ℕ). copied true k (x ++ drop k (drop n dst))) front)
-          ∙ stopped true n k (omega arith)
+          ∙ ap (λ (x : List ℕ). copied Fine k (x ++ drop k (drop n dst))) front)
+          ∙ stopped Fine n k (omega arith)
 
       -- none
       pub str-whole : chunk ≤ k → copyFrom setup mem dst src n ≡ copyFrom setup mem dst src (n + k)
@@ -129,7 +131,7 @@ module _ (setup : Setup) (ok : SetupOk setup) where
           let far : src + n + length part ≡ src + (n + k) = omega (arith, length-part, same) in
           let size : length (take n bytes) + (length part + t .size) ≡ length (take n bytes ++ part) + t .size = omega (arith, length-append (take n bytes) part) in
           ap (afterBytes (take n bytes))
-          (chunk-whole setup mem part (drop n dst) (src + n) (readable setup ok mem (src + n) chunk may page) fits (λ i h. nul-before part i (omega (arith, count, length-part, same))))
-          ∙ (λ i. copied (t .whole) (size i) (sym (append-assoc (take n bytes) part (t .buffer)) i))
+          (chunk-whole setup mem part (drop n dst) (src + n) (readable setup ok mem paged (src + n) chunk may page) fits (λ i h. nul-before part i (omega (arith, count, length-part, same))))
+          ∙ (λ i. copied (t .access) (size i) (sym (append-assoc (take n bytes) part (t .buffer)) i))
           ∙ ap (λ (x : List ℕ). afterBytes x t) more
           ∙ (λ i. afterBytes (take (n + k) bytes) (copyStr setup mem (rest i) (far i)))

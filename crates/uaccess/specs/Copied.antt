@@ -2,10 +2,10 @@
 -- each part.
 -- Assumes nothing.
 use Prim.Native.Nat.{ℕ}
-use mathlib.Core.Bool.{Bool}
 use mathlib.Core.List.{List}
 use Rattle.spec.specs.Access.{Str}
+use Rattle.spec.specs.declared.Checked.{Checked}
 
 -- a copy's answer, with the buffer that it leaves
-abbrev pub copied : Bool → ℕ → List ℕ → Str
-copied whole size buffer = record { whole = whole; size = size; buffer = buffer }
+abbrev pub copied : Checked → ℕ → List ℕ → Str
+copied access size buffer = record { access = access; size = size; buffer = buffer }

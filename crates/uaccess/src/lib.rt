@@ -21,11 +21,12 @@ pub use copies::read_user;
 pub use copies::write_user;
 pub use ranges::frame_at;
 pub use ranges::user_range_ok;
+use spec::Checked;
 use spec::Setup;
 
 // What a string copy answers: whether every byte that it needed could be read, and the length.
 pub struct Str {
-    pub whole: bool,
+    pub access: Checked,
     pub size: usize,
 }
 
@@ -45,17 +46,15 @@ pub fn try_copy_str_from_user(
 ) -> Str
     requires { ⌜ (length (now frames) ≡ 4096 * frameCount (now book)) × Ready (now book) number (now tags) (now bases) (now table) × (1 ≤ number) × (number ≤ 16) ⌝ }
     requires { ⌜ SetupOk setup ⌝ }
-    ensures { λ r. ⌜ copied (r .whole) (r .size) (now (dst .exit)) ≡ copyStr setup (memOf (store (now (frames .entry)) (now (book .entry))) number) (now (dst .entry)) src ⌝ }
+    ensures { λ r. ⌜ copied (r .access) (r .size) (now (dst .exit)) ≡ copyStr setup (memOf (store (now (frames .entry)) (now (book .entry))) number) (now (dst .entry)) src ⌝ }
 {
     let mut n = 0;
     while n < dst.len() {
         // The first check puts src below UADDRTOP, so this can't overflow.
         let va = src + (n as u64);
-        if !user_range_ok(setup, book, tags, bases, table, number, va, 1, false) {
-            return Str {
-                whole: false,
-                size: n,
-            };
+        let access = user_range_ok(setup, book, tags, bases, table, number, va, 1, false);
+        if let Checked::Bad(_) = access {
+            return Str { access, size: n };
         }
         let chunk = crate::copies::in_page(va, dst.len() - n);
         let e = n + chunk;
@@ -64,13 +63,13 @@ pub fn try_copy_str_from_user(
         n += k;
         if k < chunk {
             return Str {
-                whole: true,
+                access: Checked::Fine,
                 size: n,
             };
         }
     }
     Str {
-        whole: true,
+        access: Checked::Fine,
         size: n,
     }
 }

@@ -7,9 +7,10 @@ ghost use Prim.Native.Nat.{ℕ, _≤_};
 ghost use Rattle.spec.specs.Numbers.{SetupOk, pageDown};
 ghost use Rattle.spec.specs.Book.{frameOf};
 ghost use Rattle.spec.specs.Frames.{memOf, store};
-ghost use Rattle.spec.specs.Access.{cellOk, userRangeOk};
+ghost use Rattle.spec.specs.Access.{cellOk, access};
 ghost use Rattle.sound.specs.Table.{Ready};
 ghost use Rattle.book.specs.Answers.{foundOf};
+use spec::Checked;
 use spec::Setup;
 
 // The frame of the page that holds an address. The table answers; the book is there for the contract alone.
@@ -47,8 +48,9 @@ fn user_page_ok(
     !write | (book::perm_of(book[17 * k + place]) == spec::DATA)
 }
 
-// Whether user mode could make the access to every byte from `addr` up to `addr + len`. A range of no bytes is fine if it's within
-// the user address space. The first page that isn't mapped for the access ends it.
+// Whether user mode could make the access to every byte from `addr` up to `addr + len`, or the address of the lowest that it couldn't:
+// one below the top of the user address space whose page isn't mapped for the access, or the top, if the range reaches past it. A range
+// that starts above the top is bad at its start; another of no bytes is fine.
 pub fn user_range_ok(
     setup: Setup,
     book: &[u64],
@@ -59,28 +61,29 @@ pub fn user_range_ok(
     addr: u64,
     len: u64,
     write: bool,
-) -> bool
+) -> Checked
     requires { ⌜ Ready (now book) number (now tags) (now bases) (now table) × (1 ≤ number) × (number ≤ 16) ⌝ }
     requires { ⌜ SetupOk setup ⌝ }
-    ensures { λ r. ⌜ ((frames : List ℕ) → r ≡ userRangeOk setup (memOf (store frames (now (book .entry))) number) write addr len) ⌝ }
+    ensures { λ r. ⌜ ((frames : List ℕ) → r ≡ access setup (memOf (store frames (now (book .entry))) number) write addr len) ⌝ }
 {
     let top = setup.uaddrtop;
     if addr > top {
-        return false;
-    }
-    if len > top - addr {
-        return false;
+        return Checked::Bad(addr);
     }
     if len == 0 {
-        return true;
+        return Checked::Fine;
     }
-    let end = addr + len;
+    let room = top - addr;
+    let end = if len > room { top } else { addr + len };
     let mut va = mem::page_down(addr);
     while va < end {
         if !user_page_ok(book, tags, bases, table, number, va, write) {
-            return false;
+            return Checked::Bad(if va < addr { addr } else { va });
         }
         va += spec::PAGE_SIZE_4K;
     }
-    true
+    if len > room {
+        return Checked::Bad(top);
+    }
+    Checked::Fine
 }

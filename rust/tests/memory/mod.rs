@@ -1,7 +1,7 @@
 // What the tests lend to calls, and how they look at it.
 #![allow(dead_code)] // Not every test looks at all of it.
 
-use holthrimi::{Form, Lent, Procs, Refusal, Setup, FRAME_WORDS, PAGE};
+use holthrimi::{Checked, Form, Lent, Procs, Refusal, Setup, FRAME_WORDS, PAGE};
 
 /// The 184-byte image of tests/images.
 pub const IMAGE: &[u8] = include_bytes!("../../../tests/images/example.img");
@@ -53,7 +53,8 @@ impl Memory {
     pub fn byte(&mut self, number: u64, addr: u64) -> Option<u8> {
         let mut lent = self.lent();
         let mut byte = [0];
-        if !lent.user_range_ok(number, addr, 1, false).unwrap() {
+        if let Checked::Bad { address } = lent.user_range_ok(number, addr, 1, false).unwrap() {
+            assert_eq!(address, addr);
             return None;
         }
         lent.copy_from_user(number, &mut byte, addr).unwrap();
@@ -63,4 +64,14 @@ impl Memory {
 
 pub fn refused<T: std::fmt::Debug + PartialEq>(r: holthrimi::Result<T>, n: u64) {
     assert_eq!(r, Err(Refusal::Refused(n)));
+}
+
+/// A range's no, at an address.
+pub fn bad(address: u64) -> holthrimi::Result<Checked> {
+    Ok(Checked::Bad { address })
+}
+
+/// 35 that ended the process, at an address.
+pub fn ended_at<T: std::fmt::Debug + PartialEq>(r: holthrimi::Result<T>, address: u64) {
+    assert_eq!(r, Err(Refusal::EndedAt { address }));
 }

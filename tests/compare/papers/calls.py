@@ -19,21 +19,21 @@ class World(User):
     """Frames, book and records, and the calls over them. Start and replace take the magic of an a.out, or None for ELF."""
 
     def push_args(self, n, pc, top, args):
-        strings = b''.join(a + b'\0' for a in args)
-        first = top - len(strings)
-        argv = first // 8 * 8 - 8 * (len(args) + 1)
+        at = top - sum(len(a) + 1 for a in args)
+        argv = at // 8 * 8 - 8 * (len(args) + 1)
         if argv < 0:
-            raise Ended(35)
-        pointers, at = b'', first
-        for a in args:
-            pointers += at.to_bytes(8, 'little')
+            raise Ended(35, 0)
+        # The copies in the Rust's writing order.
+        copies = []
+        for i, a in enumerate(args):
+            copies += [(at, a), (at + len(a), b'\0'), (argv + 8 * i, at.to_bytes(8, 'little'))]
             at += len(a) + 1
-        pointers += bytes(8)
-        # Both are checked before either is written: an ended call leaves frame bytes as they were.
-        if not (self.range_ok(n, first, len(strings), True) and self.range_ok(n, argv, len(pointers), True)):
-            raise Ended(35)
-        self.write(n, first, strings)
-        self.write(n, argv, pointers)
+        copies.append((argv + 8 * len(args), bytes(8)))
+        # All are checked before any is written: an ended call leaves frame bytes as they were.
+        for address, data in copies:
+            self.check(n, address, len(data), True)
+        for address, data in copies:
+            self.write(n, address, data)
         return pc, argv // 16 * 16, len(args), argv
 
     def install(self, n, name, loaded, args):
@@ -74,9 +74,9 @@ class World(User):
             if pointer == 0:
                 return args
             buffer = bytearray(limit)
-            k = self.copy_string(n, pointer, buffer)
-            if k is None:
-                raise Ended(35)
+            k, bad = self.copy_string(n, pointer, buffer)
+            if bad is not None:
+                raise Ended(35, bad)
             strings += k + 1
             if k == limit or stack_size(strings, len(args) + 1) > limit:
                 raise Refused(33)
@@ -126,8 +126,9 @@ class World(User):
         self.finish(n)
 
     def range(self, n, address, length, write):
+        """The bad address, or None for yes."""
         self.called(n)
-        return self.range_ok(n, address, length, write)
+        return self.bad_address(n, address, length, write)
 
     def copy_from(self, n, address, length):
         self.called(n)

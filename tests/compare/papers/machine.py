@@ -10,7 +10,7 @@ class Refused(Exception):
 
 
 class Ended(Exception):
-    """A call that ends its process; its number."""
+    """A call that ends its process; its number, and with 35 the bad address."""
 
 
 def down(a):

@@ -3,7 +3,7 @@ use crate::answer::{number, result, rust};
 use crate::listing;
 use crate::names::{kstrcpy, openable};
 use crate::rule;
-use crate::script::{Answer, Calls, Record, Regs, Stop, same_list, within};
+use crate::script::{Answer, Bad, Calls, Record, Regs, Stop, same_list, within};
 use crate::world::{Machine, SEGMENTS, World};
 use r9::dat::{Access, UserRegs};
 use r9::inside::{self, Exec};
@@ -185,9 +185,10 @@ impl Calls for World {
         })
     }
 
-    fn range(&mut self, n: u64, addr: u64, len: u64, write: bool) -> Answer<bool> {
+    fn range(&mut self, n: u64, addr: u64, len: u64, write: bool) -> Answer<Result<(), Bad>> {
         let access = if write { Access::Write } else { Access::Read };
-        self.of(n, |_, _| rust(|| inside::user_range_ok::<Machine>(addr as usize, len as usize, access)))
+        let yes = self.of(n, |_, _| rust(|| inside::user_range_ok::<Machine>(addr as usize, len as usize, access)))?;
+        Ok(yes.then_some(()).ok_or(None))
     }
 
     fn from(&mut self, n: u64, addr: u64, dst: &mut [u8]) -> Answer<()> {
@@ -198,8 +199,9 @@ impl Calls for World {
         self.of(n, |_, _| rust(|| uaccess::copy_to_user::<Machine>(addr as usize, src)))
     }
 
-    fn string(&mut self, n: u64, addr: u64, dst: &mut [u8]) -> Answer<Option<usize>> {
-        self.of(n, |_, _| rust(|| inside::try_copy_str_from_user::<Machine>(dst, addr as usize)))
+    fn string(&mut self, n: u64, addr: u64, dst: &mut [u8]) -> Answer<Result<usize, Bad>> {
+        let length = self.of(n, |_, _| rust(|| inside::try_copy_str_from_user::<Machine>(dst, addr as usize)))?;
+        Ok(length.ok_or(None))
     }
 
     fn rule(&self, bss: Option<[u64; 2]>, free: u64, addr: u64) -> Answer<(u64, [u64; 2])> {

@@ -7,11 +7,17 @@ use std::fmt::Write;
 pub enum Stop {
     Refused(u64),
     Ended(u64),
+    /// Ended with 35, with the bad address. The Rust names none, and its 35 is `Ended`.
+    #[allow(dead_code)]
+    EndedAt(u64),
     /// A panic of the Rust or the harness: outside what can be compared.
     Assert(String),
 }
 
 pub type Answer<T> = Result<T, Stop>;
+
+/// A bad address; None where it isn't named.
+pub type Bad = Option<u64>;
 
 /// pc, sp, argc, argv.
 pub type Regs = [u64; 4];
@@ -63,11 +69,12 @@ pub trait Calls: Sized {
     /// `list` is the lent list of segments, or None for the record's own.
     fn fork(&mut self, parent: u64, child: u64, list: Option<&[[u64; 3]]>) -> Answer<()>;
     fn end(&mut self, n: u64) -> Answer<()>;
-    fn range(&mut self, n: u64, addr: u64, len: u64, write: bool) -> Answer<bool>;
+    /// Yes, or no with the bad address.
+    fn range(&mut self, n: u64, addr: u64, len: u64, write: bool) -> Answer<Result<(), Bad>>;
     fn from(&mut self, n: u64, addr: u64, dst: &mut [u8]) -> Answer<()>;
     fn to(&mut self, n: u64, addr: u64, src: &[u8]) -> Answer<()>;
-    /// The length, or None for a bad page.
-    fn string(&mut self, n: u64, addr: u64, dst: &mut [u8]) -> Answer<Option<usize>>;
+    /// The length, or the bad address.
+    fn string(&mut self, n: u64, addr: u64, dst: &mut [u8]) -> Answer<Result<usize, Bad>>;
     /// The break's rule by itself: the answer, and the bss after it.
     fn rule(&self, bss: Option<[u64; 2]>, free: u64, addr: u64) -> Answer<(u64, [u64; 2])>;
     /// The name copy by itself.
@@ -117,8 +124,14 @@ fn show<T>(a: Answer<T>, f: impl FnOnce(T) -> String) -> String {
         Ok(v) => format!("ok {}", f(v)).trim_end().into(),
         Err(Stop::Refused(n)) => format!("refused {n}"),
         Err(Stop::Ended(n)) => format!("ended {n}"),
+        Err(Stop::EndedAt(bad)) => format!("ended 35 {bad}"),
         Err(Stop::Assert(s)) => format!("assert {}", s.replace('\n', " ")),
     }
+}
+
+/// A bad address as a word behind others.
+fn named(bad: Bad) -> String {
+    bad.map_or_else(String::new, |a| format!(" {a}"))
 }
 
 fn none(_: ()) -> String {
@@ -226,7 +239,10 @@ fn call<W: Calls>(w: &mut W, name: &[u8], words: &[&[u8]]) -> Given<String> {
                 b"w" => true,
                 _ => return Err(BAD),
             };
-            show(w.range(number(n)?, number(addr)?, number(len)?, write), |y| if y { "yes" } else { "no" }.into())
+            show(w.range(number(n)?, number(addr)?, number(len)?, write), |r| match r {
+                Ok(()) => "yes".into(),
+                Err(bad) => format!("no{}", named(bad)),
+            })
         }
         (b"from", [n, addr, len]) => {
             let mut b = vec![BLANK; length(len)?];
@@ -237,7 +253,7 @@ fn call<W: Calls>(w: &mut W, name: &[u8], words: &[&[u8]]) -> Given<String> {
         (b"string", [n, addr, len]) => {
             let mut b = vec![BLANK; length(len)?];
             match w.string(number(n)?, number(addr)?, &mut b) {
-                Ok(None) => format!("refused 35 {}", hex(&b)),
+                Ok(Err(bad)) => format!("refused 35{} {}", named(bad), hex(&b)),
                 a => show(a, |n| format!("{} {}", n.unwrap(), hex(&b))),
             }
         }

@@ -1,24 +1,25 @@
--- `push` meets its contract: the numbers come in their order, and both ranges are checked before a byte is written.
-use Prim.Native.Nat.{ℕ, _*_}
+-- `push` meets its contract: the numbers come in their order, and every copy is checked before a byte is written.
+use Prim.Native.Nat.{ℕ, _+_, _*_}
+use native.Mathlib.Omega.{arith}
 use mathlib.Core.Path.{_≡_, refl, sym, ap, _∙_}
-use mathlib.Core.Bool.{true}
 use mathlib.Core.List.{List}
 use denote.Ref.{now}
 use lib.ListN.{length}
 use borrow.Author.Needs.{needs}
-use borrow.Author.Tests.{eqb-true, not-true, not-false}
+use borrow.Author.Tests.{eqb-true}
 use Rattle.spec.specs.Tests.{sum}
 use Rattle.spec.specs.Numbers.{SetupOk}
 use Rattle.spec.specs.Book.{frameCount}
 use Rattle.spec.specs.Frames.{memOf, store}
 use Rattle.spec.proofs.Setups.{setup-means}
-use Rattle.spec.specs.Exec.{argsOf, pushOk}
+use Rattle.spec.specs.Exec.{argsOf, pushAccess}
 use Rattle.spec.specs.Machine.{Ask, push, Call, outcomeOf, plainly, Machine, lengthsFit, weighPush, call}
 use Rattle.spec.specs.World.{State, view, withStore, leave, Does, stateOf}
 use Rattle.spec.specs.declared.Answer.{Answer}
+use Rattle.spec.specs.declared.Checked.the-variants.{Fine}
 use Rattle.sound.proofs.LookedUp.{made-zeros, ready-of}
 use Rattle.exec_args.specs.declared.args.ArgsSize.{ArgsSize}
-use Rattle.exec_args.proofs.Cut.{cut-count}
+use Rattle.exec_args.proofs.Cut.{cut-size}
 use Rattle.exec_args.proofs.Size.{Passed as Argued, size-number, size-passed}
 use Rattle.spec_laws.proofs.Owned.{valid-means}
 use Rattle.call_front.specs.Numbers.{plainError}
@@ -132,10 +133,18 @@ module _ (c : tie.Else3) where
 
 -- ---- 35
 
-push-ok-requires : tie.Need-push-ok-requires
-push-ok-requires c κs = let i = c .before .before .before .before .before .before .before in ((ready-of (i .before .plain-ready .ensures .1) (i .if1 .left), valid-means (start₁ i .args .number) (passed i .number) .0, valid-means (start₁ i .args .number) (passed i .number) .1), accepted i)
+-- the size of their strings, by their lengths
+sized : (c : tie.Else3) → c .before .args-size .result .strings ≡ sum (now (start₃ c .args .lengths)) + length (now (start₃ c .args .lengths))
+sized c = let a = start₃ c .args in omega (arith, argued c .strings-size, cut-size (now (a .bytes)) (now (a .lengths)) (argued c .sums), argued c .sums)
 
--- the check of the ranges, over any frame bytes
+push-ok-requires : tie.Need-push-ok-requires
+push-ok-requires c κs =
+    let e = c .before .before .before .before in
+    let i = e .before .before .before in
+    let v = valid-means (start₁ i .args .number) (passed i .number) in
+    ((ready-of (i .before .plain-ready .ensures .1) (i .if1 .left), v .0, v .1), (accepted i, sized e))
+
+-- the check of the copies, over any frame bytes
 module _ (c : tie.After-push-ok) where
   abbrev after₃ : tie.Else3
   after₃ = c .before .before .before .before .before
@@ -143,11 +152,14 @@ module _ (c : tie.After-push-ok) where
   abbrev start₄ : tie.Start
   start₄ = start₃ after₃
 
-  checked : (f : List ℕ) → c .push-ok .result ≡ pushOk (start₄ .args .setup) (memOf (store f (now (start₄ .args .book))) (start₄ .args .number)) (start₄ .args .top) (arguments start₄)
-  checked f = c .push-ok .ensures f (arguments start₄) (sym (argued after₃ .strings-size)) (cut-count (now (start₄ .args .bytes)) (now (start₄ .args .lengths)))
+  checked : (f : List ℕ) → c .push-ok .result ≡ pushAccess (start₄ .args .setup) (memOf (store f (now (start₄ .args .book))) (start₄ .args .number)) (start₄ .args .top) (arguments start₄)
+  checked f = c .push-ok .ensures f (now (start₄ .args .bytes)) (argued after₃ .sums)
+
+enum-known-access : tie.Need-enum-known-access
+enum-known-access c = search needs
 
 forget-requires : tie.Need-forget-requires
-forget-requires c κs = passed (c .before .before .before .before .before .before .before .before .before .before) .number
+forget-requires c κs = passed (c .before .before .before .before .before .before .before .before .before .before .before .before) .number
 
 same-length-7 : tie.Need-same-length-7
 same-length-7 c = search needs
@@ -157,30 +169,37 @@ same-length-8 c = search needs
 
 returns-4 : tie.Need-returns-4
 returns-4 c =
-    let u = c .before .before .before .before in
-    let i = after₃ (u .before) in
+    let k = c .before .before .before .before .before in
+    let u = k .before .before in
+    let i = after₃ u in
     let s = start₃ i in
     answers (i .before .before .before) _ _
-    (push-ends (machine s) (s .args .pc) (s .args .top) (arguments s) (i .before .before .if2 .left) (argued i .passed)
-    (sym (checked (u .before) (now (s .args .frames))) ∙ not-true _ (u .if4 .taken)))
+    (push-ends (machine s) (s .args .pc) (s .args .top) (arguments s) (i .before .before .if2 .left) _ (argued i .passed)
+    (sym (checked u (now (s .args .frames))) ∙ k .access .given .1))
     (c .before .before .forget .ensures _ _)
 
 -- ---- accepted
 
--- where both ranges passed
-module _ (c : tie.Else4) where
-  abbrev i : tie.Else3
-  i = after₃ (c .before)
+enum-told : tie.Need-enum-told
+enum-told c = search needs
 
-  ok : (f : List ℕ) → pushOk (start₃ i .args .setup) (memOf (store f (now (start₃ i .args .book))) (start₃ i .args .number)) (start₃ i .args .top) (arguments (start₃ i)) ≡ true
-  ok f = sym (checked (c .before) f) ∙ not-false _ (c .if4 .left)
+-- where all copies passed
+module _ (c : tie.After-enum-told) where
+  abbrev u : tie.After-push-ok
+  u = c .before .before
+
+  abbrev i : tie.Else3
+  i = after₃ u
+
+  ok : (f : List ℕ) → pushAccess (start₃ i .args .setup) (memOf (store f (now (start₃ i .args .book))) (start₃ i .args .number)) (start₃ i .args .top) (arguments (start₃ i)) ≡ Fine
+  ok f = sym (checked u f) ∙ c .enum-told .given .1
 
 push-args-requires : tie.Need-push-args-requires
 push-args-requires c κs =
-    let u = c .before .before .before .before .before in
-    let o = i u .before .before .before in
+    let e = c .before .before .before .before .before in
+    let o = i e .before .before .before in
     let v = valid-means (start₁ o .args .number) (passed o .number) in
-    ((sizes o, ready-of (o .before .plain-ready .ensures .1) (o .if1 .left), v .0, v .1), (start₃ (i u) .args .setup, accepted o, argued (i u) .sums, argued (i u) .passed, ok u))
+    ((sizes o, ready-of (o .before .plain-ready .ensures .1) (o .if1 .left), v .0, v .1), (start₃ (i e) .args .setup, accepted o, argued (i e) .sums, argued (i e) .passed, i e .before .before .if2 .left, ok e))
 
 same-length-9 : tie.Need-same-length-9
 same-length-9 c = search needs
@@ -190,11 +209,11 @@ same-length-10 c = search needs
 
 returns-5 : tie.Need-returns-5
 returns-5 c =
-    let u = c .before .before .before .before .before .before .before .before in
-    let s = start₃ (i u) in
+    let e = c .before .before .before .before .before .before .before .before in
+    let s = start₃ (i e) in
     let w = c .before .before .push-args in
-    answers (i u .before .before .before) _ _
-    (push-goes (machine s) (s .args .pc) (s .args .top) (arguments s) (i u .before .before .if2 .left) (w .result) (w .ensures .1) (argued (i u) .passed) (ok u (now (s .args .frames))))
+    answers (i e .before .before .before) _ _
+    (push-goes (machine s) (s .args .pc) (s .args .top) (arguments s) (i e .before .before .if2 .left) (w .result) (w .ensures .1) (argued (i e) .passed) (ok e (now (s .args .frames))))
     (ap (withStore (state s)) (w .ensures .0))
 
 pub push-spec : {M : Type 1} → statement M
@@ -214,10 +233,12 @@ push-spec =
     same-length-6
     returns-3
     push-ok-requires
+    enum-known-access
     forget-requires
     same-length-7
     same-length-8
     returns-4
+    enum-told
     push-args-requires
     same-length-9
     same-length-10

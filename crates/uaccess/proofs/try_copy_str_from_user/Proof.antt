@@ -3,22 +3,25 @@
 use Prim.Native.Nat.{ℕ, _+_, _-_, _%_, _^_, _≤_, _<_}
 use native.Mathlib.Omega.{arith}
 use mathlib.Core.Path.{_≡_, refl, sym, ap, _∙_}
-use mathlib.Core.Bool.{true, false}
+use mathlib.Core.Bool.{false}
 use lib.ListN.{length}
 use denote.Ref.{now}
+use borrow.Author.Needs.{needs}
 use borrow.Rule.Slice.PartMut.{putMid, mid-len}
 use Rattle.spec.specs.Numbers.{maxTop}
 use Rattle.spec.specs.Frames.{Mem, memOf, store}
-use Rattle.spec.specs.Access.{userRangeOk, byteOf, bytesAt, copyStr}
-use Rattle.spec.proofs.Bools.{not-true, un-not}
+use Rattle.spec.specs.Access.{access, Reached, byteOf, bytesAt, copyStr}
+use Rattle.spec.specs.declared.Checked.{Checked}
+use Rattle.spec.specs.declared.Checked.the-variants.{Fine, Bad}
 use Rattle.spec_laws.proofs.Contents.{length-bytes}
 use Rattle.kstr.specs.Nul.{toNul}
 use Rattle.kstr.proofs.BeforeNul.{nul-most}
 use Rattle.uaccess.specs.Copied.{copied}
-use Rattle.uaccess.proofs.InRange.{range-cell}
+use Rattle.spec_laws.proofs.Allowed.{cell-page}
+use Rattle.uaccess.proofs.InRange.{Paged}
 use Rattle.uaccess.proofs.StringCopy.{copyFrom, str-none, str-end, str-bad, str-part, str-nul, str-whole}
 use Rattle.spec_laws.proofs.Overwrite.{mix, mix-none}
-use Rattle.spec.proofs.Ranges.{range-means}
+use Rattle.spec.proofs.Ranges.{access-passed}
 use Rattle.uaccess.proofs.try_copy_str_from_user.Statement.{statement}
 use Rattle.uaccess.proofs.try_copy_str_from_user.Tie as tie
 
@@ -33,19 +36,25 @@ abbrev μ-loop : tie.MeasureT-loop
 abbrev memory : tie.Start Inv-loop μ-loop → Mem
 memory c = memOf (store (now (c .args .frames)) (now (c .args .book))) (c .args .number)
 
+pages : (c : tie.Start Inv-loop μ-loop) → Paged (memory c)
+pages c a write = cell-page (store (now (c .args .frames)) (now (c .args .book))) (c .args .number) a write
+
 -- where the page has been checked
-module _ (c : tie.Else1 Inv-loop μ-loop) where
+module _ (c : tie.After-enum-told2 Inv-loop μ-loop) where
   abbrev start : tie.Start Inv-loop μ-loop
-  start = c .before .before .before .before .before .before .before
+  start = c .before .before .before .before .before .before .before .before
 
   abbrev n : ℕ
-  n = c .before .before .before .loop .n
+  n = c .before .before .before .before .loop .n
 
-  ok : userRangeOk (start .args .setup) (memory start) false (start .args .src + n) 1 ≡ true
-  ok = sym (c .before .user-range-ok .ensures (now (start .args .frames))) ∙ un-not _ (c .if1 .left)
+  ok : access (start .args .setup) (memory start) false (start .args .src + n) 1 ≡ Fine
+  ok = sym (c .before .before .user-range-ok .ensures (now (start .args .frames))) ∙ c .enum-told2 .given .1
+
+  reached : Reached (start .args .setup) (memory start) false (start .args .src + n)
+  reached = access-passed (start .args .setup) (memory start) false (start .args .src + n) 1 ok .each (start .args .src + n) (omega arith) (omega arith)
 
   top : start .args .src + n + 1 ≤ maxTop
-  top = omega (arith, start .pre .1, range-means (start .args .setup) (memory start) false (start .args .src + n) 1 ok .top)
+  top = omega (arith, start .pre .1, reached .0)
 
 -- where the part that the page fills is known
 module _ (c : tie.After-in-page Inv-loop μ-loop) where
@@ -76,14 +85,14 @@ module _ (c : tie.After-copy-to-nul Inv-loop μ-loop) where
   most : k ≤ chunk at
   most = omega (arith, count, nul-most (bytesAt (memory whole) (whole .args .src + n (at .before)) (chunk at)), length-bytes (λ a. byteOf (memory whole a)) (whole .args .src + n (at .before)) (chunk at))
 
-  left : putMid (n (at .before)) (n (at .before) + chunk at - n (at .before)) (c .before .before .before .before .before .before .before .loop .dst) (c .copy-to-nul .last .0)
+  left : putMid (n (at .before)) (n (at .before) + chunk at - n (at .before)) (c .before .before .before .before .before .before .before .before .loop .dst) (c .copy-to-nul .last .0)
       ≡ mix (bytesAt (memory whole) (whole .args .src) (length (now (whole .args .dst)))) (now (whole .args .dst)) (n (at .before) + k)
   left =
-      str-part (whole .args .setup) (whole .pre .1) (memory whole) (now (whole .args .dst)) (whole .args .src) (n (at .before)) (chunk at) (room at) (ok (at .before)) (page at) k count
-      _ _ _ (c .before .before .before .before .before .before .before .loop .inv .3) (c .before .before .user-bytes .ensures) (c .copy-to-nul .ensures .1)
+      str-part (whole .args .setup) (whole .pre .1) (memory whole) (pages whole) (now (whole .args .dst)) (whole .args .src) (n (at .before)) (chunk at) (room at) (ok (at .before)) (page at) k count
+      _ _ _ (c .before .before .before .before .before .before .before .before .loop .inv .3) (c .before .before .user-bytes .ensures) (c .copy-to-nul .ensures .1)
 
 loop-holds : tie.Need-loop-holds Inv-loop μ-loop
-loop-holds c = let s = c .before .before .before in (omega arith, refl, omega arith, mix-none _ _, str-none (s .args .setup) (s .pre .1) (memory s) (now (s .args .dst)) (s .args .src))
+loop-holds c = let s = c .before .before .before in (omega arith, refl, omega arith, mix-none _ _, str-none (s .args .setup) (s .pre .1) (memory s) (pages s) (now (s .args .dst)) (s .args .src))
 
 add-va : tie.Need-add-va Inv-loop μ-loop
 add-va c = omega (arith, c .before .loop .inv .2)
@@ -94,12 +103,20 @@ user-range-ok-requires c κs = let p = c .before .before .before .before .before
 same-length : tie.Need-same-length Inv-loop μ-loop
 same-length c = omega arith
 
+enum-told : tie.Need-enum-told Inv-loop μ-loop
+enum-told c = search needs
+
 returns : tie.Need-returns Inv-loop μ-loop
 returns c =
-    let s = c .before .before .before .before .before .before .before in
-    let l = c .before .before .before .loop in
-    sym (l .inv .4 ∙ str-bad (s .args .setup) (s .pre .1) (memory s) (now (s .args .dst)) (s .args .src) (l .n) (omega arith) (sym (c .before .user-range-ok .ensures (now (s .args .frames))) ∙ not-true _ (c .if1 .taken))
-    ∙ ap (copied false (l .n)) (sym (l .inv .3)))
+    let s = c .before .before .before .before .before .before .before .before in
+    let l = c .before .before .before .before .loop in
+    let r = c .before .before .user-range-ok in
+    ap (λ (t : Checked). copied t (l .n) (l .dst)) (c .enum-told .given .1)
+    ∙ sym (l .inv .4 ∙ str-bad (s .args .setup) (s .pre .1) (memory s) (pages s) (now (s .args .dst)) (s .args .src) (l .n) _ (omega arith) (sym (r .ensures (now (s .args .frames))) ∙ c .enum-told .given .1)
+    ∙ ap (copied (Bad _) (l .n)) (sym (l .inv .3)))
+
+enum-told-2 : tie.Need-enum-told-2 Inv-loop μ-loop
+enum-told-2 c = search needs
 
 sub-in-page : tie.Need-sub-in-page Inv-loop μ-loop
 sub-in-page c = omega arith
@@ -113,9 +130,7 @@ add-e c = omega (arith, room c)
 user-bytes-requires : tie.Need-user-bytes-requires Inv-loop μ-loop
 user-bytes-requires c κs =
     let s = start (c .before) in
-    let a = s .args in
-    let va = a .src + n (c .before) in
-    (s .pre .0, (page c, range-cell (s .args .setup) (now (a .frames)) (now (a .frames)) (now (a .book)) (a .number) false va 1 va (ok (c .before)) (omega arith) (omega arith)))
+    (s .pre .0, (page c, reached (c .before) .1))
 
 sub-copy-to-nul : tie.Need-sub-copy-to-nul Inv-loop μ-loop
 sub-copy-to-nul c = omega arith
@@ -145,9 +160,9 @@ returns-2 c =
     let d = c .before .before .before in
     let s = whole d in
     let p = at d in
-    sym (p .before .before .before .before .loop .inv .4
-    ∙ str-nul (s .args .setup) (s .pre .1) (memory s) (now (s .args .dst)) (s .args .src) (n (p .before)) (chunk p) (room p) (ok (p .before)) (page p) (k d) (count d) (c .if2 .taken)
-    ∙ ap (copied true (n (p .before) + k d)) (sym (left d)))
+    sym (p .before .before .before .before .before .loop .inv .4
+    ∙ str-nul (s .args .setup) (s .pre .1) (memory s) (pages s) (now (s .args .dst)) (s .args .src) (n (p .before)) (chunk p) (room p) (ok (p .before)) (page p) (k d) (count d) (c .if1 .taken)
+    ∙ ap (copied Fine (n (p .before) + k d)) (sym (left d)))
 
 loop-less : tie.Need-loop-less Inv-loop μ-loop
 loop-less c = let d = c .before .before .before in omega (arith, most d, at d .in-page .ensures)
@@ -158,11 +173,11 @@ loop-again c =
     let s = whole d in
     let p = at d in (
       omega (arith, most d, room p),
-      omega arith,
+      omega (arith, p .before .before .before .before .before .loop .inv .1),
       omega (arith, most d, page p, top (p .before)),
       left d,
-      p .before .before .before .before .loop .inv .4
-          ∙ str-whole (s .args .setup) (s .pre .1) (memory s) (now (s .args .dst)) (s .args .src) (n (p .before)) (chunk p) (room p) (ok (p .before)) (page p) (k d) (count d) (c .if2 .left),
+      p .before .before .before .before .before .loop .inv .4
+          ∙ str-whole (s .args .setup) (s .pre .1) (memory s) (pages s) (now (s .args .dst)) (s .args .src) (n (p .before)) (chunk p) (room p) (ok (p .before)) (page p) (k d) (count d) (c .if1 .left),
     )
 
 same-length-3 : tie.Need-same-length-3 Inv-loop μ-loop
@@ -172,7 +187,7 @@ returns-3 : tie.Need-returns-3 Inv-loop μ-loop
 returns-3 c =
     let s = c .before .before .before .before .before in
     let l = c .before .loop in
-    sym (l .inv .4 ∙ str-end (s .args .setup) (s .pre .1) (memory s) (now (s .args .dst)) (s .args .src) (l .n) (omega arith) (omega arith) ∙ ap (copied true (l .n)) (sym (l .inv .3)))
+    sym (l .inv .4 ∙ str-end (s .args .setup) (s .pre .1) (memory s) (pages s) (now (s .args .dst)) (s .args .src) (l .n) (omega arith) (omega arith) ∙ ap (copied Fine (l .n)) (sym (l .inv .3)))
 
 pub try-copy-str-from-user-spec : {M : Type 1} → statement M
 try-copy-str-from-user-spec =
@@ -183,8 +198,10 @@ try-copy-str-from-user-spec =
     loop-holds
     add-va
     user-range-ok-requires
+    enum-told
     same-length
     returns
+    enum-told-2
     sub-in-page
     in-page-requires
     add-e

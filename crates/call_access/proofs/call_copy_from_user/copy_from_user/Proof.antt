@@ -1,20 +1,23 @@
 -- `copy_from_user` meets its contract: the whole range is checked before a byte is copied.
 use Prim.Native.Nat.{ℕ, _*_}
 use mathlib.Core.Path.{_≡_, refl, sym, ap, _∙_}
-use mathlib.Core.Bool.{true}
+use mathlib.Core.Bool.{true, false}
 use mathlib.Core.List.{List}
 use denote.Ref.{now}
 use lib.ListN.{length}
 use borrow.Author.Needs.{needs}
-use borrow.Author.Tests.{not-true, not-false}
 use Rattle.spec.specs.Numbers.{SetupOk}
 use Rattle.spec.proofs.Setups.{setup-means}
 use Rattle.spec.specs.Book.{frameCount, free}
+use Rattle.spec.specs.Frames.{memOf, store}
+use Rattle.spec.specs.Access.{access}
+use Rattle.spec.specs.declared.Checked.the-variants.{Fine}
 use Rattle.spec.specs.Machine.{Ask, copy-from-user, Reply, outcome, weigh, call}
 use Rattle.spec.specs.World.{State, view, leave, Does, stateOf}
 use Rattle.spec.specs.declared.Answer.the-variants.{Done}
 use Rattle.spec_laws.proofs.Owned.{valid-means}
 use Rattle.sound.proofs.LookedUp.{made-zeros, ready-of}
+use Rattle.uaccess.proofs.InRange.{fine-ok}
 use Rattle.call_front.proofs.FirstNumbers.{Passed, plain-none, sizes-words}
 use Rattle.call_front.proofs.Answers.{plain-refused, plain-goes}
 use Rattle.call_access.proofs.Copied.{reads, reads-bad}
@@ -63,8 +66,11 @@ module _ (c : tie.Else1) where
 user-range-ok-requires : tie.Need-user-range-ok-requires
 user-range-ok-requires c κs = let i = c .before .before .before .before in ((ready-of (i .before .plain-ready .ensures .1) (i .if1 .left), valid-means (start i .args .number) (passed i .number) .0, valid-means (start i .args .number) (passed i .number) .1), accepted i)
 
+enum-known-access : tie.Need-enum-known-access
+enum-known-access c = search needs
+
 forget-requires : tie.Need-forget-requires
-forget-requires c κs = passed (c .before .before .before .before .before .before .before) .number
+forget-requires c κs = passed (c .before .before .before .before .before .before .before .before .before) .number
 
 same-length-3 : tie.Need-same-length-3
 same-length-3 c = search needs
@@ -74,17 +80,31 @@ same-length-4 c = search needs
 
 returns-2 : tie.Need-returns-2
 returns-2 c =
-    let u = c .before .before .before .before in
-    let i = u .before .before .before .before .before .before in
+    let k = c .before .before .before .before .before in
+    let u = k .before .before in
+    let i = u .before .before .before .before .before in
     let a = start i .args in
-    answers i _ _ (reads-bad (view (state i) (a .number)) (free (now (a .book))) (now (a .dst)) (a .src) (sym (u .before .user-range-ok .ensures (now (a .frames))) ∙ not-true _ (u .if2 .taken)))
+    answers i _ _ (reads-bad (view (state i) (a .number)) (free (now (a .book))) (now (a .dst)) (a .src) _ (sym (u .user-range-ok .ensures (now (a .frames))) ∙ k .access .given .1))
     (c .before .before .forget .ensures _ _)
+
+enum-told : tie.Need-enum-told
+enum-told c = search needs
+
+-- where the range has passed
+module _ (c : tie.After-enum-told) where
+  abbrev i : tie.Else1
+  i = c .before .before .before .before .before .before .before
+
+  fine : let a = start i .args in access (a .setup) (memOf (store (now (a .frames)) (now (a .book))) (a .number)) false (a .src) (length (now (a .dst))) ≡ Fine
+  fine = sym (c .before .before .user-range-ok .ensures (now (start i .args .frames))) ∙ c .enum-told .given .1
 
 read-user-requires : tie.Need-read-user-requires
 read-user-requires c κs =
     let u = c .before .before .before .before .before .before in
-    let i = u .before .before .before .before .before .before in
-    ((sizes i, ready-of (i .before .plain-ready .ensures .1) (i .if1 .left), valid-means (start i .args .number) (passed i .number) .0, valid-means (start i .args .number) (passed i .number) .1), (start i .args .setup, accepted i, sym (u .before .user-range-ok .ensures (now (start i .args .frames))) ∙ not-false _ (u .if2 .left)))
+    let o = i u in
+    let a = start o .args in
+    let v = valid-means (a .number) (passed o .number) in
+    ((sizes o, ready-of (o .before .plain-ready .ensures .1) (o .if1 .left), v .0, v .1), (a .setup, accepted o, fine-ok (a .setup) _ false (a .src) (length (now (a .dst))) (fine u)))
 
 same-length-5 : tie.Need-same-length-5
 same-length-5 c = search needs
@@ -99,10 +119,9 @@ returns-3 : tie.Need-returns-3
 returns-3 c =
     let d = c .before .before in
     let u = d .before .before .before .before .before .before .before in
-    let i = u .before .before .before .before .before .before in
-    let a = start i .args in
-    answers i _ _
-    (reads (view (state i) (a .number)) (free (now (a .book))) (now (a .dst)) (a .src) (sym (u .before .user-range-ok .ensures (now (a .frames))) ∙ not-false _ (u .if2 .left))
+    let a = start (i u) .args in
+    answers (i u) _ _
+    (reads (view (state (i u)) (a .number)) (free (now (a .book))) (now (a .dst)) (a .src) (fine u)
     ∙ ap (λ (b : List ℕ). record { says = Done; buffer = b }) (sym (d .read-user .ensures)))
     refl
 
@@ -115,10 +134,12 @@ copy-from-user-spec =
     same-length-2
     returns
     user-range-ok-requires
+    enum-known-access
     forget-requires
     same-length-3
     same-length-4
     returns-2
+    enum-told
     read-user-requires
     same-length-5
     same-length-6

@@ -5,14 +5,17 @@ use mathlib.Core.Bool.{true}
 use denote.Ref.{now}
 use lib.ListN.{length}
 use borrow.Author.Needs.{needs}
-use borrow.Author.Tests.{not-true, not-false}
 use Rattle.spec.specs.Numbers.{SetupOk}
 use Rattle.spec.proofs.Setups.{setup-means}
 use Rattle.spec.specs.Book.{frameCount, free}
+use Rattle.spec.specs.Frames.{memOf, store}
+use Rattle.spec.specs.Access.{access}
+use Rattle.spec.specs.declared.Checked.the-variants.{Fine}
 use Rattle.spec.specs.Machine.{Ask, copy-to-user, Reply, outcome, weigh, call}
 use Rattle.spec.specs.World.{State, view, withStore, leave, Does, stateOf}
 use Rattle.spec_laws.proofs.Owned.{valid-means}
 use Rattle.sound.proofs.LookedUp.{made-zeros, ready-of}
+use Rattle.uaccess.proofs.InRange.{fine-ok}
 use Rattle.call_front.proofs.FirstNumbers.{Passed, plain-none, sizes-words}
 use Rattle.call_front.proofs.Answers.{plain-refused, plain-goes}
 use Rattle.call_access.proofs.Copied.{writes, writes-bad}
@@ -61,8 +64,11 @@ module _ (c : tie.Else1) where
 user-range-ok-requires : tie.Need-user-range-ok-requires
 user-range-ok-requires c κs = let i = c .before .before .before .before in ((ready-of (i .before .plain-ready .ensures .1) (i .if1 .left), valid-means (start i .args .number) (passed i .number) .0, valid-means (start i .args .number) (passed i .number) .1), accepted i)
 
+enum-known-access : tie.Need-enum-known-access
+enum-known-access c = search needs
+
 forget-requires : tie.Need-forget-requires
-forget-requires c κs = passed (c .before .before .before .before .before .before .before) .number
+forget-requires c κs = passed (c .before .before .before .before .before .before .before .before .before) .number
 
 same-length-3 : tie.Need-same-length-3
 same-length-3 c = search needs
@@ -72,17 +78,31 @@ same-length-4 c = search needs
 
 returns-2 : tie.Need-returns-2
 returns-2 c =
-    let u = c .before .before .before .before in
-    let i = u .before .before .before .before .before .before in
+    let k = c .before .before .before .before .before in
+    let u = k .before .before in
+    let i = u .before .before .before .before .before in
     let a = start i .args in
-    answers i _ _ (writes-bad (view (state i) (a .number)) (free (now (a .book))) (a .dst) (now (a .bytes)) (sym (u .before .user-range-ok .ensures (now (a .frames))) ∙ not-true _ (u .if2 .taken)))
+    answers i _ _ (writes-bad (view (state i) (a .number)) (free (now (a .book))) (a .dst) (now (a .bytes)) _ (sym (u .user-range-ok .ensures (now (a .frames))) ∙ k .access .given .1))
     (c .before .before .forget .ensures _ _)
+
+enum-told : tie.Need-enum-told
+enum-told c = search needs
+
+-- where the range has passed
+module _ (c : tie.After-enum-told) where
+  abbrev i : tie.Else1
+  i = c .before .before .before .before .before .before .before
+
+  fine : let a = start i .args in access (a .setup) (memOf (store (now (a .frames)) (now (a .book))) (a .number)) true (a .dst) (length (now (a .bytes))) ≡ Fine
+  fine = sym (c .before .before .user-range-ok .ensures (now (start i .args .frames))) ∙ c .enum-told .given .1
 
 write-user-requires : tie.Need-write-user-requires
 write-user-requires c κs =
     let u = c .before .before .before .before .before in
-    let i = u .before .before .before .before .before .before in
-    ((sizes i, ready-of (i .before .plain-ready .ensures .1) (i .if1 .left), valid-means (start i .args .number) (passed i .number) .0, valid-means (start i .args .number) (passed i .number) .1), (start i .args .setup, accepted i, sym (u .before .user-range-ok .ensures (now (start i .args .frames))) ∙ not-false _ (u .if2 .left)))
+    let o = i u in
+    let a = start o .args in
+    let v = valid-means (a .number) (passed o .number) in
+    ((sizes o, ready-of (o .before .plain-ready .ensures .1) (o .if1 .left), v .0, v .1), (a .setup, accepted o, fine-ok (a .setup) _ true (a .dst) (length (now (a .bytes))) (fine u)))
 
 same-length-5 : tie.Need-same-length-5
 same-length-5 c = search needs
@@ -94,10 +114,9 @@ returns-3 : tie.Need-returns-3
 returns-3 c =
     let d = c .before .before in
     let u = d .before .before .before .before .before .before in
-    let i = u .before .before .before .before .before .before in
-    let a = start i .args in
-    answers i _ _ (writes (view (state i) (a .number)) (free (now (a .book))) (a .dst) (now (a .bytes)) (sym (u .before .user-range-ok .ensures (now (a .frames))) ∙ not-false _ (u .if2 .left)))
-    (ap (withStore (state i)) (d .write-user .ensures))
+    let a = start (i u) .args in
+    answers (i u) _ _ (writes (view (state (i u)) (a .number)) (free (now (a .book))) (a .dst) (now (a .bytes)) (fine u))
+    (ap (withStore (state (i u))) (d .write-user .ensures))
 
 pub copy-to-user-spec : {M : Type 1} → statement M
 copy-to-user-spec =
@@ -108,10 +127,12 @@ copy-to-user-spec =
     same-length-2
     returns
     user-range-ok-requires
+    enum-known-access
     forget-requires
     same-length-3
     same-length-4
     returns-2
+    enum-told
     write-user-requires
     same-length-5
     same-length-6

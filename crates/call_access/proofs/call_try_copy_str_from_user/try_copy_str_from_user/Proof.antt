@@ -54,14 +54,20 @@ module _ (c : tie.Else1) where
 try-copy-str-from-user-requires : tie.Need-try-copy-str-from-user-requires
 try-copy-str-from-user-requires c κs = let i = c .before .before .before .before in ((sizes i, ready-of (i .before .plain-ready .ensures .1) (i .if1 .left), valid-means (start i .args .number) (passed i .number) .0, valid-means (start i .args .number) (passed i .number) .1), accepted i)
 
+enum-known-access : tie.Need-enum-known-access
+enum-known-access c = search needs
+
 same-length : tie.Need-same-length
 same-length c = search needs
 
 returns-2 : tie.Need-returns-2
 returns-2 c =
-    let d = c .before .before .before .before in
+    let d = c .before .before .before .before .before in
     let i = d .before .before .before .before .before in
-    answers i _ _ (string-bad _ _ (d .try-copy-str-from-user .ensures) (c .if2 .taken)) refl
+    answers i _ _ (string-bad _ _ (d .try-copy-str-from-user .ensures) _ (c .before .access .given .1)) refl
+
+enum-told : tie.Need-enum-told
+enum-told c = search needs
 
 same-length-2 : tie.Need-same-length-2
 same-length-2 c = search needs
@@ -70,7 +76,7 @@ returns-3 : tie.Need-returns-3
 returns-3 c =
     let d = c .before .before .before .before in
     let i = d .before .before .before .before .before in
-    answers i _ _ (string-whole _ _ (d .try-copy-str-from-user .ensures) (c .if2 .left)) refl
+    answers i _ _ (string-whole _ _ (d .try-copy-str-from-user .ensures) (c .enum-told .given .1)) refl
 
 pub try-copy-str-from-user-spec : {M : Type 1} → statement M
 try-copy-str-from-user-spec =
@@ -79,7 +85,9 @@ try-copy-str-from-user-spec =
     plain-ready-requires
     returns
     try-copy-str-from-user-requires
+    enum-known-access
     same-length
     returns-2
+    enum-told
     same-length-2
     returns-3)

@@ -1,7 +1,8 @@
--- `user_range_ok` meets its contract: the range's test is 1 or 0.
+-- `user_range_ok` meets its contract: the range's check is 1, or no with the bad address.
 use mathlib.Core.Bool.{true}
 use mathlib.Core.Path.{_≡_, refl, sym, _∙_}
 use denote.Ref.{now}
+use borrow.Author.Needs.{needs}
 use Rattle.spec.specs.Numbers.{SetupOk}
 use Rattle.spec.proofs.Setups.{setup-means}
 use Rattle.spec.specs.Book.{free}
@@ -48,18 +49,24 @@ module _ (c : tie.Else1) where
 user-range-ok-requires : tie.Need-user-range-ok-requires
 user-range-ok-requires c κs = let i = c .before .before .before in ((ready-of (i .before .plain-ready .ensures .1) (i .if1 .left), valid-means (start i .args .number) (passed i .number) .0, valid-means (start i .args .number) (passed i .number) .1), accepted i)
 
+enum-told : tie.Need-enum-told
+enum-told c = search needs
+
+enum-known-access : tie.Need-enum-known-access
+enum-known-access c = search needs
+
 returns-2 : tie.Need-returns-2
 returns-2 c =
-    let i = c .before .before .before .before .before in
+    let i = c .before .before .before .before .before .before in
     let a = start i .args in
-    answers i _ _ (range-yes (view (state i) (a .number)) (free (now (a .book))) (a .write) (a .addr) (a .len) (sym (c .before .user-range-ok .ensures (now (a .frames))) ∙ c .if2 .taken)) refl
+    answers i _ _ (range-yes (view (state i) (a .number)) (free (now (a .book))) (a .write) (a .addr) (a .len) (sym (c .before .before .user-range-ok .ensures (now (a .frames))) ∙ c .enum-told .given .1)) refl
 
 returns-3 : tie.Need-returns-3
 returns-3 c =
-    let i = c .before .before .before .before .before in
+    let i = c .before .before .before .before .before .before .before in
     let a = start i .args in
-    answers i _ _ (range-no (view (state i) (a .number)) (free (now (a .book))) (a .write) (a .addr) (a .len) (sym (c .before .user-range-ok .ensures (now (a .frames))) ∙ c .if2 .left)) refl
+    answers i _ _ (range-no (view (state i) (a .number)) (free (now (a .book))) (a .write) (a .addr) (a .len) _ (sym (c .before .before .before .user-range-ok .ensures (now (a .frames))) ∙ c .before .access .given .1)) refl
 
 pub user-range-ok-spec : {M : Type 1} → statement M
 user-range-ok-spec =
-    tie.close (tie.spec plain-ready-requires returns user-range-ok-requires returns-2 returns-3)
+    tie.close (tie.spec plain-ready-requires returns user-range-ok-requires enum-told enum-known-access returns-2 returns-3)

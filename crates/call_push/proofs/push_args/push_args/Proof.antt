@@ -23,7 +23,7 @@ module _ (s : tie.Start) where
 
   -- there is room above address 0
   room : 8 * (length args + 1) ≤ (s .args .top - length (strings args)) / 8 * 8
-  room = low-room (s .args .top) (length (strings args)) (length args) (allowed (s .pre .1 .0) _ (s .args .top) _ _ args refl refl (s .pre .1 .4 (now (s .args .frames))) .above-zero)
+  room = low-room (s .args .top) (length (strings args)) (length args) (allowed (s .pre .1 .0) _ (s .args .top) _ _ args refl refl (s .pre .1 .4) (s .pre .1 .5 (now (s .args .frames))) .above-zero)
 
 slice-aggregate-args-into : tie.Need-slice-aggregate-args-into
 slice-aggregate-args-into c = search needs
@@ -42,7 +42,7 @@ write-args-requires : tie.Need-write-args-requires
 write-args-requires c κs =
     let l = c .before .before .before in
     let s = l .before .before .before .before .before .before in
-    (s .pre .0, (s .pre .1 .0, args s, s .pre .1 .1, l .args-into .ensures, count s, s .pre .1 .4))
+    (s .pre .0, (s .pre .1 .0, args s, s .pre .1 .1, l .args-into .ensures, count s, s .pre .1 .4, s .pre .1 .5))
 
 same-length : tie.Need-same-length
 same-length c = search needs

@@ -36,7 +36,7 @@ module _ (s : tie.Start) where
   all = omega (arith, laid .fits, s .pre .1 .4)
 
   ok : (f : List ℕ) → Allowed (s .pre .1 .0) (memOf (store f (now (s .args .book))) (s .args .number)) (s .args .top) (s .args .size) (s .args .nargs)
-  ok f = allowed (s .pre .1 .0) (memOf (store f (now (s .args .book))) (s .args .number)) (s .args .top) (s .args .size) (s .args .nargs) (s .pre .1 .1) (sym (laid .sized)) (s .pre .1 .4) (s .pre .1 .5 f)
+  ok f = allowed (s .pre .1 .0) (memOf (store f (now (s .args .book))) (s .args .number)) (s .args .top) (s .args .size) (s .args .nargs) (s .pre .1 .1) (sym (laid .sized)) (s .pre .1 .4) (s .pre .1 .5) (s .pre .1 .6 f)
 
   room : 8 * (s .args .nargs + 1) ≤ (s .args .top - s .args .size) / 8 * 8
   room = low-room (s .args .top) (s .args .size) (s .args .nargs) (ok (now (s .args .frames)) .above-zero)

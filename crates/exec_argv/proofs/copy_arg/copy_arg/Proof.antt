@@ -60,10 +60,10 @@ module _ (c : tie.After-stack-size) where
   weighed = c .stack-size .ensures ∙ saturated-fits (stackSize (s .args .used + read d .size + 1) (s .args .count + 1)) (omega (arith, most d, s .pre .1 .1, s .pre .1 .2))
 
 -- and is within the limit
-within : (c : tie.Else2) → let w = c .before .before .before in stackSize (s w .args .used + read (d w) .size + 1) (s w .args .count + 1) ≤ argLimit (s w .args .setup)
+within : (c : tie.Else1) → let w = c .before .before .before in stackSize (s w .args .used + read (d w) .size + 1) (s w .args .count + 1) ≤ argLimit (s w .args .setup)
 within c =
     let w = c .before .before .before in
-    ltb-false (argLimit (s w .args .setup)) _ (neither (read (d w) .size is argLimit (s w .args .setup)) _ (rw (weighed w) at (c .if2 .left)) .1)
+    ltb-false (argLimit (s w .args .setup)) _ (neither (read (d w) .size is argLimit (s w .args .setup)) _ (rw (weighed w) at (c .if1 .left)) .1)
 
 read-string-requires : tie.Need-read-string-requires
 read-string-requires c κs = let p = c .before .before .before .before .before .pre in (p .0, (p .1 .0, omega (arith, p .1 .1), p .1 .2))
@@ -80,6 +80,9 @@ add-nargs c = search needs
 stack-size-requires : tie.Need-stack-size-requires
 stack-size-requires c κs = search needs
 
+enum-known-access : tie.Need-enum-known-access
+enum-known-access c = search needs
+
 zero-requires : tie.Need-zero-requires
 zero-requires c κs = search needs
 
@@ -89,9 +92,12 @@ same-length c = search needs
 returns : tie.Need-returns
 returns c =
     let z = c .before .before in
-    let w = z .before .before .before .before in
-    added-bad (s w .args .setup) (string (d w)) (s w .args .used) (s w .args .count) (now (s w .args .buf)) (after (d w)) (read (d w)) (told (d w)) (z .before .before .if1 .taken)
+    let w = z .before .before .before .before .before in
+    added-bad (s w .args .setup) (string (d w)) (s w .args .used) (s w .args .count) (now (s w .args .buf)) (after (d w)) (read (d w)) (told (d w)) _ (z .before .before .before .access .given .1)
     _ (z .zero .ensures ∙ zeros (d w))
+
+enum-told : tie.Need-enum-told
+enum-told c = search needs
 
 zero-requires-2 : tie.Need-zero-requires-2
 zero-requires-2 c κs = search needs
@@ -104,7 +110,7 @@ returns-2 c =
     let z = c .before .before in
     let i = z .before .before in
     let w = i .before .before .before in
-    added-over (s w .args .setup) (string (d w)) (s w .args .used) (s w .args .count) (now (s w .args .buf)) (after (d w)) (read (d w)) (told (d w)) (i .before .if1 .left) (rw (weighed w) at (i .if2 .taken))
+    added-over (s w .args .setup) (string (d w)) (s w .args .used) (s w .args .count) (now (s w .args .buf)) (after (d w)) (read (d w)) (told (d w)) (i .before .enum-told .given .1) (rw (weighed w) at (i .if1 .taken))
     _ (z .zero2 .ensures ∙ zeros (d w))
 
 add-end : tie.Need-add-end
@@ -120,7 +126,7 @@ returns-3 : tie.Need-returns-3
 returns-3 c =
     let w = c .before .before .before in
     let a = s w .args in
-    added-fine (a .setup) (string (d w)) (a .used) (a .count) (now (a .buf)) (after (d w)) (read (d w)) (told (d w)) (c .before .if1 .left) (rw (weighed w) at (c .if2 .left))
+    added-fine (a .setup) (string (d w)) (a .used) (a .count) (now (a .buf)) (after (d w)) (read (d w)) (told (d w)) (c .before .enum-told .given .1) (rw (weighed w) at (c .if1 .left))
     (s w .pre .1 .0) (str-length (a .setup) (memory (d w)) (argBuffer (a .setup)) (a .s))
 
 pub copy-arg-spec : {M : Type 1} → statement M
@@ -132,9 +138,11 @@ copy-arg-spec =
     add-strings-2
     add-nargs
     stack-size-requires
+    enum-known-access
     zero-requires
     same-length
     returns
+    enum-told
     zero-requires-2
     same-length-2
     returns-2

@@ -41,7 +41,7 @@ module _ (c : tie.After-try-copy-str-from-user) where
   abbrev part : List ℕ
   part = c .try-copy-str-from-user .last .1 .1 .1 .1 .1 .1 .1 .0
 
-  read : copied (str .whole) (str .size) part ≡ copyStr (start .args .setup) memory (midOf used (limit - used) buf) (start .args .s)
+  read : copied (str .access) (str .size) part ≡ copyStr (start .args .setup) memory (midOf used (limit - used) buf) (start .args .s)
   read = c .try-copy-str-from-user .ensures
 
   low : used < limit
@@ -103,8 +103,8 @@ module _ (c : tie.After-try-copy-str-from-user2) where
   more : length front ≡ used t
   more = length-take-le (used t) (putMid (used t) (limit t - used t) (buf t) (part t)) (omega (arith, after t, low t, room t))
 
-add-t18 : tie.Need-add-t18
-add-t18 c =
+add-size : tie.Need-add-size
+add-size c =
     let q = c .before .before .before in
     let v = t q in
     omega (arith, start v .pre .1 .2, more q, copied-most (start v .args .setup) (memory v) (front q) (start v .args .s + (limit v - used v)) (q .try-copy-str-from-user2 .result) (q .try-copy-str-from-user2 .last .1 .1 .1 .1 .1 .1 .1 .0) (q .try-copy-str-from-user2 .ensures))
@@ -134,6 +134,6 @@ read-string-spec =
     slice-relend-prefix-try-copy-str-from-user
     slice-aggregate-try-copy-str-from-user
     try-copy-str-from-user-requires-2
-    add-t18
+    add-size
     same-length-2
     returns-2)

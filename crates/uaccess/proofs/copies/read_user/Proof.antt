@@ -10,12 +10,11 @@ use Rattle.spec.specs.Numbers.{maxTop}
 use Rattle.spec.specs.Frames.{Mem, memOf, store}
 use Rattle.spec.specs.Access.{byteOf, bytesAt}
 use Rattle.spec_laws.proofs.Contents.{length-bytes}
-use Rattle.uaccess.proofs.InRange.{range-cell}
+use Rattle.uaccess.proofs.InRange.{range-cell, range-end}
 use Rattle.uaccess.proofs.CopyParts.{read-turn}
 use Rattle.uaccess.proofs.copies.read_user.Statement.{statement}
 use Rattle.uaccess.proofs.copies.read_user.Tie as tie
 use Rattle.spec_laws.proofs.Overwrite.{mix, mix-none, mix-all}
-use Rattle.spec.proofs.Ranges.{range-means}
 
 abbrev Inv-loop : tie.InvT-loop
 Inv-loop frames book tags bases table number addr buf₀ i₀ buf i = (i ≤ length buf) × (length buf ≡ length buf₀) × (buf ≡ mix (bytesAt (memOf (store frames book) number) addr (length buf₀)) buf₀ i)
@@ -29,7 +28,7 @@ module _ (c : tie.Start Inv-loop μ-loop) where
   memory = memOf (store (now (c .args .frames)) (now (c .args .book))) (c .args .number)
 
   top : c .args .addr + length (now (c .args .buf)) ≤ maxTop
-  top = omega (arith, c .pre .1 .1, range-means (c .pre .1 .0) memory false (c .args .addr) (length (now (c .args .buf))) (c .pre .1 .2) .top)
+  top = omega (arith, c .pre .1 .1, range-end (c .pre .1 .0) memory false (c .args .addr) (length (now (c .args .buf))) (c .pre .1 .2))
 
 loop-holds : tie.Need-loop-holds Inv-loop μ-loop
 loop-holds c = (omega arith, refl, mix-none _ _)

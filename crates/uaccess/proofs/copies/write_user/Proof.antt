@@ -9,11 +9,10 @@ use denote.Ref.{now}
 use borrow.Rule.Slice.PartMut.{mid-len}
 use Rattle.spec.specs.Numbers.{maxTop}
 use Rattle.spec.specs.Frames.{memOf, pokes, store}
-use Rattle.uaccess.proofs.InRange.{range-cell}
+use Rattle.uaccess.proofs.InRange.{range-cell, range-end}
 use Rattle.uaccess.proofs.CopyParts.{write-turn}
 use Rattle.uaccess.proofs.copies.write_user.Statement.{statement}
 use Rattle.uaccess.proofs.copies.write_user.Tie as tie
-use Rattle.spec.proofs.Ranges.{range-means}
 
 abbrev Inv-loop : tie.InvT-loop
 Inv-loop frames₀ book tags bases table number addr bytes i₀ frames i = (i ≤ length bytes) × (length frames ≡ length frames₀) × (store frames book ≡ pokes (store frames₀ book) number addr (take i bytes))
@@ -23,7 +22,7 @@ abbrev μ-loop : tie.MeasureT-loop
 
 -- the range that has been checked
 top : (c : tie.Start Inv-loop μ-loop) → c .args .addr + length (now (c .args .bytes)) ≤ maxTop
-top c = omega (arith, c .pre .1 .1, range-means (c .pre .1 .0) (memOf (store (now (c .args .frames)) (now (c .args .book))) (c .args .number)) true (c .args .addr) (length (now (c .args .bytes))) (c .pre .1 .2) .top)
+top c = omega (arith, c .pre .1 .1, range-end (c .pre .1 .0) (memOf (store (now (c .args .frames)) (now (c .args .book))) (c .args .number)) true (c .args .addr) (length (now (c .args .bytes))) (c .pre .1 .2))
 
 loop-holds : tie.Need-loop-holds Inv-loop μ-loop
 unfolding pokes
