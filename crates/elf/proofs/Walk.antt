@@ -1,18 +1,17 @@
 -- The walk over all headers of the table, skipped ones too, against the specification's list without them.
 -- Assumes nothing.
 use mathlib.Core.Path.{_≡_, refl, sym, ap, _∙_}
-use mathlib.Core.Bool.{Bool, true, false, not, _&&_, _||_, or-assoc, or-false}
+use mathlib.Core.Bool.{Bool, true, false, _&&_, _||_, or-assoc, or-false}
 use mathlib.Core.List.{List, [], _∷_, map}
-use Prim.Native.Nat.{ℕ, zero, suc, _+_, _-_, _*_, _<_, _≤_}
+use Prim.Native.Nat.{ℕ, zero, suc, _+_, _-_, _<_, _≤_}
 use native.Mathlib.Nat.{not-suc-le-zero}
 use native.Mathlib.Omega.{arith}
-use lib.Dec.{eqb}
 use lib.ListN.{length, take, drop}
 use borrow.Author.Tests.{ne-eqb}
-use Rattle.spec.specs.Tests.{_is_, _⇒_else_, _orElse_, any, filter, within}
+use Rattle.spec.specs.Tests.{_is_, _⇒_else_, any, within}
 use Rattle.spec.specs.Numbers.{pageUp}
 use Rattle.spec.specs.Program.{Segment}
-use Rattle.spec.specs.Elf.{Phdr, phoff, phnum, phdrs, phdrAt, phdrsFrom, loads, flagPerm, phdrError, segmentOf, segmentsOf}
+use Rattle.spec.specs.Elf.{Phdr, phoff, phnum, phdrs, phdrAt, loads, flagPerm, phdrError, segmentOf, segmentsOf}
 use Rattle.spec.proofs.Bools.{split}
 use Rattle.elf.specs.Reader.{inText, left, keep, scanError, stepError, Steps, loadOf, CheckedLoad}
 use Rattle.elf.specs.declared.Segment.{Segment as Held}
@@ -20,7 +19,7 @@ use Rattle.elf.specs.declared.Load.{Load}
 use Rattle.elf.specs.declared.Load.the-variants.{Skip, Segment as Taken}
 use Rattle.elf.specs.declared.Seen.{Seen}
 use Rattle.elf.specs.declared.Step.{Step}
-use Rattle.spec_laws.proofs.Checks.{checks, passed, passes, through, stops}
+use Rattle.spec_laws.proofs.Checks.{passes, through, stops}
 use Rattle.spec_laws.proofs.Headers.{tests, one-header, header-means, file-length}
 use Rattle.elf.proofs.Checked.{AllChecked}
 

@@ -2,10 +2,10 @@
 use Prim.Native.Nat.{ℕ, zero, suc, _+_, _*_, _-_, _≤_, _<_}
 use native.Mathlib.Omega.{arith}
 use mathlib.Core.Path.{_≡_, refl, sym, ap, ap₂, _∙_}
-use mathlib.Core.Bool.{Bool, false, _||_}
+use mathlib.Core.Bool.{false}
 use mathlib.Core.List.{List, [], _∷_, _++_, append-assoc}
 use lib.ListN.{length, getD, take, drop, length-append, length-drop}
-use lib.Seq.{take-add, take-append-le, take-append-seam, take-take, take-length, drop-at, drop-drop, drop-append-seam, length-take-le}
+use lib.Seq.{take-add, take-append-le, take-take, take-length, drop-at, drop-drop, length-take-le}
 use borrow.Rule.Slice.PartMut.{putMid, postOf, take-put}
 use Rattle.spec.specs.Tests.{_is_, any, has}
 use Rattle.spec.specs.Numbers.{leBytes}

@@ -5,7 +5,7 @@ use mathlib.Core.Path.{_≡_, sym, ap, ap₂, _∙_}
 use mathlib.Core.List.{List}
 use lib.ListN.{length, take, drop}
 use Rattle.spec.specs.Frames.{Store, pokes}
-use Rattle.spec.specs.Exec.{strings, stringsAt, argvAt, pointers}
+use Rattle.spec.specs.Exec.{strings, stringsAt, pointers}
 use Rattle.spec.specs.World.{pushIn}
 use Rattle.exec_args.specs.Sizes.{argvBy}
 use Rattle.exec_args.proofs.Places.{strings-at, argv-at}

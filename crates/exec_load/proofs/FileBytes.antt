@@ -1,15 +1,15 @@
 -- Which segment an address's file byte comes from, and where there is none.
-use Prim.Native.Nat.{ℕ, zero, suc, _+_, _*_, _-_, _/_, _≤_, _<_}
+use Prim.Native.Nat.{ℕ, _+_, _-_, _≤_, _<_}
 use native.Mathlib.Omega.{arith}
-use mathlib.Core.Path.{_≡_, refl, sym, ap, _∙_}
+use mathlib.Core.Path.{_≡_, refl}
 use mathlib.Core.Bool.{Bool, true, false}
 use mathlib.Core.List.{List, [], _∷_}
 use lib.ListN.{length, getD}
-use Rattle.spec.specs.Tests.{_is_, within, _⇒_else_}
-use Rattle.spec.specs.Numbers.{pageUp, pageDown}
+use Rattle.spec.specs.Tests.{_is_, _⇒_else_}
+use Rattle.spec.specs.Numbers.{pageUp}
 use Rattle.spec.specs.Program.{Segment, inFile}
 use Rattle.spec.specs.Exec.{fileByte, bssOf}
-use Rattle.spec.proofs.Bools.{split, within-means, within-not}
+use Rattle.spec.proofs.Bools.{split, within-not}
 use Rattle.pagealloc.specs.Contents.{fileAt}
 use Rattle.spec_laws.proofs.Loads.{Loads, AllLoad}
 

@@ -2,24 +2,24 @@
 use Prim.Native.Nat.{ℕ, _+_, _-_, _%_, _^_, _≤_, _<_}
 use native.Mathlib.Omega.{arith}
 use mathlib.Core.Path.{_≡_, refl, sym, ap, ap₂, subst, _∙_}
-use mathlib.Core.Bool.{true, false}
+use mathlib.Core.Bool.{true}
 use mathlib.Core.List.{List, [], _∷_, _++_}
-use lib.ListN.{length, take, drop}
+use lib.ListN.{take, drop}
 use Rattle.spec.specs.Tests.{_is_}
 use Rattle.spec.specs.Numbers.{maxTop, pageBytes, SetupOk}
-use Rattle.spec.specs.Frames.{Store, Page, pagesOf, place}
+use Rattle.spec.specs.Frames.{Store, pagesOf, place}
 use Rattle.spec.specs.Program.{Segment}
 use Rattle.spec.specs.Exec.{layoutOk}
 use Rattle.spec.specs.declared.VirtRange.{VirtRange}
 use Rattle.spec.specs.declared.UserSegment.{UserSegment}
-use Rattle.spec.proofs.Bools.{split, both, not-below}
+use Rattle.spec.proofs.Bools.{split}
 use Rattle.spec.specs.declared.Setup.{Setup}
 use Rattle.elf.specs.declared.Load.{Load}
 use Rattle.elf.specs.declared.Load.the-variants.{Skip, Segment as Taken}
 use Rattle.elf.specs.declared.Segment.{Segment as Held}
 use Rattle.elf.specs.Reader.{Checked, CheckedLoad}
 use Rattle.elf.proofs.Walk.{segmentIn, front}
-use Rattle.spec_laws.proofs.Accepted.{Placed, layout-first}
+use Rattle.spec_laws.proofs.Accepted.{layout-first}
 use Rattle.exec.specs.Pages.{pagesIn}
 use Rattle.pagealloc.specs.Contents.{fileAt}
 use Rattle.exec_load.specs.Pages.{segmentPages, loadPages, LaidLoad}

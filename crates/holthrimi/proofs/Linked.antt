@@ -1,11 +1,11 @@
 -- A run of exported functions is a run under `Does`, as C hears it.
 use Prim.Native.Nat.{ℕ}
 use mathlib.Core.Path.{_≡_, refl, ap₂}
-use mathlib.Core.List.{List, [], _∷_, map}
+use mathlib.Core.List.{List, [], _∷_}
 use Rattle.spec.specs.Machine.{Call}
-use Rattle.spec.specs.World.{State, answer}
-use Rattle.spec.specs.History.{Entry, entry, none-yet, one-more}
-use Rattle.holthrimi.specs.Tells.{toldOf, Heard, no-call, one-call, heardOf, LinkedRuns}
+use Rattle.spec.specs.World.{answer}
+use Rattle.spec.specs.History.{entry, none-yet, one-more}
+use Rattle.holthrimi.specs.Tells.{Heard, no-call, one-call, LinkedRuns}
 use Rattle.holthrimi.specs.declared.told.Told.{Told}
 
 heard-eq : (c : Call) (o p : Told) (b d : List ℕ) → o ≡ p → b ≡ d → _≡_ {A = Heard} (record { call = c; told = o; buffer = b }) (record { call = c; told = p; buffer = d })

@@ -1,25 +1,23 @@
 -- The listing of an image, by its plan.
 -- Assumes nothing.
 use mathlib.Core.Path.{_≡_, refl, sym, ap, _∙_}
-use mathlib.Core.Bool.{Bool, true, false, not}
+use mathlib.Core.Bool.{Bool, true, false}
 use mathlib.Core.List.{List, [], _∷_, _++_, append-assoc}
 use Prim.Native.Nat.{ℕ, _-_, _<_, _≤_}
-use native.Mathlib.Omega.{arith}
-use lib.ListN.{length, take, replicate}
+use lib.ListN.{length, replicate}
 use lib.Seq.{take-append-seam}
 use borrow.Author.Tests.{lt-ltb, le-ltb, eq-eqb, ne-eqb}
-use Rattle.spec.specs.Tests.{_isnt_, _above_, _⇒_else_, ascii}
+use Rattle.spec.specs.Tests.{_isnt_, _⇒_else_, ascii}
 use Rattle.spec.specs.Flags.{builtIn}
 use Rattle.spec.specs.Numbers.{deposit}
 use Rattle.spec.specs.Book.{zeroSegment, stack, pageCount}
 use Rattle.spec.specs.Program.{Program}
 use Rattle.spec.specs.Elf.{elfError, elfProgram}
 use Rattle.spec.specs.Exec.{imageError, programSegments, programBss, startPieces}
-use Rattle.spec.specs.Listing.{listError, decimal, segmentLines, rangeText, programText, listing}
+use Rattle.spec.specs.Listing.{listError, programText, listing}
 use Rattle.spec.specs.declared.UserSegment.{UserSegment}
 use Rattle.spec.specs.declared.Form.the-variants.{Elf}
 use Rattle.spec.proofs.Setups.{deposit-ok}
-use Rattle.exec.specs.declared.Plan.{Plan}
 use Rattle.exec.specs.Plan.{acceptedPlan, planOf}
 use Rattle.exec.proofs.Planned.{plan-accepted}
 use Rattle.text.specs.Text.{numberText, fieldText}

@@ -1,13 +1,11 @@
 -- What a rounding up tells: the address rounded up, or that 64 bits don't hold it.
 use Prim.Native.Nat.{ℕ, _^_, _<_, _≤_}
 use native.Mathlib.Omega.{arith}
-use mathlib.Core.Path.{_≡_, refl, sym, _∙_}
-use mathlib.Core.Bool.{Bool, true, false}
+use mathlib.Core.Path.{_≡_}
 use borrow.Author.Tests.{ltb-true, ltb-false}
-use Rattle.spec.specs.Tests.{_below_, _⇒_else_}
+use Rattle.spec.specs.Tests.{_below_}
 use Rattle.spec.specs.Numbers.{pageUp}
 use Rattle.spec.proofs.Bools.{split}
-use Rattle.mem.specs.declared.Rounded.{Rounded}
 use Rattle.mem.specs.declared.Rounded.the-variants.{To, Past}
 use Rattle.mem.specs.Rounding.{roundedUp}
 

@@ -1,11 +1,11 @@
 -- `ibrk`'s rule for a bss that is set, case by case.
 use Prim.Native.Nat.{ℕ, _+_, _*_, _-_, _/_, _^_, _≤_, _<_}
 use native.Mathlib.Omega.{arith}
-use mathlib.Core.Path.{_≡_, refl}
+use mathlib.Core.Path.{_≡_}
 use mathlib.Core.Option.{some}
 use borrow.Author.Tests.{eq-eqb, ne-eqb, lt-ltb, le-ltb}
 use Rattle.spec.specs.Numbers.{limit, pageUp}
-use Rattle.spec.specs.Segment.{Break, refusedBy, endsAt, ibrk}
+use Rattle.spec.specs.Segment.{refusedBy, endsAt, ibrk}
 use Rattle.spec.specs.declared.VirtRange.{VirtRange}
 use Rattle.spec.specs.declared.Setup.{Setup}
 

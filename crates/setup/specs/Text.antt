@@ -1,6 +1,6 @@
 -- What is put into a buffer of a setup's lines, and of what the program numbers prints of a file.
 -- Assumes nothing.
-use mathlib.Core.List.{List, [], _∷_, _++_}
+use mathlib.Core.List.{List, [], _++_}
 use Prim.Native.Nat.{ℕ}
 use Rattle.spec.specs.Tests.{ascii, _below_, _⇒_else_}
 use Rattle.spec.specs.Numbers.{limit, argLimit}

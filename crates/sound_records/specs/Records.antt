@@ -2,11 +2,9 @@
 -- record is tested before the book is looked at, so that a permission that no word could have is refused here; the check as a whole
 -- comes to `soundBook`.
 -- Assumes nothing.
-use Prim.Native.Nat.{ℕ, _%_, _<_}
-use mathlib.Core.Path.{_≡_}
-use mathlib.Core.Bool.{Bool, true, false, not, _&&_, _||_}
+use Prim.Native.Nat.{ℕ, _%_}
+use mathlib.Core.Bool.{Bool, false, not, _&&_, _||_}
 use mathlib.Core.List.{List, [], _∷_}
-use lib.ListN.{length, getD}
 use Rattle.spec.specs.Tests.{_is_, _below_, _above_, _⇒_else_, all}
 use Rattle.spec.specs.Numbers.{limit}
 use Rattle.spec.specs.Book.{sameSegment, unused, lives, stack}
@@ -14,7 +12,6 @@ use Rattle.spec.specs.Sound.{bssOk}
 use Rattle.spec.specs.declared.VirtRange.{VirtRange}
 use Rattle.spec.specs.declared.UserSegment.{UserSegment}
 use Rattle.spec.specs.declared.Proc.{Proc}
-use Rattle.spec.specs.declared.Procs.{Procs}
 use Rattle.spec.specs.declared.Setup.{Setup}
 
 -- a segment of the image, from `low` on

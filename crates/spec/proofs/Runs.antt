@@ -1,8 +1,8 @@
 -- A run of functions that each did what its contract says leads to the definitions' state, and its entries are the definitions'.
 use mathlib.Core.Path.{_≡_, refl, ap, ap₂, _∙_}
-use mathlib.Core.List.{List, [], _∷_, map}
+use mathlib.Core.List.{List, _∷_, map}
 use Rattle.spec.specs.Machine.{Call, Reply}
-use Rattle.spec.specs.World.{State, answer, after, Does}
+use Rattle.spec.specs.World.{State, answer, after}
 use Rattle.spec.specs.History.{Entry, state, entry, entries, Ran, none-yet, one-more}
 
 abbrev pub callsOf : List Entry → List Call

@@ -1,12 +1,11 @@
 -- The machine numbers in a file: worked examples of what is read.
-use Prim.Native.Nat.{ℕ, _+_, _^_}
+use Prim.Native.Nat.{ℕ, _+_}
 use mathlib.Core.Path.{_≡_, refl}
-use mathlib.Core.Bool.{Bool, true, _&&_}
-use mathlib.Core.List.{List, [], _∷_, _++_, map}
-use Rattle.spec.specs.Tests.{_is_, _⇒_else_, all, ascii, same}
+use mathlib.Core.Bool.{true}
+use mathlib.Core.List.{List, [], _∷_, _++_}
+use Rattle.spec.specs.Tests.{_is_, all, ascii}
 use Rattle.spec.specs.Numbers.{setupOk, deposit}
-use Rattle.spec.specs.SetupText.{setupText, readSetup, Read}
-use Rattle.spec.specs.declared.Setup.{Setup}
+use Rattle.spec.specs.SetupText.{setupText, readSetup}
 
 -- the deposit's numbers are written as the request says
 pub deposit-text : setupText deposit ≡ ascii "UTZERO=65536\nUSTKTOP=140737488355328\nUSTKSIZE=16384\nUADDRTOP=140737488355328\n"

@@ -1,7 +1,7 @@
 -- 02, 7/13, for the reader: the record `Tables` holds.
 use Prim.Native.Nat.{ℕ, _%_}
 use native.Mathlib.Omega.{arith}
-use mathlib.Core.Path.{_≡_, refl, sym, ap, _∙_}
+use mathlib.Core.Path.{_≡_, refl, ap, _∙_}
 use mathlib.Core.Bool.{Bool, true, false, not, _&&_}
 use Rattle.spec.specs.Tests.{_isnt_, _⇒_else_}
 use Rattle.spec.specs.Flags.{builtIn, flagsOk}

@@ -1,5 +1,5 @@
 -- Book words: what a word is taken apart into is what it was packed from.
-use Prim.Native.Nat.{ℕ, _+_, _*_, _/_, _%_, _≤_, _<_}
+use Prim.Native.Nat.{ℕ, _%_, _≤_, _<_}
 use native.Mathlib.Omega.{arith}
 use mathlib.Core.Path.{_≡_}
 use Rattle.spec.specs.Book.{wordOf, pageOf, ownerOf, permOf}

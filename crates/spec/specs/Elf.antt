@@ -2,10 +2,10 @@
 -- is any bytes; what is not checked here isn't read.
 -- Assumes nothing.
 use Prim.Native.Nat.{ℕ, zero, suc, _+_, _*_, _-_, _%_, _^_}
-use mathlib.Core.Bool.{Bool, true, false, not, _&&_, _||_}
+use mathlib.Core.Bool.{Bool, not, _&&_, _||_}
 use mathlib.Core.List.{List, [], _∷_, map}
 use lib.ListN.{length, take, drop, getD}
-use Rattle.spec.specs.Tests.{_is_, _isnt_, _below_, _above_, _⇒_else_, _orElse_, all, any, filter, same}
+use Rattle.spec.specs.Tests.{_is_, _isnt_, _below_, _above_, _⇒_else_, _orElse_, any, filter, same}
 use Rattle.spec.specs.Numbers.{pageUp, pageDown, le}
 use Rattle.spec.specs.Program.{Segment, inFile, Program}
 use Rattle.spec.specs.declared.ElfError.{ElfError}

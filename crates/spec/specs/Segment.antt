@@ -6,7 +6,7 @@ use mathlib.Core.Option.{Option, none, some}
 use Rattle.spec.specs.Tests.{_is_, _below_, _above_, within, _⇒_else_}
 use Rattle.spec.specs.Numbers.{limit, pageUp}
 use Rattle.spec.specs.Book.{range}
-use Rattle.spec.specs.Frames.{Cell, Mem}
+use Rattle.spec.specs.Frames.{Mem}
 use Rattle.spec.specs.declared.Setup.{Setup}
 use Rattle.spec.specs.declared.VirtRange.{VirtRange}
 

@@ -1,15 +1,14 @@
 -- A number's digits, written from the last to the first.
 -- Assumes nothing.
-use mathlib.Core.Path.{_≡_, refl, sym, ap, ap₂, _∙_}
-use mathlib.Core.Bool.{Bool, true, false}
+use mathlib.Core.Path.{_≡_, ap, ap₂, _∙_}
 use mathlib.Core.List.{List, [], _∷_, _++_, append-assoc}
-use Prim.Native.Nat.{ℕ, zero, suc, _+_, _-_, _*_, _/_, _%_, _^_, _<_, _≤_}
+use Prim.Native.Nat.{ℕ, zero, suc, _+_, _-_, _/_, _%_, _^_, _<_, _≤_}
 use native.Mathlib.Nat.{not-suc-le-zero, pow-suc}
 use native.Mathlib.Omega.{arith}
-use lib.ListN.{length, getD, drop, set, length-set}
+use lib.ListN.{length, drop, set}
 use lib.Seq.{drop-cons, drop-set-lt, getD-set-same, lt-length-set}
 use borrow.Author.Tests.{lt-ltb, le-ltb}
-use Rattle.spec.specs.Listing.{decimalOf, decimal}
+use Rattle.spec.specs.Listing.{decimalOf}
 
 -- one more digit in front of those written
 front : (digits : List ℕ) (j d : ℕ) → j < length digits → drop j (set digits j d) ≡ d ∷ drop (suc j) digits

@@ -1,5 +1,5 @@
 -- `measured_copy` meets its contract: the copy, or nothing where the lengths differ.
-use mathlib.Core.Path.{_≡_, refl}
+use mathlib.Core.Path.{refl}
 use borrow.Author.Needs.{needs}
 use borrow.Author.Tests.{eq-eqb, ne-eqb}
 use Rattle.bench_loops.proofs.measured_copy.Statement.{statement}

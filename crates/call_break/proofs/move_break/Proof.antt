@@ -1,7 +1,7 @@
 -- `move_break` meets its contract: the pages move, and the record has the new end.
 use Prim.Native.Nat.{_%_}
 use native.Mathlib.Omega.{arith}
-use mathlib.Core.Path.{sym, ap, _∙_}
+use mathlib.Core.Path.{ap, _∙_}
 use denote.Ref.{now}
 use borrow.Author.Needs.{needs}
 use Rattle.spec.specs.World.{setProc, brk, stateOf}

@@ -1,10 +1,8 @@
 -- `end` meets its contract.
 use mathlib.Core.Path.{refl, sym, _∙_}
-use denote.Ref.{now}
 use borrow.Author.Needs.{needs}
 use Rattle.spec.specs.Machine.{end, plainly}
 use Rattle.spec.specs.declared.Answer.the-variants.{Done}
-use Rattle.spec.specs.World.{stateOf}
 use Rattle.call_front.proofs.FirstNumbers.{plain-none}
 use Rattle.call_front.proofs.Answers.{plain-refused, plain-goes}
 use Rattle.call_end.proofs.end.Statement.{statement}

@@ -1,5 +1,4 @@
 -- `install_with` meets its contract: arguments that pass fit a buffer, and are installed from it.
-use mathlib.Core.Path.{_≡_}
 use Prim.Native.Nat.{ℕ}
 use native.Mathlib.Omega.{arith}
 use mathlib.Core.List.{List}

@@ -1,6 +1,6 @@
 -- `listing_cases::read` meets its contract: what was read counts bytes of the whole buffer too.
 -- Assumes nothing.
-use mathlib.Core.Path.{_≡_, sym}
+use mathlib.Core.Path.{sym}
 use mathlib.Core.List.{List, _++_}
 use Prim.Native.Nat.{ℕ, _≤_}
 use native.Mathlib.Omega.{arith}

@@ -1,10 +1,8 @@
 -- `put_listing` meets its contract: each text is the listing's, by the plan's numbers.
 -- Assumes nothing.
-use mathlib.Core.Path.{_≡_, refl, sym, subst, ap, _∙_}
-use Prim.Native.Nat.{ℕ, _≤_}
+use mathlib.Core.Path.{_≡_, sym, subst, ap, _∙_}
 use native.Mathlib.Omega.{arith}
 use denote.Ref.{now}
-use lib.ListN.{length}
 use borrow.Author.Needs.{needs}
 use Rattle.spec.specs.Flags.{builtIn}
 use Rattle.spec.specs.Numbers.{SetupOk, deposit}

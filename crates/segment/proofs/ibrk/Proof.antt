@@ -1,5 +1,5 @@
 -- `segment::ibrk` meets its contract: with no bss 32, and otherwise what `moved` gives.
-use mathlib.Core.Path.{_≡_, sym, ap, _∙_}
+use mathlib.Core.Path.{sym, ap, _∙_}
 use mathlib.Core.Option.{Option}
 use borrow.Author.Needs.{needs}
 use Rattle.spec.specs.Segment.{ibrk}

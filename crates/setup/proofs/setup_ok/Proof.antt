@@ -1,9 +1,9 @@
 -- `numbers::setup_ok` meets its contract, test by test; a stack that starts below 8,192 leaves no room for text.
 use Prim.Native.Nat.{ℕ, _+_, _-_, _^_, _≤_, _<_}
 use native.Mathlib.Omega.{arith}
-use mathlib.Core.Path.{_≡_, refl, sym, _∙_}
+use mathlib.Core.Path.{_≡_}
 use mathlib.Core.Bool.{false, not, and-false}
-use lib.Dec.{leb, ltb}
+use lib.Dec.{leb}
 use borrow.Author.Needs.{needs}
 use borrow.Author.Tests.{leb-true, leb-false, lt-ltb, le-ltb}
 use Rattle.spec.specs.Tests.{_above_}

@@ -1,5 +1,5 @@
 -- `holthrimi_args_error` meets its contract.
-use mathlib.Core.Path.{_≡_, refl, sym, ap, _∙_}
+use mathlib.Core.Path.{refl, sym, ap, _∙_}
 use borrow.Author.Needs.{needs}
 use borrow.Author.Tests.{not-false, not-true, eqb-true}
 use Rattle.spec.proofs.Chain.{number-first, number-next}
