@@ -137,8 +137,8 @@ enum {
     HOLTHRIMI_NUMBER = 3,    /* a process's number outside 1 to 16 */
     HOLTHRIMI_DEAD = 4,      /* the process isn't living */
     HOLTHRIMI_TAKEN = 5,     /* the new process's number lives */
-    /* 11 to 27, 42 and 43 are the image's own: see holthrimi_parse */
-    HOLTHRIMI_EBADEXEC = 30, /* the image's layout, or any of 11 to 27, 42 and 43 */
+    /* 11 to 28, 42 and 43 are the image's own: see holthrimi_parse */
+    HOLTHRIMI_EBADEXEC = 30, /* the image's layout, or any of 11 to 28, 42 and 43 */
     HOLTHRIMI_TOO_MANY = 31, /* over 15 segments recorded */
     HOLTHRIMI_EBADARG = 32,  /* a NUL in an argument; a break without bss */
     HOLTHRIMI_ENOVMEM = 33,  /* arguments over the limit; break; too few frames */
@@ -304,13 +304,14 @@ uint64_t holthrimi_check(struct holthrimi_setup setup,
  * above. An ELF's are:
  * 11 under 64 bytes; 12 magic; 13 not ELF64; 14 not little-endian; 15 version; 16 not executable; 17 not aarch64; 18 size of a program
  * header; 19 entry not a multiple of 4; 20 the header table leaves the image; then for each program header, in table order: 21 file
- * size above memory size; 22 file bytes leave the image; 23 address and offset differ modulo 4,096; 24 it ends above 2^64 - 4,096;
- * 25 flags; 26 its first page is below an earlier segment's page end; then 27 the entry is not in the file bytes of a text segment.
+ * size above memory size; 22 file bytes leave the image; 23 address and offset differ modulo 4,096; 28 an alignment that is not 0, 1 or
+ * a power of two, or modulo which address and offset differ; 24 it ends above 2^64 - 4,096; 25 flags; 26 its first page is below an
+ * earlier segment's page end; then 27 the entry is not in the file bytes of a text segment.
  */
 uint64_t holthrimi_parse(struct holthrimi_setup setup, bool aout, uint32_t magic, const uint8_t *image, size_t image_bytes);
 
 /*
- * What a start needs of an image: number is 38, 39, 30, 31 or 0; with 30, own is the number of its form's reader, 11 to 27 of an ELF and
+ * What a start needs of an image: number is 38, 39, 30, 31 or 0; with 30, own is the number of its form's reader, 11 to 28 of an ELF and
  * 42, 43, 19 or 27 of an a.out, or 0 if it is the layout's. Then the entry point; the record's segments, `count` of the image, then the
  * stack; the bss; and the pages that a start takes, with the stack. All but number and own are zeros if it is refused.
  */

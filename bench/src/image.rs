@@ -34,7 +34,7 @@ fn image(len: usize, headers: &[Header]) -> Vec<u8> {
         let at = 64 + 56 * i;
         put(at, &1u32.to_le_bytes());
         put(at + 4, &h.flags.to_le_bytes());
-        for (k, v) in [(8, h.offset), (16, h.vaddr), (32, h.filesz), (40, h.memsz)] {
+        for (k, v) in [(8, h.offset), (16, h.vaddr), (32, h.filesz), (40, h.memsz), (48, 4_096)] {
             put(at + k, &(v as u64).to_le_bytes());
         }
     }

@@ -27,7 +27,7 @@ pub const RODATA: u64 = 2;
 /// and data read and written.
 pub const DATA: u64 = 3;
 
-/// The numbers of refusals; an image's own are 11 to 27, 42 and 43 (`holthrimi_parse` in `include/holthrimi.h`).
+/// The numbers of refusals; an image's own are 11 to 28, 42 and 43 (`holthrimi_parse` in `include/holthrimi.h`).
 pub mod number {
     /// Not 4,096 bytes and 17 words a frame, frames outside 1 to 1,024, or argument lengths don't sum to their bytes.
     pub const SIZES: u64 = 1;
@@ -39,7 +39,7 @@ pub mod number {
     pub const DEAD: u64 = 4;
     /// The new process's number lives.
     pub const TAKEN: u64 = 5;
-    /// The image's layout, or any of 11 to 27, 42 and 43.
+    /// The image's layout, or any of 11 to 28, 42 and 43.
     pub const EBADEXEC: u64 = 30;
     /// Over 15 segments recorded.
     pub const TOO_MANY: u64 = 31;
@@ -452,7 +452,7 @@ pub fn plan(setup: Setup, form: Form, image: &[u8]) -> Result<Plan> {
     Ok(Plan { entry: p.entry, segments: p.segments, count: p.count, bss: p.bss, pages: p.pages })
 }
 
-/// The check of an image by the reader of its form; refused with 38 or 39, then with one of 11 to 27 for an ELF, and with 42, 43, 19 or
+/// The check of an image by the reader of its form; refused with 38 or 39, then with one of 11 to 28 for an ELF, and with 42, 43, 19 or
 /// 27, in this order, for an a.out.
 pub fn parse(setup: Setup, form: Form, image: &[u8]) -> Result<()> {
     let (aout, magic) = form.named();

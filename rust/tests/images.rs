@@ -1,7 +1,10 @@
 // The images of tests/images through `parse` and `plan`: ELFs with the listings that crate listing_cases must write, and Plan 9's a.outs
-// with the numbers of their reader, which tests/compare/model.py gives.
+// with the numbers of their reader, which tests/compare/model.py gives; and the linkers' programs through a start.
+
+mod memory;
 
 use holthrimi::{number, parse, plan, Form, Refusal, Setup, RODATA, TEXT};
+use memory::Memory;
 use std::fmt::Write;
 
 /// The listing of a plan.
@@ -55,8 +58,41 @@ fn elfs() {
         listings = listings.strip_prefix(&text).unwrap_or_else(|| panic!("{name}: {text}"));
     }
     assert_eq!(listings, "");
-    assert!([0].into_iter().chain(11..=27).chain([30, 31]).all(|n| seen[n] > 0), "{seen:?}");
+    assert!([0].into_iter().chain(11..=28).chain([30, 31]).all(|n| seen[n] > 0), "{seen:?}");
     println!("{} images", seen.iter().sum::<i32>());
+}
+
+/// The loadable headers of a program: offset, address, file size, memory size and alignment.
+fn headers(image: &[u8]) -> Vec<[u64; 5]> {
+    let field = |at: usize, n: usize| image[at..at + n].iter().rev().fold(0, |v, b| v * 256 + u64::from(*b));
+    let table = field(32, 8) as usize;
+    let places = (0..field(56, 2) as usize).map(|i| table + 56 * i).filter(|at| field(*at, 4) == 1);
+    places.map(|at| [8, 16, 32, 40, 48].map(|k| field(at + k, 8))).collect()
+}
+
+// Programs of the GNU linker, with pages of 4,096 and of 65,536: what start accepts reads back as the file has it, and zeros behind.
+#[test]
+fn programs() {
+    let mut seen = std::collections::BTreeMap::new();
+    for file in std::fs::read_dir("../tests/images/programs").unwrap() {
+        let image = std::fs::read(file.unwrap().path()).unwrap();
+        let Ok(p) = plan(Setup::DEPOSIT, Form::Elf, &image) else { continue };
+        if p.pages > 1024 {
+            continue;
+        }
+        let mut m = Memory::new(p.pages as usize);
+        m.lent().start(1, Form::Elf, &image, b"lex", b"", &[]).unwrap();
+        for [offset, vaddr, filesz, memsz, align] in headers(&image) {
+            let mut expected = image[offset as usize..][..filesz as usize].to_vec();
+            expected.resize(memsz as usize, 0);
+            let mut got = vec![1; memsz as usize];
+            m.lent().copy_from_user(1, &mut got, vaddr).unwrap();
+            assert_eq!(got, expected);
+            *seen.entry(align).or_insert(0) += 1;
+        }
+    }
+    println!("segments by alignment: {seen:?}");
+    assert!(seen[&4096] > 0 && seen[&65536] > 0, "{seen:?}");
 }
 
 /// Bytes in hexadecimal, or `-` for none.

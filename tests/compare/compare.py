@@ -8,8 +8,8 @@
     compare.py recorded A [--sets] [--tables] [--aouts]   all scripts of tests/replay, beside their recorded answers
     compare.py books A B                                  every word of a small book changed (books.py)
     compare.py images SEED COUNT A B                      the listing: every one-byte change and every prefix of the
-                                                          184-byte image, the images of tests/replay/images.txt, and
-                                                          COUNT random images
+                                                          184-byte image, the images of tests/replay/images.txt and of
+                                                          the listing's cases, and COUNT random images
     compare.py write SEED COUNT [--small] [--sets] [--tables] [--aouts] [--bad]
                                                           the random script on standard output
 
@@ -23,9 +23,11 @@ write an answer for each line: `target/oracle/release/oracle`, `target/bin/repla
 --aouts: images that are Plan 9 a.outs too, in histories and directed scripts.
 --bad: more calls that name a bad address, in histories.
 The oracle has document 01's numbers and table and ELF alone, so it is compared without. It names no bad address either: beside it
-answers are compared without their addresses (`of_both`); all others are compared in full.
+answers are compared without their addresses (`of_both`); all others are compared in full. And it does not read the alignment field,
+for which 28 refuses images: start and replace of such an image are put to it with no bytes in the image's place (`for_rust`), which
+30 answers too, and the image by itself, whose listing must be that of the papers without 28 (`with_28`).
 
-Of the oracle's answers it counts those that are its harness's own needs of frames and not the Rust's.
+It counts the answers that are the oracle's own needs of frames and not the Rust's, and the images that 28 refuses beside the oracle.
 """
 import os
 import random
@@ -39,16 +41,19 @@ from collections import Counter
 HERE = os.path.dirname(os.path.abspath(__file__))
 ROOT = os.path.dirname(os.path.dirname(HERE))
 REPLAY = os.path.join(ROOT, 'tests', 'replay')
-sys.path.insert(0, HERE)
+sys.path[:0] = HERE, os.path.join(ROOT, 'tests', 'images')
 import books  # noqa: E402
 from elf import change  # noqa: E402
 from histories import History  # noqa: E402
 from papers.flags import BUILT_IN, read_table, table_ok  # noqa: E402
-from papers.machine import TEXT  # noqa: E402
+from papers.image import parse  # noqa: E402
+from papers.listing import listing  # noqa: E402
+from papers.machine import TEXT, Refused  # noqa: E402
 from papers.setup import DEPOSIT, read  # noqa: E402
 from random_images import EXAMPLE, any_image, random_image  # noqa: E402
 from random_sets import random_set, random_table  # noqa: E402
-from script import bytes_of, shown  # noqa: E402
+from readelf_check import read_cases  # noqa: E402
+from script import LINE_MAX, BadLine, bytes_of, shown  # noqa: E402
 
 CALLS_A_HISTORY = 40
 HISTORIES_A_RUN = 50
@@ -64,6 +69,8 @@ DRAWN = '--small', *OPTIONS, '--bad'
 ADDRESS = re.compile(rb'(ended 35|ok no|refused 35(?= \d+ )) \d+')
 # Forks and replaces that the oracle answered by its harness's needs of frames, with the frames of its book as they were.
 NEEDS = Counter()
+# Images that 28 refuses and the oracle was asked for, and how many of them it lists.
+BY_28 = Counter()
 
 
 def run(command, data):
@@ -90,10 +97,72 @@ def whole(out):
     return got
 
 
+def is_oracle(command):
+    return os.path.basename(shlex.split(command)[0]) == 'oracle'
+
+
+def image_of(line):
+    """The ELF image of a line that starts or replaces one, or None."""
+    name, *words = line.split(b' ')
+    if name not in (b'start', b'replace') or len(words) < 3 or len(line) > LINE_MAX:
+        return None
+    try:
+        # Files are named from the root.
+        return bytes_of(b'@' + os.path.join(ROOT.encode(), words[2][1:]) if words[2][:1] == b'@' else words[2])
+    except BadLine:
+        return None
+
+
+def refused_with_28(image):
+    """Whether the papers do, under document 01's table, the only one that the oracle has."""
+    try:
+        parse(image, BUILT_IN)
+    except Refused as r:
+        return r.args[0] == 28
+    return False
+
+
+def for_rust(lines):
+    """Lines as the oracle gets them, and the images that it gets by themselves, by the places of their lines. The Rust doesn't read the
+    alignment field (request 1 of document 02): an image that 28 refuses is exchanged for one of no bytes, which 30 answers too."""
+    out, images = asked(lines), {}
+    for at, line in enumerate(out):
+        image = image_of(line)
+        if image is not None and refused_with_28(image):
+            words = line.split(b' ')
+            out[at], images[at] = b' '.join(words[:3] + [b'-'] + words[4:]), image
+    return out, images
+
+
+def on_one_line(lines):
+    return ';'.join(lines).encode()
+
+
+def with_28(image, listed):
+    """What the Rust lists, as it is compared: `refused=28` for an image that the papers refuse so, if without 28 they list it the
+    same."""
+    if listing(image) != ['refused=28']:
+        return listed
+    without = on_one_line(listing(image, alignment=False))
+    BY_28.update(images=1, listed=not listed.startswith(b'refused'))
+    return b'refused=28' if listed == without else listed + b' (the papers without 28: ' + without + b')'
+
+
+def by_28():
+    """What `with_28` counted."""
+    return ', %(images)d images refused with 28 (%(listed)d of them listed by the Rust)' % BY_28 if BY_28['images'] else ''
+
+
 def answers(command, lines):
-    """The answers of a command to script lines; one more if it failed."""
+    """The answers of a command to script lines; one more if it failed. The oracle gets the lines as `for_rust` says; if it lists one of
+    those images otherwise than the papers, that is its answer."""
+    lines, images = for_rust(lines) if is_oracle(command) else (lines, {})
     out, failed = run(command, b'\n'.join(lines) + b'\n')
-    return whole(out) + ([failed.encode()] if failed else [])
+    got = whole(out) + ([failed.encode()] if failed else [])
+    for (at, image), listed in zip(images.items(), listings(command + ' lists', list(images.values())) if images else []):
+        if listed != on_one_line(listing(image)):
+            got[at:at + 1] = [listed]
+    return got
 
 
 def without_address(answer):
@@ -103,7 +172,7 @@ def without_address(answer):
 
 def of_both(a, b, x, y):
     """What both answered, as it is compared: beside the Rust, which names no bad address (request 4 of document 02), without it."""
-    if any(os.path.basename(shlex.split(command)[0]) == 'oracle' for command in (a, b)):
+    if is_oracle(a) or is_oracle(b):
         return [[without_address(answer) for answer in got] for got in (x, y)]
     return x, y
 
@@ -181,6 +250,7 @@ class Count:
         self.calls, self.kinds, self.aouts, self.sums = Counter(), Counter(), Counter(), 0
         self.handed = {'numbers': set(), 'flags': set()}
         NEEDS.clear()
+        BY_28.clear()
 
     def add(self, lines, got):
         for line, answer in zip(asked(lines), got):
@@ -210,7 +280,7 @@ class Count:
 
     def show(self, what, seconds):
         made = sum(self.calls.values())
-        print('%s: no difference in %d calls and %d sums%s, %.0f s' % (what, made, self.sums, self.under(), seconds))
+        print('%s: no difference in %d calls and %d sums%s%s, %.0f s' % (what, made, self.sums, self.under(), by_28(), seconds))
         print('  calls: ' + ', '.join('%s %d' % (n, self.calls[n]) for n in COUNTED if self.calls[n]))
         order = sorted(self.kinds, key=lambda k: (k.split()[0], int(k.split()[1]) if ' ' in k else 0))
         print('  answers: ' + ', '.join('%s: %d' % (k, self.kinds[k]) for k in order))
@@ -280,7 +350,7 @@ def compare_recorded(a, options):
             print('%s: first difference at call %d\n> %s\n    recorded %s\n    A %s' % (
                 os.path.relpath(file, ROOT), at + 1, cut(b''.join(asked(lines)[at:at + 1])), *map(cut, both(x, y, at))))
             return False
-    print('%s: %d recorded scripts, the same answers' % (os.path.basename(a), len(files)))
+    print('%s: %d recorded scripts, the same answers%s' % (os.path.basename(a), len(files), by_28()))
     return True
 
 
@@ -323,13 +393,15 @@ def compare_books(a, b):
 
 
 def images_to_list(seed, count):
-    """Every prefix and every one-byte change of the example, the images of the directed script, random images."""
+    """Every prefix and every one-byte change of the example, the images of the directed script and of the listing's cases, random
+    images."""
     yield from (EXAMPLE[:n] for n in range(len(EXAMPLE) + 1))
     yield from (change(EXAMPLE, at, 1, v) for at in range(len(EXAMPLE)) for v in range(256) if v != EXAMPLE[at])
     yield from (EXAMPLE + bytes(n - len(EXAMPLE)) for n in (32768, 32769))
     with open(os.path.join(REPLAY, 'images.txt'), 'rb') as f:
         lines = (line.split() for line in f)
         yield from (bytes_of(words[3]) for words in lines if words[:1] == [b'start'])
+    yield from (image for _, image, _ in read_cases())
     r = random.Random('images/%s' % seed)
     for _ in range(count):
         yield r.choice([any_image, random_image])(r, 'big' if r.random() < 0.1 else 'plain')
@@ -339,13 +411,16 @@ def listings(command, images):
     if command.endswith(' lists'):
         out, failed = run(command, b''.join(shown(i).encode() + b'\n' for i in images))
         got = out.split(b'\n')[:-1]
-        return got + [failed.encode()] * (len(images) - len(got))
-    both = (run(command, i) for i in images)
-    return [(out.rstrip(b'\n').replace(b'\n', b';') + failed.encode()) for out, failed in both]
+        got += [failed.encode()] * (len(images) - len(got))
+    else:
+        both = (run(command, i) for i in images)
+        got = [(out.rstrip(b'\n').replace(b'\n', b';') + failed.encode()) for out, failed in both]
+    return list(map(with_28, images, got)) if is_oracle(command) else got
 
 
 def compare_images(seed, count, a, b):
     begin, kinds, n = time.time(), Counter(), 0
+    BY_28.clear()
     images = list(images_to_list(seed, count))
     for at in range(0, len(images), 5000):
         part = images[at:at + 5000]
@@ -355,7 +430,7 @@ def compare_images(seed, count, a, b):
                 print('image %d differs:\n  %s\n  A %s\n  B %s' % (n, shown(image), x.decode(), y.decode()))
                 return False
             kinds[x.decode().split(';')[0] if x.startswith(b'refused') else 'listed'] += 1
-    print('seed %s: no difference in the listings of %d images, %.0f s' % (seed, n, time.time() - begin))
+    print('seed %s: no difference in the listings of %d images%s, %.0f s' % (seed, n, by_28(), time.time() - begin))
     print('  ' + ', '.join('%s: %d' % (k, kinds[k]) for k in sorted(kinds, key=lambda k: (len(k), k))))
     return True
 

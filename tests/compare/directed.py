@@ -9,8 +9,8 @@ import os
 import sys
 
 import aout as plan9
-from boundaries import (access, addresses, aout, brk, flag_texts, flags, fork, form, frames, images, numbers, push, replace, sets, shared,
-                        start, texts)
+from boundaries import (access, addresses, alignment, aout, brk, flag_texts, flags, fork, form, frames, images, numbers, push, replace,
+                        sets, shared, start, texts)
 from papers.flags import table_lines
 from papers.setup import written
 from random_images import EXAMPLE
@@ -20,7 +20,7 @@ REPLAY, IMAGES = (os.path.join(os.path.dirname(HERE), name) for name in ('replay
 SCRIPTS = [images.images, start.examples, start.args, push.push, brk.brk, frames.frames, access.access, access.strings,
            replace.replace, start.names, fork.fork, numbers.numbers, frames.sizes, brk.rule, frames.history, form.form, form.files,
            sets.sets, texts.texts, flags.flags, flag_texts.flag_texts, shared.shared, shared.orders, shared.torn, aout.aout,
-           addresses.addresses, addresses.address_sets]
+           addresses.addresses, addresses.address_sets, alignment.alignment]
 
 
 def main(argv):

@@ -3,9 +3,10 @@
 
     misread.py [--all]    --all names every script that notices an edit, and not only the first
 
-Each edit is made in a copy of the model outside the repository, and the scripts of its request are run through it: those of bad
-addresses for request 4, those with a line `flags` for request 7, those with an a.out for request 9, and for this the cases of its
-reader by itself, tests/images/aouts.txt.
+Each edit is made in a copy of the model outside the repository, and the scripts of its request are run through it: those of
+alignments for request 1, those of bad addresses for request 4, those with a line `flags` for request 7, those with an a.out for
+request 9. Start and replace answer 30 for most of an image's numbers alike, so for request 1 the listing's cases follow, and for
+request 9 the cases of the reader of a.outs by itself, tests/images/aouts.txt.
 """
 import os
 import re
@@ -17,10 +18,13 @@ import tempfile
 HERE = os.path.dirname(os.path.abspath(__file__))
 ROOT = os.path.dirname(os.path.dirname(HERE))
 REPLAY, IMAGES = (os.path.join(ROOT, 'tests', name) for name in ('replay', 'images'))
+sys.path.insert(0, IMAGES)
+from readelf_check import read_cases  # noqa: E402
+
 MODEL = 'model.py', 'script.py', 'papers'
 # Of each request, a line that its scripts have.
-LINES = {'Request 4': re.compile(rb'^# Bad addresses', re.M), 'Request 7': re.compile(rb'^flags', re.M),
-         'Request 9': re.compile(rb'^(start|replace) [^ ]+ [^ ]+ aout=', re.M)}
+LINES = {'Request 1': re.compile(rb'^# Alignments', re.M), 'Request 4': re.compile(rb'^# Bad addresses', re.M),
+         'Request 7': re.compile(rb'^flags', re.M), 'Request 9': re.compile(rb'^(start|replace) [^ ]+ [^ ]+ aout=', re.M)}
 
 
 def edits():
@@ -55,6 +59,9 @@ def scripts(request):
             lines, answers = recorded(REPLAY, name)
             if LINES[request].search(lines):
                 yield name, [], lines, answers
+    if request == 'Request 1':
+        images, listings = zip(*((image.hex() or '-', ';'.join(listing)) for _, image, listing in read_cases()))
+        yield "the listing's cases", ['lists'], *('\n'.join(lines + ('',)).encode() for lines in (images, listings))
     if request == 'Request 9':
         yield 'aouts.txt', ['aouts'], *recorded(IMAGES, 'aouts.txt')
 

@@ -26,6 +26,21 @@ def random_row(r, table, perm):
     return r.choice(fit or range(8))
 
 
+def random_align(r, vaddr, offset):
+    """An alignment, mostly one that asks for nothing or that address and offset agree modulo."""
+    way = r.random()
+    if way < 0.5:
+        return PAGE
+    agreed = 63                                       # of powers of two the largest that they agree modulo
+    while (vaddr - offset) % 2**agreed:
+        agreed -= 1
+    power = r.choice([1, 12, agreed, agreed, r.randint(1, agreed)])
+    if way < 0.985:
+        return r.choice([0, 1, 2**power, 2**power, 2**power])
+    return r.choice([2**agreed * 2 % 2**64, 2**r.randint(agreed, 63), 2**power + 1, 2**power - 1, 3 * 2**power % 2**64,
+                     2**r.randrange(64), r.getrandbits(20), r.getrandbits(64), MAX])
+
+
 def random_image(r, size='plain', setup=DEPOSIT):
     """An ELF image of 1 to 16 headers, mostly one that loads; `small` ones have up to 3, `big` ones more bytes."""
     count = r.choice([1, 1, 2, 2, 2, 3, 3, 4, 5, 6, 8, 12, 15, 16])
@@ -44,11 +59,11 @@ def random_image(r, size='plain', setup=DEPOSIT):
         odd = r.random()
         if count > 1 and not dense and odd < 0.08:
             fields = [r.getrandbits(64) for _ in range(4)]
-            table_bytes += program(r.getrandbits(32), *fields, type=r.choice([0, 2, 6, 7]))
+            table_bytes += program(r.getrandbits(32), *fields, type=r.choice([0, 2, 6, 7]), align=r.getrandbits(64))
             continue
         if count > 1 and not dense and odd < 0.16:
             fields = [r.getrandbits(64) for _ in range(3)]
-            table_bytes += program(r.getrandbits(32), *fields, 0)
+            table_bytes += program(r.getrandbits(32), *fields, 0, align=r.getrandbits(64))
             continue
         perm = DATA if i == data and i > 0 else r.choice([TEXT, TEXT, RODATA]) if texts else TEXT
         offset = r.choice([0, r.randint(0, total), total - total % 4, total])
@@ -66,7 +81,7 @@ def random_image(r, size='plain', setup=DEPOSIT):
         if r.random() < 0.02:
             memsz += r.choice([PAGE * 1024, 2**40, 2**63])
         flags = random_row(r, setup.flags, perm) + 8 * r.choice([0, 0, 0, 1, r.getrandbits(29)])
-        table_bytes += program(flags, offset, vaddr, filesz, memsz)
+        table_bytes += program(flags, offset, vaddr, filesz, memsz, align=random_align(r, vaddr, offset))
         if perm == TEXT:
             texts.append((vaddr, filesz))
         page = up(vaddr + memsz) // PAGE + r.choice([0, 0, 0, 1])
@@ -110,7 +125,7 @@ def near(r, image, old, setup):
     """A value for a field: near the old one or at a boundary."""
     return r.choice([old + 1, old - 1, old + 4, old + PAGE, old - PAGE, old ^ 1 << r.randrange(64), 0, 1, len(image),
                      len(image) + 1, setup.utzero, setup.utzero - 1, setup.limit, setup.limit + 1, 2**64 - PAGE,
-                     2**64 - PAGE + 1, MAX, r.getrandbits(3), r.getrandbits(64)])
+                     2**64 - PAGE + 1, MAX, r.getrandbits(3), 2**r.randrange(64), r.getrandbits(64)])
 
 
 def any_image(r, size='plain', setup=DEPOSIT):

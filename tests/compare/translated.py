@@ -62,7 +62,7 @@ def compared(oracle, lines, what):
     ours, theirs = of_both(MODEL, oracle, answers(MODEL, lines), answers(oracle, others))
     if ours != theirs:
         at = next((i for i, (a, b) in enumerate(zip(ours, theirs)) if a != b), min(len(ours), len(theirs)))
-        sys.exit('translated: %s: %r: the model %r, the Rust %r' % (what, asked(lines)[at], ours[at:at + 1], theirs[at:at + 1]))
+        sys.exit('translated: %s: %r: the model %r, the Rust %r' % (what, *(got[at:at + 1] for got in (asked(lines), ours, theirs))))
     return len(ours), sum(a != b for a, b in zip(lines, others))
 
 
@@ -79,8 +79,8 @@ def main(oracle, histories='20'):
     counts = [compared(oracle, lines, 'run %d' % k) for k, lines in enumerate(runs)]
     if not sum(n for _, n in counts):
         sys.exit('translated: no a.out was compared')
-    print('a.outs as ELF images, %d runs, %d left out: no difference in %d answers, %d of them of a.outs' % (
-        len(runs), sum(n == 0 for n, _ in counts), sum(n for n, _ in counts), sum(n for _, n in counts)))
+    print('a.outs as ELF images, %d runs, %d left out: no difference in %d answers, %d of them of a.outs%s' % (
+        len(runs), sum(n == 0 for n, _ in counts), sum(n for n, _ in counts), sum(n for _, n in counts), compare.by_28()))
 
 
 if __name__ == '__main__':

@@ -21,9 +21,9 @@ from papers.listing import listing
 
 HERE = pathlib.Path(__file__).resolve().parent
 CRATE = HERE.parent.parent / 'crates' / 'listing_cases'
-GROUPS = [whole.of_document_01, header.header, header.table, order.order, segments.sizes, segments.modulo, segments.overflow,
-          segments.flags, segments.unordered, segments.entry, segments.skipped, layout.lowest_and_limit, layout.bss, layout.recorded,
-          whole.longest, whole.sweep, whole.programs]
+GROUPS = [whole.of_document_01, header.header, header.table, order.order, segments.sizes, segments.modulo, segments.alignment,
+          segments.overflow, segments.flags, segments.unordered, segments.entry, segments.skipped, layout.lowest_and_limit,
+          layout.bss, layout.recorded, whole.longest, whole.sweep, whole.programs]
 
 
 def all_cases():

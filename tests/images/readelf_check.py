@@ -1,9 +1,9 @@
 #!/usr/bin/env python3
 """Compares the listings in ../../crates/listing_cases/stdout with what `readelf -hlW` says of the same images.
 
-Every executable of the linker is compared, and every other image that has a listing. Kinds, starts, ends, bss and pages
-come from readelf's LOAD lines by the numbers of the pages touched, not by the model. Says 'skipped' where readelf is
-missing.
+Every executable of the linker is compared, and every other image that has a listing or is refused with 28. Kinds, starts,
+ends, bss and pages come from readelf's LOAD lines by the numbers of the pages touched, not by the model, and so does 28.
+Says 'skipped' where readelf is missing.
 """
 import os
 import pathlib
@@ -14,7 +14,7 @@ import sys
 import tempfile
 
 CRATE = pathlib.Path(__file__).resolve().parent.parent.parent / 'crates' / 'listing_cases'
-LOAD = re.compile(r'  LOAD +(0x\w+) (0x\w+) 0x\w+ (0x\w+) (0x\w+) ([R ][W ][E ])')
+LOAD = re.compile(r'  LOAD +(0x\w+) (0x\w+) 0x\w+ (0x\w+) (0x\w+) ([R ][W ][E ]) (0x\w+|0)$', re.M)
 KINDS = {'R E': 'text', 'R  ': 'rodata', 'RW ': 'data'}
 
 
@@ -35,7 +35,7 @@ def read_cases():
 
 
 def refusal(said, loads, size):
-    """Why an executable of the linker is refused, in the order of document 01's numbers; None if it is not."""
+    """Why an image is refused, in the order of the papers' numbers, as far as the images compared go; None if it is not."""
     if size > 32768:
         return 1
     if 'Class:                             ELF64' not in said:
@@ -44,25 +44,27 @@ def refusal(said, loads, size):
         return 14
     if 'EXEC (Executable file)' not in said:
         return 16
-    for offset, _, file, _, flags in loads:
+    for offset, address, file, _, flags, align in loads:
         if offset + file > size:
             return 22
+        if align & align - 1 or align and (address - offset) % align:
+            return 28
         if flags not in KINDS:
             return 25
-    if any(address < 0x10000 for _, address, _, _, _ in loads):
+    if any(load[1] < 0x10000 for load in loads):
         return 30
     return None
 
 
 def listing(said, size):
-    loads = [(*(int(n, 16) for n in m.groups()[:4]), m.group(5)) for m in LOAD.finditer(said)]
+    loads = [(*(int(n, 16) for n in m.groups()[:4]), m.group(5), int(m.group(6), 16)) for m in LOAD.finditer(said)]
     loads = [load for load in loads if load[3] > 0]
     number = refusal(said, loads, size)
     if number is not None:
         return [f'refused={number}']
     out = [f"entry={int(re.search('Entry point address: +(0x[0-9a-f]+)', said).group(1), 16)}"]
     pages = 4
-    for _, address, file, memory, flags in loads:
+    for _, address, file, memory, flags, _ in loads:
         first, last = address // 4096, (address + memory - 1) // 4096
         pages += last - first + 1
         bss = 4096 * (last + 1)
@@ -84,7 +86,7 @@ def main():
     if readelf is None:
         print('images: comparison with readelf: skipped (no readelf)')
         return 0
-    chosen = [c for c in read_cases() if c[0].startswith('ld-') or len(c[2]) > 1]
+    chosen = [c for c in read_cases() if c[0].startswith('ld-') or len(c[2]) > 1 or c[2] == ['refused=28']]
     bad = 0
     with tempfile.TemporaryDirectory() as folder:
         for name, image, expected in chosen:

@@ -1,7 +1,7 @@
 /*
  * An example of the library, and its test: a program of 184 bytes is started with two arguments, its break moves, it forks, parent and
- * children share its text and write to their own memory, and all end; a Plan 9 a.out is started too, and bad addresses are named. Every
- * answer is checked; the last line says 'N checks, 0 failed'.
+ * children share its text and write to their own memory, and all end; alignments are judged, a Plan 9 a.out is started too, and bad
+ * addresses are named. Every answer is checked; the last line says 'N checks, 0 failed'.
  *
  *     cc example.c -I../../include ../../target/staticlib/libholthrimi.a -o example && ./example
  */
@@ -336,19 +336,62 @@ static void rodata_in_row_6(void) {
     CHECK(memcmp(&setup, &HOLTHRIMI_DEPOSIT, sizeof setup) == 0);
 }
 
-/* What the reader of an a.out says; a start and a replace answer 30 for each of its numbers, and a plan tells it. */
-static uint64_t reads(uint32_t magic, uint32_t text, uint32_t data, uint32_t entry) {
+/* What the reader of its form says of an image; a start and a replace answer 30 for each of its numbers, and a plan tells it. */
+static uint64_t judged(bool aout, uint32_t magic, const uint8_t *bytes, size_t count) {
     const uint8_t *name = (const uint8_t *)"lex";
-    write_plan9(magic, text, data, 8000, entry);
-    uint64_t own = holthrimi_parse(setup, AOUT, plan9, PLAN9);
-    struct holthrimi_planned plan = holthrimi_plan(setup, AOUT, plan9, PLAN9);
+    uint64_t own = holthrimi_parse(setup, aout, magic, bytes, count);
+    struct holthrimi_planned plan = holthrimi_plan(setup, aout, magic, bytes, count);
     CHECK(plan.own == own && plan.number == (own == 0 ? 0 : HOLTHRIMI_EBADEXEC));
     if (own != 0) {
         note();
-        CHECK(refused(holthrimi_start(LENT, 2, AOUT, plan9, PLAN9, name, 3, name, 3, (const uint64_t[]){3}, 1), HOLTHRIMI_EBADEXEC));
-        CHECK(refused(holthrimi_replace(LENT, 1, AOUT, plan9, PLAN9, name, 3, 8), HOLTHRIMI_EBADEXEC) && unchanged());
+        CHECK(refused(holthrimi_start(LENT, 2, aout, magic, bytes, count, name, 3, name, 3, (const uint64_t[]){3}, 1), HOLTHRIMI_EBADEXEC));
+        CHECK(refused(holthrimi_replace(LENT, 1, aout, magic, bytes, count, name, 3, 8), HOLTHRIMI_EBADEXEC) && unchanged());
     }
     return own;
+}
+
+/* The image with another alignment in the header at a place, which is put back. */
+static uint64_t aligned(int at, uint64_t align) {
+    put(image + at + 48, align, 8);
+    uint64_t own = judged(ELF, image, IMAGE);
+    put(image + at + 48, HOLTHRIMI_PAGE, 8);
+    return own;
+}
+
+/* The alignment field: 0 and 1 ask for nothing, any other is a power of two that address and offset agree modulo. The text header at 64
+ * has address 65,536 and offset 0, the data header at 120 address 69,812 and offset 180. No process lives before and afterwards. */
+static void alignments(void) {
+    const uint8_t *name = (const uint8_t *)"lex";
+    const uint64_t lengths[1] = {3};
+    CHECK(accepted(holthrimi_start(LENT, 1, ELF, image, IMAGE, name, 3, name, 3, lengths, 1)));
+    for (int at = 64; at <= 120; at += 56) {
+        CHECK(aligned(at, 0) == 0 && aligned(at, 1) == 0 && aligned(at, 2) == 0 && aligned(at, 2048) == 0 && aligned(at, 4096) == 0);
+        CHECK(aligned(at, 3) == 28 && aligned(at, 6) == 28 && aligned(at, 4095) == 28 && aligned(at, 4097) == 28);
+        CHECK(aligned(at, (uint64_t)1 << 63) == 28 && aligned(at, ((uint64_t)1 << 63) + 1) == 28 && aligned(at, UINT64_MAX) == 28);
+        put(image + at, 2, 4); /* a header that is skipped is not judged */
+        CHECK(aligned(at, 3) == (at == 64 ? 27 : 0));
+        put(image + at, 1, 4);
+    }
+    CHECK(aligned(64, 65536) == 0 && aligned(64, 131072) == 28 && aligned(120, 8192) == 28 && aligned(120, 65536) == 28);
+    put(image + 136, 181, 1); /* 23 comes first */
+    CHECK(aligned(120, 4096) == 23 && aligned(120, 3) == 23 && aligned(120, 65536) == 23);
+    put(image + 136, 180, 1);
+    CHECK(accepted(holthrimi_end(LENT, 1)));
+
+    /* A start with 65,536 on the text header reads back. */
+    put(image + 64 + 48, 65536, 8);
+    CHECK(accepted(holthrimi_start(LENT, 1, ELF, image, IMAGE, name, 3, name, 3, lengths, 1)) && free_frames() == FRAMES - 7);
+    uint8_t text[180];
+    CHECK(accepted(holthrimi_copy_from_user(LENT, 1, text, sizeof text, 65536)) && memcmp(text, image, sizeof text) == 0);
+    CHECK(peek(1, 65536 + 180) == 0 && peek(1, 69812) == 'd' && peek(1, 69815) == 'a' && peek(1, 69816) == 0);
+    put(image + 64 + 48, HOLTHRIMI_PAGE, 8);
+    CHECK(accepted(holthrimi_end(LENT, 1)) && free_frames() == FRAMES);
+}
+
+/* An a.out of these words. */
+static uint64_t reads(uint32_t magic, uint32_t text, uint32_t data, uint32_t entry) {
+    write_plan9(magic, text, data, 8000, entry);
+    return judged(AOUT, plan9, PLAN9);
 }
 
 /* Plan 9's a.outs: the numbers at their boundaries, a start that reads back, and a process that goes from one form to the other. No
@@ -616,7 +659,8 @@ int main(void) {
     flag_lines();
     rodata_in_row_6();
 
-    /* An image of Plan 9's form. */
+    /* Alignments, and an image of Plan 9's form. */
+    alignments();
     aouts();
 
     /* Which address was bad. */

@@ -1,4 +1,4 @@
--- What checks 21 to 26 show of a header that passed them, for a loader.
+-- What checks 21 to 26 and 28 show of a header that passed them, for a loader.
 -- Assumes nothing.
 use mathlib.Core.Path.{_≡_, ap}
 use mathlib.Core.Bool.{true}

@@ -6,7 +6,7 @@ use Rattle.spec.specs.Tests.{_is_}
 use Rattle.spec.specs.Elf.{errorNumber}
 use mathlib.Core.Bool.{false}
 use Rattle.spec.specs.declared.ElfError.{ElfError}
-use Rattle.spec.specs.declared.ElfError.the-variants.{Truncated, BadMagic, NotElf64, NotLittleEndian, BadVersion, NotExecutable, NotAarch64, BadPhentsize, MisalignedEntry, PhdrsOutOfRange, FileszOverMemsz, SegmentOutOfRange, Misaligned, Overflow, BadFlags, Unordered, EntryNotInText}
+use Rattle.spec.specs.declared.ElfError.the-variants.{Truncated, BadMagic, NotElf64, NotLittleEndian, BadVersion, NotExecutable, NotAarch64, BadPhentsize, MisalignedEntry, PhdrsOutOfRange, FileszOverMemsz, SegmentOutOfRange, Misaligned, BadAlign, Overflow, BadFlags, Unordered, EntryNotInText}
 
 pub numbered : (e : ElfError) → (errorNumber e is 0) ≡ false
 numbered Truncated = refl
@@ -22,6 +22,7 @@ numbered PhdrsOutOfRange = refl
 numbered FileszOverMemsz = refl
 numbered SegmentOutOfRange = refl
 numbered Misaligned = refl
+numbered BadAlign = refl
 numbered Overflow = refl
 numbered BadFlags = refl
 numbered Unordered = refl

@@ -31,6 +31,7 @@ header-part n o image at h = λ i. record {
   vaddr = field-part 8 16 n o image at (omega (arith, h)) i;
   filesz = field-part 8 32 n o image at (omega (arith, h)) i;
   memsz = field-part 8 40 n o image at (omega (arith, h)) i;
+  align = field-part 8 48 n o image at (omega (arith, h)) i;
 }
 
 -- the table has all its headers

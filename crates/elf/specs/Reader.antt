@@ -1,5 +1,5 @@
 -- What a reader holds, and what its types stand for in the specification: a segment, and a step over one header. The code walks the
--- headers once, so that checks 21 to 27 are stated here from any header on. `flags` is the flag table.
+-- headers once, so that checks 21 to 28 are stated here from any header on. `flags` is the flag table.
 -- Assumes nothing.
 use Prim.Native.Nat.{ℕ, _+_, _-_, _*_, _^_, _≤_}
 use mathlib.Core.Path.{_≡_}
@@ -67,7 +67,7 @@ left image at k = filter loads (phdrsFrom image at k)
 abbrev pub keep : Phdr → List Phdr → List Phdr
 keep p ps = loads p ⇒ p ∷ ps else ps
 
--- checks 21 to 27 of the headers that are left: the segment before them ends its page at `end`, and `found` says whether the entry was in one
+-- checks 21 to 28 of the headers that are left: the segment before them ends its page at `end`, and `found` says whether the entry was in one
 unfoldable pub scanError : List ℕ → List ℕ → ℕ → ℕ → Bool → List Phdr → ℕ
 scanError flags image a end found ps =
     phdrError flags image end ps orElse
@@ -82,6 +82,6 @@ stepError flags image a (Next t) ps = scanError flags image a (t .end) (t .found
 abbrev pub Steps : List ℕ → List ℕ → ℕ → Seen → Phdr → Step → Type 0
 Steps flags image a seen p r = (ps : List Phdr) → scanError flags image a (seen .end) (seen .found) (keep p ps) ≡ stepError flags image a r ps
 
--- checks 13 to 27 of an image with header h
+-- checks 13 to 28 of an image with header h
 abbrev pub imageError : List ℕ → List ℕ → Ehdr → ℕ
 imageError flags image h = fieldsError (length image) h orElse scanError flags image (h .entry) 0 false (left image (h .phoff) (h .phnum))

@@ -258,7 +258,7 @@ impl<'a> Elf<'a> {
     }
 }
 
-// The number that an image is refused with, 11 to 27, or 0: it is parsed.
+// The number that an image is refused with, 11 to 28, or 0: it is parsed.
 pub fn number_of(flags: [u8; 8], image: &[u8]) -> u64
     ensures { λ r. ⌜ r ≡ elfError flags (now (image .entry)) ⌝ }
 {

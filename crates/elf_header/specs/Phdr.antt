@@ -5,4 +5,4 @@ use Rattle.elf_header.specs.declared.phdr.Phdr.{Phdr as Read}
 
 -- a program header that was read, as the specification has it
 abbrev pub phdrOf : Read → Phdr
-phdrOf p = record { type = p .kind; flags = p .flags; offset = p .offset; vaddr = p .vaddr; filesz = p .filesz; memsz = p .memsz }
+phdrOf p = record { type = p .kind; flags = p .flags; offset = p .offset; vaddr = p .vaddr; filesz = p .filesz; memsz = p .memsz; align = p .align }

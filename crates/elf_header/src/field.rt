@@ -90,6 +90,7 @@ pub fn error_number(e: ElfError) -> u64
         ElfError::FileszOverMemsz => 21,
         ElfError::SegmentOutOfRange => 22,
         ElfError::Misaligned => 23,
+        ElfError::BadAlign => 28,
         ElfError::Overflow => 24,
         ElfError::BadFlags => 25,
         ElfError::Unordered => 26,

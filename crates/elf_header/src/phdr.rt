@@ -1,5 +1,5 @@
-// A program header of an image, as r9's elf.rs reads and checks it (checks 21 to 26), and whether the entry lies in it (27). One header
-// at a time; the image is untrusted, so that every read lies in it and no sum wraps.
+// A program header of an image, as r9's elf.rs reads and checks it (checks 21 to 26 and 28), and whether the entry lies in it (27). One
+// header at a time; the image is untrusted, so that every read lies in it and no sum wraps.
 
 ghost use mathlib.Core.Path.{_≡_};
 ghost use mathlib.Core.Bool.{_&&_};
@@ -7,7 +7,7 @@ ghost use mathlib.Core.List.{[], _∷_};
 ghost use Prim.Native.Nat.{_+_, _≤_, _<_};
 ghost use lib.ListN.{length};
 ghost use Rattle.spec.specs.Tests.{_is_, within};
-ghost use Rattle.spec.specs.Elf.{phdrAt, phdrError, loads, flagPerm};
+ghost use Rattle.spec.specs.Elf.{phdrAt, phdrError, loads, flagPerm, alignOk};
 ghost use Rattle.elf_header.specs.Header.{verdictNumber};
 ghost use Rattle.elf_header.specs.Phdr.{phdrOf};
 use crate::header::Verdict;
@@ -26,6 +26,7 @@ pub struct Phdr {
     pub vaddr: u64,
     pub filesz: u64,
     pub memsz: u64,
+    pub align: u64,
 }
 
 // The program header at a place of an image.
@@ -40,7 +41,22 @@ pub fn read_phdr(image: &[u8], at: usize) -> Phdr
         vaddr: crate::field::u64_at(image, at + 16),
         filesz: crate::field::u64_at(image, at + 32),
         memsz: crate::field::u64_at(image, at + 40),
+        align: crate::field::u64_at(image, at + 48),
     }
+}
+
+// Whether a header's alignment asks for nothing, or is a power of two that its address and offset agree modulo: one bit is set in it.
+fn align_ok(p: Phdr) -> bool
+    ensures { λ r. ⌜ r ≡ alignOk (phdrOf p) ⌝ }
+{
+    let align = p.align;
+    if align <= 1 {
+        return true;
+    }
+    if u64::count_ones(align) != 1 {
+        return false;
+    }
+    p.vaddr % align == p.offset % align
 }
 
 // The checks of a program header that isn't skipped, under a flag table, in the order of r9's segment, then parse. `end` is the page end
@@ -53,6 +69,7 @@ pub fn judge_phdr(flags: [u8; 8], image: &[u8], end: u64, p: Phdr) -> Verdict
     let vaddr = p.vaddr;
     let filesz = p.filesz;
     let memsz = p.memsz;
+    let aligned = align_ok(p);
     if filesz > memsz {
         return Verdict::Refused(ElfError::FileszOverMemsz);
     }
@@ -65,6 +82,9 @@ pub fn judge_phdr(flags: [u8; 8], image: &[u8], end: u64, p: Phdr) -> Verdict
     }
     if vaddr % spec::PAGE_SIZE_4K != offset % spec::PAGE_SIZE_4K {
         return Verdict::Refused(ElfError::Misaligned);
+    }
+    if !aligned {
+        return Verdict::Refused(ElfError::BadAlign);
     }
     if vaddr > LAST_PAGE {
         return Verdict::Refused(ElfError::Overflow);

@@ -36,7 +36,7 @@ pub struct Rule {
 }
 
 // What a start needs of an image: the number that it is refused with, 38 or 39 for its setup, 30 or 31, or 0, and with 30 the number of
-// its form's reader, 11 to 27 for an ELF, 42, 43, 19 or 27 for an a.out, or 0 for the layout; its entry point; its record's segments,
+// its form's reader, 11 to 28 for an ELF, 42, 43, 19 or 27 for an a.out, or 0 for the layout; its entry point; its record's segments,
 // `count` of the image, then the stack; its bss; and the pages that it takes with the stack. A refused image's are zeros.
 #[repr(C)]
 pub struct Planned {

@@ -2,7 +2,7 @@
 use Prim.Native.Nat.{ℕ, _+_, _-_, _*_, _/_, _%_, _<_, _≤_}
 use native.Mathlib.Omega.{arith}
 use mathlib.Core.Path.{_≡_, refl, sym, ap, subst, _∙_}
-use mathlib.Core.Bool.{Bool, true, false}
+use mathlib.Core.Bool.{Bool, true}
 use mathlib.Core.Option.{Option, none, some}
 use mathlib.Core.List.{List}
 use lib.ListN.{length, getD}
@@ -13,7 +13,7 @@ use Rattle.spec.specs.Sound.{soundBook, Word, Mappings, Sound}
 use Rattle.spec.specs.declared.Setup.{Setup}
 use Rattle.spec.specs.declared.Proc.{Proc}
 use Rattle.spec.specs.declared.Procs.{Procs}
-use Rattle.spec.proofs.Bools.{split, all-at, all-test, within-test}
+use Rattle.spec.proofs.Bools.{split, same-test, all-at, all-test, within-test}
 use Rattle.spec.proofs.Words.{unpack, repack, used-word}
 use Rattle.spec_laws.proofs.Record.{Whole}
 use Rattle.spec_laws.proofs.Lists.{by-order}
@@ -232,11 +232,6 @@ pub decided : {setup : Setup} (ps : Procs) (tags bases : List ℕ) (total : ℕ)
 decided ps tags bases total m most b number table r found =
     (λ x. tells m b most (found .planned x) (found .framed x) (found .full x), λ s. split r (λ q. q) (λ q. absurd (found .no q (planned-of m b s) (framed-of m b s) (full-of m b s))))
 
-same-answer : (a b : Bool) → (a ≡ true → b ≡ true) → (b ≡ true → a ≡ true) → a ≡ b
-same-answer true b f g = sym (f refl)
-same-answer false true f g = g refl
-same-answer false false f g = refl
-
 -- an answer that is yes exactly of a sound book is the specification's
 pub sound-exact : (setup : Setup) → SetupOk setup → (b : List ℕ) (ps : Procs) → Whole ps → (r : Bool) → (r ≡ true → Sound setup b ps) × (Sound setup b ps → r ≡ true) → r ≡ soundBook setup b ps
-sound-exact setup ok b ps w r h = same-answer r (soundBook setup b ps) (λ e. facts-sound setup b ps w (h .0 e)) (λ e. h .1 (sound-facts setup ok b ps w e))
+sound-exact setup ok b ps w r h = same-test r (soundBook setup b ps) (λ e. facts-sound setup b ps w (h .0 e)) (λ e. h .1 (sound-facts setup ok b ps w e))

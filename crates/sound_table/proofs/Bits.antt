@@ -3,7 +3,7 @@ use Prim.Native.Nat.{ℕ, zero, suc, _+_, _-_, _*_, _/_, _%_, _^_, _<_, _≤_, m
 use native.Mathlib.Omega.{arith}
 use native.Mathlib.Nat.{zero-div, min-zero}
 use mathlib.Core.Path.{_≡_, refl, sym, ap, ap₂, _∙_}
-use mathlib.Core.Bool.{Bool, true, false, _&&_, and-assoc}
+use mathlib.Core.Bool.{Bool, _&&_, and-assoc}
 use mathlib.Core.List.{List}
 use lib.Bits.{bitAnd, bitOr, and-step, and-zero-r, or-disjoint}
 use lib.Dec.{eqb}
@@ -12,7 +12,7 @@ use lib.Seq.{getD-set-same, getD-set-other}
 use lib.Pow.{pow-pos, shl-exact, shr-shr, mod-pow-add}
 use borrow.Author.Tests.{eqb-true, eqb-false, eq-eqb}
 use Rattle.spec.specs.Tests.{_is_, _isnt_, allBelow}
-use Rattle.spec.proofs.Bools.{split, below-at, below-test}
+use Rattle.spec.proofs.Bools.{split, same-test, below-at, below-test}
 use Rattle.sound_table.specs.Table.{bitOf, marked, BitSet}
 
 half : (x k : ℕ) → x / 2 ^ suc k ≡ x / 2 / 2 ^ k
@@ -72,12 +72,6 @@ mod-ones (suc r) x e (suc k) l =
     let p = pow-pos r in
     let d : x / 2 % 2 ^ r ≡ 2 ^ r - 1 = omega arith in
     ap (λ (y : ℕ). y % 2) (half x k) ∙ mod-ones r (x / 2) d k (omega arith)
-
--- two tests are one where each gives the other
-same-test : (a b : Bool) → (a ≡ true → b ≡ true) → (b ≡ true → a ≡ true) → a ≡ b
-same-test true b f g = sym (f refl)
-same-test false true f g = g refl
-same-test false false f g = refl
 
 pub ones-test : (r x : ℕ) → (x % 2 ^ r is 2 ^ r - 1) ≡ allBelow r (λ k. x / 2 ^ k % 2 is 1)
 ones-test r x =

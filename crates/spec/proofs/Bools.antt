@@ -9,7 +9,7 @@ use lib.Dec.{eqb, leb, ltb}
 use lib.ListN.{length, getD}
 pub use borrow.Author.Tests.{not-true, not-false as un-not}
 use borrow.Author.Tests.{eqb-true, eqb-false, leb-true, leb-false, ltb-true, ltb-false, lt-ltb, le-ltb}
-use Rattle.spec.specs.Tests.{_above_, _below_, within, _⇒_else_, all, allBelow}
+use Rattle.spec.specs.Tests.{_above_, _below_, within, _⇒_else_, all, allBelow, anyBelow}
 
 -- either way
 pub split : {P : Type 0} (b : Bool) → (b ≡ true → P) → (b ≡ false → P) → P
@@ -79,7 +79,13 @@ within-test low high a l h = rw (le-ltb a low l, lt-ltb a high h)
 pub within-not : (low high a : ℕ) → (low ≤ a → a < high → ⊥) → within low high a ≡ false
 within-not low high a out = split (within low high a) (λ q. let r = within-means low high a q in absurd (out (r .0) (r .1))) (λ q. q)
 
--- every number below a count, and every element of a list
+-- two tests that pass alike
+pub same-test : (a b : Bool) → (a ≡ true → b ≡ true) → (b ≡ true → a ≡ true) → a ≡ b
+same-test true b f g = sym (f refl)
+same-test false true f g = g refl
+same-test false false f g = refl
+
+-- every number below a count, some number, and every element of a list
 pub below-at : (c : ℕ) (t : ℕ → Bool) → allBelow c t ≡ true → (i : ℕ) → i < c → t i ≡ true
 below-at zero t e i h = absurd (not-suc-le-zero h)
 below-at (suc c) t e i h =
@@ -92,6 +98,19 @@ below-at (suc c) t e i h =
 pub below-test : (c : ℕ) (t : ℕ → Bool) → ((i : ℕ) → i < c → t i ≡ true) → allBelow c t ≡ true
 below-test zero t f = refl
 below-test (suc c) t f = and-test (t c) (allBelow c t) (f c (omega arith)) (below-test c t (λ i l. f i (omega arith)))
+
+pub some-at : (c : ℕ) (t : ℕ → Bool) → anyBelow c t ≡ true → (i : ℕ) × (i < c) × (t i ≡ true)
+some-at zero t e = clash false e refl
+some-at (suc c) t e =
+    split (t c) (λ q. (c, omega arith, q)) (λ q. let r = some-at c t (or-fact (t c) (anyBelow c t) e q) in (r .0, omega (arith, r .1), r .2))
+
+pub some-test : (c : ℕ) (t : ℕ → Bool) (i : ℕ) → i < c → t i ≡ true → anyBelow c t ≡ true
+some-test zero t i h e = absurd (not-suc-le-zero h)
+some-test (suc c) t i h e =
+    split (eqb i c) (λ q. rw (← eqb-true i c q, e)) (λ q. let ne = eqb-false i c q in or-test (t c) (anyBelow c t) (λ z. some-test c t i (less ne) e))
+  where
+    less : (i ≡ c → ⊥) → i < c
+    less ne = omega arith
 
 pub all-at : {A : Type 0} (t : A → Bool) (d : A) (l : List A) → all t l ≡ true → (k : ℕ) → k < length l → t (getD l k d) ≡ true
 all-at t d [] e k h = absurd (not-suc-le-zero h)

@@ -4,7 +4,7 @@ use mathlib.Core.Bool.{Bool, true, false, _||_}
 use mathlib.Core.Option.{none, some}
 use mathlib.Core.List.{List, [], _∷_, _++_, reverse, map}
 use Prim.Native.Nat.{ℕ, zero, suc, _+_, _-_, _^_}
-use lib.ListN.{replicate, length, take, set}
+use lib.ListN.{replicate, length, take, drop, set}
 use Rattle.spec.specs.Tests.{_is_, within, _⇒_else_, all, same, ascii}
 use Rattle.spec.specs.Flags.{builtIn}
 use Rattle.spec.specs.Numbers.{deposit, limit, le, leBytes}
@@ -12,7 +12,7 @@ use Rattle.spec.specs.Name.{elem, kstrcpy}
 use Rattle.spec.specs.Book.{range, segment, sameSegment, pageCount}
 use Rattle.spec.specs.Frames.{Mem}
 use Rattle.spec.specs.Program.{Program}
-use Rattle.spec.specs.Elf.{ehdrError, phdrs, phdrError, segmentsOf, elfError, elfProgram}
+use Rattle.spec.specs.Elf.{ehdrError, phdrs, powerOfTwo, alignOk, phdrError, segmentsOf, elfError, elfProgram}
 use Rattle.spec.specs.Aout.{aoutError, aoutProgram}
 use Rattle.spec.specs.Exec.{imageError, programSegments, programBss, startPieces, fileByte, argsError, argvAt, registers, loaded, pushAccess, pushed, Argv, bad, over, read, argBuffer, copyArgv}
 use Rattle.spec.specs.Access.{_names_else_, access, userRangeOk, copyStr}
@@ -39,6 +39,11 @@ one flags offset vaddr filesz memsz = ehdr 65652 64 1 ++ phdr flags offset vaddr
 -- the listing's image of 184 bytes
 abbrev pub image184 : List ℕ
 image184 = ehdr 65712 64 2 ++ phdr 5 0 65536 180 180 ++ phdr 6 180 69812 4 8000 ++ replicate 4 170 ++ 1 ∷ 2 ∷ 3 ∷ 4 ∷ []
+
+-- 02, 1/13: a header of an image, from place `at` on, with another alignment; in the listing's image the text header stands at 64, the data
+-- header at 120
+abbrev aligned : List ℕ → ℕ → ℕ → List ℕ
+aligned image at align = take (at + 48) image ++ leBytes 8 align ++ drop (at + 56) image
 
 -- k text headers, a page each, and an image of nothing else
 abbrev pub texts : ℕ → ℕ → List ℕ
@@ -182,6 +187,34 @@ unstarred =
     ∷ (readsBack ([] ∷ (65 ∷ []) ∷ [] ∷ replicate 9 66 ∷ []) ⇒ 1 else 0, 1)
     ∷ []
 
+-- 02, 1/13: on the data header 69,812 leaves 4,276 of 65,536, where 180 is asked for
+abbrev alignments : List (ℕ × ℕ)
+alignments =
+    (elfError builtIn (aligned image184 64 65536), 0)
+    ∷ (elfError builtIn (aligned image184 120 65536), 28)
+    ∷ (imageError deposit Elf (aligned image184 120 65536), 30)
+    ∷ (listError (aligned image184 120 65536), 28)
+    ∷ (elfError builtIn (aligned image184 120 0), 0)
+    ∷ (elfError builtIn (aligned image184 120 1), 0)
+    ∷ (elfError builtIn (aligned image184 120 2), 0)
+    ∷ (elfError builtIn (aligned image184 120 3), 28)
+    ∷ (elfError builtIn (aligned image184 120 4096), 0)
+    ∷ (elfError builtIn (aligned image184 120 (2 ^ 63)), 28)
+    ∷ (elfError builtIn (aligned image184 120 (2 ^ 64 - 1)), 28)
+    -- address and offset are equal: they agree modulo any number
+    ∷ (elfError builtIn (aligned (at-zero 5) 64 (2 ^ 63)), 0)
+    ∷ (elfError builtIn (aligned (at-zero 5) 64 3), 28)
+    ∷ (elfError builtIn (aligned (at-zero 5) 64 (2 ^ 64 - 1)), 28)
+    -- after 23, before 25; a header that is skipped is not judged
+    ∷ (elfError builtIn (aligned (one 5 1 65536 119 120) 64 3), 23)
+    ∷ (elfError builtIn (aligned (at-zero 7) 64 3), 28)
+    ∷ (elfError builtIn (aligned (one 5 0 65536 120 0) 64 3), 27)
+    ∷ (elfError builtIn (aligned (set (one 5 0 65536 120 120) 64 2) 64 3), 27)
+    ∷ []
+  where
+    at-zero : ℕ → List ℕ
+    at-zero flags = ehdr 116 64 1 ++ phdr flags 0 0 120 120
+
 -- 02, 9/13
 abbrev aouts : List (ℕ × ℕ)
 aouts =
@@ -228,11 +261,11 @@ abbrev pub agree : List (ℕ × ℕ) → Bool
 agree rows = all (λ row. row .0 is row .1) rows
 
 pub starred-hold : agree starred ≡ true
-unfolding ehdrError phdrs phdrError segmentsOf elfError ibrk
+unfolding ehdrError phdrs powerOfTwo alignOk phdrError segmentsOf elfError ibrk
 starred-hold = refl
 
 pub unstarred-hold : agree unstarred ≡ true
-unfolding ehdrError phdrs phdrError segmentsOf elfError ibrk access argBuffer copyArgv
+unfolding ehdrError phdrs powerOfTwo alignOk phdrError segmentsOf elfError ibrk access argBuffer copyArgv
 unstarred-hold = refl
 
 -- 02, 4/13: a range that is asked for answers no; the string copy called by itself is refused; the others end the process
@@ -246,15 +279,19 @@ pub bad-answers-hold : map (λ q. weigh (record { setup = deposit; segments = []
     ∷ replace Elf image184 [] 65536
     ∷ [])
     ≡ No 69632 ∷ RefusedAt 73728 ∷ EndedAt 73728 ∷ EndedAt 69632 ∷ EndedAt 73726 ∷ EndedAt 73728 ∷ EndedAt (le 8 (replicate 8 7) 0) ∷ []
-unfolding ehdrError phdrs phdrError segmentsOf elfError access argBuffer copyArgv
+unfolding ehdrError phdrs powerOfTwo alignOk phdrError segmentsOf elfError access argBuffer copyArgv
 bad-answers-hold = refl
+
+pub alignments-hold : agree alignments ≡ true
+unfolding ehdrError phdrs powerOfTwo alignOk phdrError segmentsOf elfError listError
+alignments-hold = refl
 
 pub aouts-hold : agree aouts ≡ true
 unfolding aoutError
 aouts-hold = refl
 
 pub listing-holds : listing image184 ≡ lines184
-unfolding ehdrError phdrs phdrError segmentsOf elfError listError listing
+unfolding ehdrError phdrs powerOfTwo alignOk phdrError segmentsOf elfError listError listing
 listing-holds = refl
 
 pub kept-names-hold : all (λ row. same _is_ (row .0) (row .1)) keptNames ≡ true

@@ -12,6 +12,7 @@ pub mod Args
 pub mod Pushes
 pub mod Free
 pub mod Flags
+pub mod Align
 pub mod Taken
 pub mod ReadBack
 pub mod Runs

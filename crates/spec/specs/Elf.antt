@@ -1,15 +1,17 @@
--- Item 4, elf.rs: the checks 11 to 27 of an image, in their order, and its loadable segments, under a flag table (02, 7/13). An image
+-- Item 4, elf.rs: the checks 11 to 28 of an image, in their order, and its loadable segments, under a flag table (02, 7/13). An image
 -- is any bytes; what is not checked here isn't read.
 -- Assumes nothing.
-use Prim.Native.Nat.{ℕ, zero, suc, _+_, _*_, _-_, _%_, _^_}
-use mathlib.Core.Bool.{Bool, not, _&&_, _||_}
+use Prim.Native.Nat.{ℕ, zero, suc, _+_, _*_, _-_, _%_, _^_, _≤_, _<_}
+use mathlib.Core.Path.{_≡_}
+use mathlib.Core.Logic.{_⊎_}
+use mathlib.Core.Bool.{Bool, true, false, not, _&&_, _||_}
 use mathlib.Core.List.{List, [], _∷_, map}
 use lib.ListN.{length, take, drop, getD}
-use Rattle.spec.specs.Tests.{_is_, _isnt_, _below_, _above_, _⇒_else_, _orElse_, any, filter, same}
+use Rattle.spec.specs.Tests.{_is_, _isnt_, _below_, _above_, _⇒_else_, _orElse_, any, anyBelow, filter, same}
 use Rattle.spec.specs.Numbers.{pageUp, pageDown, le}
 use Rattle.spec.specs.Program.{Segment, inFile, Program}
 use Rattle.spec.specs.declared.ElfError.{ElfError}
-use Rattle.spec.specs.declared.ElfError.the-variants.{Truncated, BadMagic, NotElf64, NotLittleEndian, BadVersion, NotExecutable, NotAarch64, BadPhentsize, MisalignedEntry, PhdrsOutOfRange, FileszOverMemsz, SegmentOutOfRange, Misaligned, Overflow, BadFlags, Unordered, EntryNotInText}
+use Rattle.spec.specs.declared.ElfError.the-variants.{Truncated, BadMagic, NotElf64, NotLittleEndian, BadVersion, NotExecutable, NotAarch64, BadPhentsize, MisalignedEntry, PhdrsOutOfRange, FileszOverMemsz, SegmentOutOfRange, Misaligned, BadAlign, Overflow, BadFlags, Unordered, EntryNotInText}
 
 -- the numbers and their words
 abbrev pub errorNumber : ElfError → ℕ
@@ -26,6 +28,7 @@ errorNumber PhdrsOutOfRange = 20
 errorNumber FileszOverMemsz = 21
 errorNumber SegmentOutOfRange = 22
 errorNumber Misaligned = 23
+errorNumber BadAlign = 28
 errorNumber Overflow = 24
 errorNumber BadFlags = 25
 errorNumber Unordered = 26
@@ -60,7 +63,7 @@ ehdrError image =
     phoff image + 56 * phnum image above length image ⇒ 20 else
     0
 
--- a program header; the alignment field isn't read
+-- a program header
 pub record Phdr : Type 0 where
   pub type : ℕ
   pub flags : ℕ
@@ -68,6 +71,7 @@ pub record Phdr : Type 0 where
   pub vaddr : ℕ
   pub filesz : ℕ
   pub memsz : ℕ
+  pub align : ℕ
 
 -- the program header at a place of the image
 abbrev pub phdrAt : List ℕ → ℕ → Phdr
@@ -78,6 +82,7 @@ phdrAt image at = record {
   vaddr = le 8 image (at + 16);
   filesz = le 8 image (at + 32);
   memsz = le 8 image (at + 40);
+  align = le 8 image (at + 48);
 }
 
 -- k headers from place `at` on, in table order
@@ -97,13 +102,37 @@ phdrs image = filter loads (phdrsFrom image (phoff image) (phnum image))
 abbrev pub flagPerm : List ℕ → Phdr → ℕ
 flagPerm flags p = getD flags (p .flags % 8) 0
 
--- checks 21 to 26 for each header; `end` is the page end of the segment before it
+-- two numbers agree modulo m
+abbrev pub agree : ℕ → ℕ → ℕ → Bool
+agree m a b = a % m is b % m
+
+-- a power of two of 64 bits: 2^k for some k below 64
+unfoldable pub powerOfTwo : ℕ → Bool
+powerOfTwo n = anyBelow 64 (λ k. n is 2 ^ k)
+
+-- 28 (02, 1/13): an alignment of 0 or 1 asks for nothing; any other is a power of two, and address and offset agree modulo it
+unfoldable pub alignOk : Phdr → Bool
+alignOk p = p .align is 0 || p .align is 1 || powerOfTwo (p .align) && agree (p .align) (p .vaddr) (p .offset)
+
+-- what that means: an alignment that asks for something is 2^k, and address and offset lie a multiple of it apart
+abbrev pub Apart : ℕ → ℕ → ℕ → Type 0
+Apart m a b = (n : ℕ) × ((a ≡ b + n * m) ⊎ (b ≡ a + n * m))
+
+abbrev pub Aligned : Phdr → Type 0
+Aligned p = (p .align ≤ 1) ⊎ ((k : ℕ) × (k < 64) × (p .align ≡ 2 ^ k) × Apart (p .align) (p .vaddr) (p .offset))
+
+pub record AlignMeans : Type 0 where
+  pub passed : (p : Phdr) → alignOk p ≡ true → Aligned p
+  pub refused : (p : Phdr) → alignOk p ≡ false → ¬ Aligned p
+
+-- checks 21 to 26 for each header, with 28 directly after 23; `end` is the page end of the segment before it
 unfoldable pub phdrError : List ℕ → List ℕ → ℕ → List Phdr → ℕ
 phdrError flags image end [] = 0
 phdrError flags image end (p ∷ ps) =
     p .filesz above p .memsz ⇒ 21 else
     p .offset + p .filesz above length image ⇒ 22 else
-    p .vaddr % 4096 isnt p .offset % 4096 ⇒ 23 else
+    not (agree 4096 (p .vaddr) (p .offset)) ⇒ 23 else
+    not (alignOk p) ⇒ 28 else
     p .vaddr + p .memsz above 2 ^ 64 - 4096 ⇒ 24 else
     flagPerm flags p is 0 ⇒ 25 else
     pageDown (p .vaddr) below end ⇒ 26 else
@@ -121,7 +150,7 @@ segmentsOf flags image = map (segmentOf flags image) (phdrs image)
 abbrev pub entryInText : List ℕ → List ℕ → Bool
 entryInText flags image = any (λ g. g .perm is 1 && inFile (entry image) g) (segmentsOf flags image)
 
--- what an image is refused for: 11 to 20, then 21 to 26, then 27; or 0
+-- what an image is refused for: 11 to 20, then 21 to 26 and 28, then 27; or 0
 unfoldable pub elfError : List ℕ → List ℕ → ℕ
 elfError flags image =
     ehdrError image orElse

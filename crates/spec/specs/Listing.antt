@@ -16,7 +16,7 @@ use Rattle.spec.specs.declared.UserSegment.{UserSegment}
 use Rattle.spec.specs.declared.VirtRange.{VirtRange}
 use Rattle.spec.specs.declared.Form.the-variants.{Elf}
 
--- over 32,768 bytes 1; otherwise 11 to 27, 30 or 31; or 0
+-- over 32,768 bytes 1; otherwise 11 to 28, 30 or 31; or 0
 unfoldable pub listError : List ℕ → ℕ
 listError image =
     length image above 32768 ⇒ 1 else

@@ -45,10 +45,14 @@ abbrev pub any : {A : Type 0} → (A → Bool) → List A → Bool
 any t [] = false
 any t (x ∷ xs) = t x || any t xs
 
--- a test of each number below k
+-- a test of each number below k, and of some number below k
 abbrev pub allBelow : ℕ → (ℕ → Bool) → Bool
 allBelow zero t = true
 allBelow (suc k) t = t k && allBelow k t
+
+abbrev pub anyBelow : ℕ → (ℕ → Bool) → Bool
+anyBelow zero t = false
+anyBelow (suc k) t = t k || anyBelow k t
 
 -- whether a byte stands in bytes
 abbrev pub has : ℕ → List ℕ → Bool

@@ -149,7 +149,7 @@ pub enum Form {
     Aout(u32),
 }
 
-// Why an ELF image isn't a loadable executable, in the order of the numbers 11 to 27.
+// Why an ELF image isn't a loadable executable, in the order of the checks: numbers 11 to 27, with 28 after 23.
 pub enum ElfError {
     // Shorter than an ELF header.
     Truncated,
@@ -170,6 +170,8 @@ pub enum ElfError {
     SegmentOutOfRange,
     // A segment's address and file offset differ within a page.
     Misaligned,
+    // A segment's alignment isn't 0, 1 or a power of two, or its address and file offset differ modulo it.
+    BadAlign,
     // A segment ends past the top of the address space.
     Overflow,
     // A segment is writable and executable, or isn't readable.

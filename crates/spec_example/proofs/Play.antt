@@ -12,7 +12,7 @@ use Rattle.spec.specs.Book.{zeroProc, segment, stack}
 use Rattle.spec.specs.Frames.{place, share, release, pokes}
 use Rattle.spec.specs.Access.{access}
 use Rattle.spec.specs.Sound.{soundBook}
-use Rattle.spec.specs.Elf.{ehdrError, phdrs, phdrError, segmentsOf, elfError}
+use Rattle.spec.specs.Elf.{ehdrError, phdrs, powerOfTwo, alignOk, phdrError, segmentsOf, elfError}
 use Rattle.spec.specs.Aout.{aoutError}
 use Rattle.spec.specs.Exec.{argBuffer, copyArgv}
 use Rattle.spec.specs.Segment.{ibrk}
@@ -69,7 +69,7 @@ pub played : map told (play (fresh school 10) calls)
     ≡ (0 ∷ 0 ∷ []) ∷ (0 ∷ 0 ∷ 1 ∷ 2 ∷ 3 ∷ 4 ∷ 0 ∷ 0 ∷ []) ∷ (0 ∷ 0 ∷ []) ∷ (0 ∷ 0 ∷ []) ∷ (0 ∷ 0 ∷ 0 ∷ 0 ∷ 0 ∷ []) ∷ (0 ∷ 0 ∷ []) ∷ (0 ∷ 0 ∷ [])
     ∷ (0 ∷ 0 ∷ 5 ∷ 6 ∷ []) ∷ (0 ∷ 0 ∷ 7 ∷ 6 ∷ []) ∷ (0 ∷ 0 ∷ []) ∷ (0 ∷ 0 ∷ 5 ∷ 6 ∷ []) ∷ (0 ∷ 1 ∷ []) ∷ (0 ∷ 77824 ∷ []) ∷ (0 ∷ 3 ∷ 108 ∷ 101 ∷ 120 ∷ 9 ∷ 9 ∷ [])
     ∷ (35 ∷ 65536 ∷ []) ∷ (4 ∷ 0 ∷ []) ∷ (0 ∷ 0 ∷ []) ∷ []
-unfolding setupOk flagsOk setupError ehdrError phdrs phdrError segmentsOf elfError ibrk access argBuffer copyArgv place share release pokes soundBook pageBytes zeroPage judge answer after
+unfolding setupOk flagsOk setupError ehdrError phdrs powerOfTwo alignOk phdrError segmentsOf elfError ibrk access argBuffer copyArgv place share release pokes soundBook pageBytes zeroPage judge answer after
 played = refl
 
 -- ---- its limits
@@ -85,7 +85,7 @@ pub at-school : map told (play (fresh school 4)
     ∷ call 1 (user-range-ok 1048577 0 true)
     ∷ []))
     ≡ (33 ∷ 0 ∷ []) ∷ (0 ∷ 0 ∷ []) ∷ (34 ∷ 0 ∷ []) ∷ (33 ∷ 0 ∷ []) ∷ (0 ∷ 1 ∷ []) ∷ (0 ∷ 1048577 ∷ []) ∷ []
-unfolding setupOk flagsOk setupError ehdrError phdrs phdrError segmentsOf elfError ibrk access argBuffer copyArgv place share release pokes soundBook pageBytes zeroPage judge answer after
+unfolding setupOk flagsOk setupError ehdrError phdrs powerOfTwo alignOk phdrError segmentsOf elfError ibrk access argBuffer copyArgv place share release pokes soundBook pageBytes zeroPage judge answer after
 at-school = refl
 
 -- ---- shared text
@@ -105,7 +105,7 @@ begin = call 1 (start Elf image184 (ascii "bin/lex") [] [])
 
 -- a start takes four frames, a fork three more
 pub too-few : map told (play (fresh school 6) (begin ∷ forked ∷ [])) ≡ (0 ∷ 0 ∷ []) ∷ (33 ∷ 0 ∷ []) ∷ []
-unfolding setupOk flagsOk setupError ehdrError phdrs phdrError segmentsOf elfError ibrk access argBuffer copyArgv place share release pokes soundBook pageBytes zeroPage judge answer after
+unfolding setupOk flagsOk setupError ehdrError phdrs powerOfTwo alignOk phdrError segmentsOf elfError ibrk access argBuffer copyArgv place share release pokes soundBook pageBytes zeroPage judge answer after
 too-few = refl
 
 -- a child that replaces its image wants four, and holds three alone: it ends. Once its parent has ended, a child has the text alone, and
@@ -113,7 +113,7 @@ too-few = refl
 pub shared : map told (play (fresh school 7) (begin ∷ forked ∷ text 1 ∷ text 2 ∷ again ∷ text 2 ∷ forked ∷ call 1 end ∷ text 2 ∷ again ∷ text 2 ∷ call 2 (copy-from-user (replicate 4 9) 69630) ∷ []))
     ≡ (0 ∷ 0 ∷ []) ∷ (0 ∷ 0 ∷ []) ∷ (0 ∷ 0 ∷ 127 ∷ 69 ∷ 76 ∷ 70 ∷ []) ∷ (0 ∷ 0 ∷ 127 ∷ 69 ∷ 76 ∷ 70 ∷ []) ∷ (33 ∷ 0 ∷ []) ∷ (4 ∷ 0 ∷ 9 ∷ 9 ∷ 9 ∷ 9 ∷ [])
     ∷ (0 ∷ 0 ∷ []) ∷ (0 ∷ 0 ∷ []) ∷ (0 ∷ 0 ∷ 127 ∷ 69 ∷ 76 ∷ 70 ∷ []) ∷ (0 ∷ 0 ∷ []) ∷ (0 ∷ 0 ∷ 0 ∷ 0 ∷ 12 ∷ 71 ∷ []) ∷ (0 ∷ 0 ∷ 0 ∷ 0 ∷ 187 ∷ 187 ∷ []) ∷ []
-unfolding setupOk flagsOk setupError ehdrError phdrs phdrError segmentsOf elfError aoutError ibrk access argBuffer copyArgv place share release pokes soundBook pageBytes zeroPage judge answer after
+unfolding setupOk flagsOk setupError ehdrError phdrs powerOfTwo alignOk phdrError segmentsOf elfError aoutError ibrk access argBuffer copyArgv place share release pokes soundBook pageBytes zeroPage judge answer after
 shared = refl
 
 -- ---- bad setups

@@ -1,8 +1,8 @@
--- Headers that pass checks 21 to 26, and the segments that they describe.
+-- Headers that pass checks 21 to 26 and 28, and the segments that they describe.
 use Prim.Native.Nat.{ℕ, _+_, _-_, _%_, _^_, _≤_}
 use native.Mathlib.Omega.{arith}
 use mathlib.Core.Path.{_≡_, refl, sym, ap, _∙_}
-use mathlib.Core.Bool.{Bool, true, _&&_}
+use mathlib.Core.Bool.{Bool, true, not, _&&_}
 use mathlib.Core.List.{List, [], _∷_, map}
 use lib.ListN.{length, drop, length-take, length-drop}
 use borrow.Author.Tests.{eqb-true, eqb-false, ltb-false}
@@ -12,18 +12,19 @@ use Rattle.spec.specs.Tests.{_is_, _isnt_, _below_, _above_, _⇒_else_, _orEls
 use Rattle.spec.specs.Flags.{flagsOk}
 use Rattle.spec.specs.Numbers.{pageUp, pageDown}
 use Rattle.spec.specs.Program.{Segment, inFile}
-use Rattle.spec.specs.Elf.{Phdr, phdrsFrom, loads, phdrs, flagPerm, phoff, phnum, ehdrError, phdrError, segmentOf, segmentsOf, entry, entryInText, elfError}
+use Rattle.spec.specs.Elf.{Phdr, phdrsFrom, loads, phdrs, flagPerm, agree, alignOk, phoff, phnum, ehdrError, phdrError, segmentOf, segmentsOf, entry, entryInText, elfError}
 use Rattle.spec_laws.proofs.Checks.{checks, passes, failed, or-else}
 use Rattle.spec_laws.proofs.Loads.{AllLoad, not-zero}
 
 -- ---- one header
 
--- checks 21 to 26, as a list
+-- checks 21 to 26 and 28, as a list
 abbrev pub tests : List ℕ → List ℕ → ℕ → Phdr → List (Bool × ℕ)
 tests flags image end p =
     (p .filesz above p .memsz, 21)
     ∷ (p .offset + p .filesz above length image, 22)
-    ∷ (p .vaddr % 4096 isnt p .offset % 4096, 23)
+    ∷ (not (agree 4096 (p .vaddr) (p .offset)), 23)
+    ∷ (not (alignOk p), 28)
     ∷ (p .vaddr + p .memsz above 2 ^ 64 - 4096, 24)
     ∷ (flagPerm flags p is 0, 25)
     ∷ (pageDown (p .vaddr) below end, 26)
@@ -38,6 +39,7 @@ pub record Header (flags image : List ℕ) (end : ℕ) (p : Phdr) : Type 0 where
   pub file : p .filesz ≤ p .memsz
   pub inside : p .offset + p .filesz ≤ length image
   pub congruent : p .vaddr % 4096 ≡ p .offset % 4096
+  pub aligned : alignOk p ≡ true
   pub fits : p .vaddr + p .memsz ≤ 2 ^ 64 - 4096
   pub perm : 1 ≤ flagPerm flags p
   pub ordered : end ≤ pageDown (p .vaddr)
@@ -51,9 +53,10 @@ header-means flags image end p ps e =
         file = ltb-false _ _ (no 0 (omega arith));
         inside = ltb-false _ _ (no 1 (omega arith));
         congruent = eqb-true _ _ (un-not _ (no 2 (omega arith)));
-        fits = ltb-false _ _ (no 3 (omega arith));
-        perm = not-zero (flagPerm flags p) (eqb-false _ _ (no 4 (omega arith)));
-        ordered = ltb-false _ _ (no 5 (omega arith));
+        aligned = un-not _ (no 3 (omega arith));
+        fits = ltb-false _ _ (no 4 (omega arith));
+        perm = not-zero (flagPerm flags p) (eqb-false _ _ (no 5 (omega arith)));
+        ordered = ltb-false _ _ (no 6 (omega arith));
       },
       r .1,
     )
@@ -84,7 +87,7 @@ all-load flags image end (p ∷ ps) t l e =
       all-load flags image (pageUp (p .vaddr + p .memsz)) ps t (m .1) (h .1),
     )
 
--- what 11 to 27 say of an image's segments
+-- what 11 to 28 say of an image's segments
 pub elf-loads : (flags image : List ℕ) → flagsOk flags ≡ true → elfError flags image ≡ 0 → AllLoad 0 (segmentsOf flags image)
 unfolding elfError segmentsOf phdrs
 elf-loads flags image t e =

@@ -38,9 +38,9 @@ def build(*headers, entry=UTZERO, body=b'\x1f\x20\x03\xd5abcd'):
     return header(entry, len(headers)) + b''.join(program(*h) for h in headers) + body
 
 
-def seg(flags, page, filesz=8, memsz=8, at=0, kind=1, base=UTZERO):
+def seg(flags, page, filesz=8, memsz=8, at=0, kind=1, base=UTZERO, align=PAGE):
     """A program header for `build`: the page counts from `base`; `at` is its place in the page and the file."""
-    return flags, at, base + PAGE * page + at, filesz, memsz, kind
+    return flags, at, base + PAGE * page + at, filesz, memsz, kind, align
 
 
 def many(count, *more):

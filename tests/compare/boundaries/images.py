@@ -1,4 +1,4 @@
-"""Images: each boundary of checks 11 to 27, 30 and 31."""
+"""Images: each boundary of checks 11 to 28, 30 and 31."""
 from elf import header
 from papers.machine import MAX, PAGE
 from random_images import EXAMPLE
@@ -13,7 +13,7 @@ def groups():
     out = []
     def add(note, *some):
         out.append((note, list(some)))
-    add('the example, and with alignment 0 and 2^64 - 1, which is not read', EXAMPLE, data(align=0), text(align=MAX))
+    add('the example', EXAMPLE)
     add('11: under 64 bytes', b'', EXAMPLE[:1], EXAMPLE[:63])
     add('64 bytes: zeros give 12, the header without its table 20', bytes(64), EXAMPLE[:64])
     add('12: each of the first four bytes', *(example((k, 1, EXAMPLE[k] ^ 1)) for k in range(4)))
@@ -49,6 +49,15 @@ def groups():
         data(vaddr=2**64 - PAGE + 180, memsz=PAGE, flags=7), data(vaddr=65716, flags=7))
     add('23: address and offset differ modulo 4,096', data(vaddr=69813), data(vaddr=69811), data(vaddr=69812 + PAGE),
         data(vaddr=69812 + 2048), data(offset=179), text(vaddr=65537))
+    add('28: alignments of the text, whose address and offset agree modulo 65,536',
+        *(text(align=v) for v in (0, 1, 2, 3, PAGE, PAGE + 1, 65535, 65536, 65537, 2**17, 2**32, 2**32 + PAGE, 2**63, MAX)))
+    add('28: of the data, whose address and offset agree modulo 4,096',
+        *(data(align=v) for v in (0, 1, 2, 3, 6, 17, 2048, PAGE - 1, PAGE, PAGE + 1, 8192, 65536, 69632, 2**63, 2**63 + 1, MAX)))
+    add('23 for any alignment; order: 22 before 23, 23 before 28, 28 before 24, 25 and 26',
+        *(data(vaddr=69812 + 2048, align=v) for v in (0, 1, 2, 3, 2048, PAGE, 65536)), data(filesz=5, align=3),
+        data(memsz=MAX, align=3), data(flags=7, align=3), data(vaddr=65716, align=3), data(vaddr=65716, align=2**17))
+    add('order: 28 before 27; of two headers, the first decides', phdr(H2, example((24, 8, 0)), align=3),
+        phdr(H1, data(filesz=9000), align=3), phdr(H1, data(align=3), flags=7), phdr(H2, text(filesz=181), align=3))
     far = 2**64 - PAGE
     add('24: an end of 2^64 - 4,096 passes (and gives 30), one more does not',
         data(vaddr=far - PAGE + 180, memsz=PAGE - 180), data(vaddr=far - PAGE + 180, memsz=PAGE - 180 + 1),
@@ -60,9 +69,9 @@ def groups():
     add('flags 13 are text, 14 data, 12 rodata; higher bits do not count', text(flags=13), data(flags=14),
         data(flags=12), text(flags=2**32 - 3), data(flags=2**32 - 2), data(flags=15))
     add('an empty header is skipped before its other checks', data(flags=7, memsz=0),
-        data(memsz=0, filesz=9, offset=MAX, vaddr=1), text(memsz=0, flags=0))
+        data(memsz=0, filesz=9, offset=MAX, vaddr=1), text(memsz=0, flags=0), data(memsz=0, align=3), data(memsz=0, align=65536))
     add('a header of another type is skipped before its other checks',
-        *(data(kind=k, flags=7, filesz=MAX) for k in (0, 2, 6, 257, 2**31 + 1)))
+        *(data(kind=k, flags=7, filesz=MAX) for k in (0, 2, 6, 257, 2**31 + 1)), data(kind=2, align=3), data(kind=2, align=65536))
     add('26: next page passes, the same page does not', data(vaddr=69632 + 180), data(vaddr=65536 + 180),
         data(vaddr=180), text(memsz=PAGE), text(memsz=PAGE + 1), text(memsz=2 * PAGE))
     add('26: below the first of three; equal to its page',
@@ -105,7 +114,7 @@ def groups():
 
 def images():
     o = Out('images',
-        'Images at the boundaries of checks 11 to 27, 30 and 31, by start; frames as before after a refusal.')
+        'Images at the boundaries of checks 11 to 28, 30 and 31, by start; frames as before after a refusal.')
     o('frames 24 7')
     for note, some in groups():
         o.note(note)

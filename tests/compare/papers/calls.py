@@ -8,7 +8,7 @@ from .user import User
 
 
 def load30(setup, image, magic):
-    """As load; 11 to 27, 42 and 43 become 30."""
+    """As load; 11 to 28, 42 and 43 become 30."""
     try:
         return load(setup, image, magic)
     except Refused as r:

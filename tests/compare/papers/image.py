@@ -14,8 +14,17 @@ def check(number, passes):
         raise Refused(number)
 
 
-def parse(image, perms):
-    """The entry and the loadable segments, their permissions by a table; Refused 11 to 27."""
+def aligned(align, vaddr, offset):
+    """What the alignment field asks for (request 1 of document 02): 0 and 1 nothing, any other value that it has exactly one bit set
+    and that address and offset agree modulo it."""
+    if align in (0, 1):
+        return True
+    return bin(align).count('1') == 1 and vaddr % align == offset % align
+
+
+def parse(image, perms, alignment=True):
+    """The entry and the loadable segments, their permissions by a table; Refused 11 to 28. Without `alignment` the rules are those
+    without 28, as the Rust has them."""
     def field(b, at, n):
         return int.from_bytes(b[at:at + n], 'little')
     check(11, len(image) >= 64)
@@ -34,12 +43,13 @@ def parse(image, perms):
     for i in range(count):
         h = image[table + 56 * i:table + 56 * (i + 1)]
         kind, flags, offset, vaddr = field(h, 0, 4), field(h, 4, 4), field(h, 8, 8), field(h, 16, 8)
-        filesz, memsz = field(h, 32, 8), field(h, 40, 8)
+        filesz, memsz, align = field(h, 32, 8), field(h, 40, 8), field(h, 48, 8)
         if kind != 1 or memsz == 0:
             continue
         check(21, filesz <= memsz)
         check(22, offset + filesz <= len(image))
         check(23, vaddr % PAGE == offset % PAGE)
+        check(28, not alignment or aligned(align, vaddr, offset))
         check(24, vaddr + memsz <= 2**64 - PAGE)
         perm = perms[flags % 8]
         check(25, perm != 0)

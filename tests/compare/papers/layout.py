@@ -29,9 +29,10 @@ def page_count(setup, ranges, bss):
     return sum(end - start for start, end, _ in ranges + [(up(bss[0]), bss[1], DATA), setup.stack]) // PAGE
 
 
-def load(setup, image, magic=None):
-    """Entry, segments, recorded ranges and bss of an image, which is an a.out where its magic is given; Refused 11 to 31, 42, 43."""
-    entry, segments = parse(image, setup.flags) if magic is None else read_aout(image, magic, setup.utzero)
+def load(setup, image, magic=None, alignment=True):
+    """Entry, segments, recorded ranges and bss of an image, which is an a.out where its magic is given; Refused 11 to 31, 42, 43, and
+    without `alignment` not 28."""
+    entry, segments = parse(image, setup.flags, alignment) if magic is None else read_aout(image, magic, setup.utzero)
     bss = layout(setup, segments)
     return entry, segments, recorded(segments, bss), bss
 

@@ -4,11 +4,12 @@ from .machine import KINDS, Refused
 from .setup import DEPOSIT
 
 
-def listing(image):
+def listing(image, alignment=True):
+    """An image's lines; without `alignment` by the rules without 28."""
     if len(image) > 32768:
         return ['refused=1']
     try:
-        entry, _, ranges, bss = load(DEPOSIT, image)
+        entry, _, ranges, bss = load(DEPOSIT, image, alignment=alignment)
     except Refused as r:
         return ['refused=%d' % r.args]
     return (['entry=%d' % entry]

@@ -41,8 +41,8 @@ def header():
     case('20-unread-fields-all-ones', unread, EXAMPLE_LISTING)
     unread = EXAMPLE
     for at in 64, 120:
-        unread = change(change(unread, at + 24, 8, 2**64 - 1), at + 48, 8, 2**64 - 1)
-    case('20-unread-header-fields-all-ones', unread, EXAMPLE_LISTING)
+        unread = change(unread, at + 24, 8, 2**64 - 1)
+    case('20-physical-addresses-all-ones', unread, EXAMPLE_LISTING)
 
 
 def table():

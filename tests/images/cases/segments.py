@@ -1,5 +1,7 @@
-"""Numbers 21 to 27: the program headers."""
-from .built import DATA, ONE, ONE_LISTING, RODATA, TEXT, THREE, THREE_LISTING, build, case, lines, load, two
+"""Numbers 21 to 28: the program headers."""
+from elf import change
+
+from .built import DATA, EXAMPLE, EXAMPLE_LISTING, ONE, ONE_LISTING, RODATA, TEXT, THREE, THREE_LISTING, build, case, lines, load, two
 
 
 def sizes():
@@ -39,9 +41,86 @@ def modulo():
     case('23-offset-4096-address-69632', two(load(RODATA, 4096, 69632, 104, 104), size=4200), listed)
     case('23-offset-4097-address-69633', two(load(RODATA, 4097, 69633, 103, 103), size=4200), listed)
     case('23-offset-4097-address-69632', two(load(RODATA, 4097, 69632, 103, 103), size=4200), 23)
-    for align in 0, 1, 3, 65536, 2**64 - 1:
-        case(f'23-align-{align}', two(load(RODATA, 180, 69812, 16, 16, align=align)), listed)
+    # Whatever the alignment is; 69,812 + 2,048 agrees with 180 modulo 2,048.
+    for difference in 1, 16, 2048:
+        for align in 0, 1, 2, 3, 16, 2048, 4096, 8192, 65536, 2**63, 2**64 - 1:
+            case(f'23-address-{69812 + difference}-align-{align}',
+                 two(load(RODATA, 180, 69812 + difference, 16, 16, align=align)), 23)
     case('23-first-header', build([load(TEXT, 1, 65536, 180, 180)], size=184), 23)
+
+
+def alignment():
+    """Check 28."""
+    def rodata(address, align, **other):
+        return two(load(RODATA, 180, address, 16, 16, align=align), **other)
+
+    def listed(page):
+        return lines(65712, 'text 65536 69632', f'rodata {page} {page + 4096}', f'{page + 4096} {page + 4096}', 6)
+
+    # Address less offset is 17 * 4,096, so 17 and 69,632 would divide it.
+    for align in 0, 1, 2, 4, 16, 2048, 4096:
+        case(f'28-align-{align}', rodata(69812, align), listed(69632))
+    for align in (3, 5, 6, 7, 15, 17, 24, 4095, 4097, 4098, 6144, 8191, 8192, 8193, 12288, 65535, 65536, 65537, 69632, 2**31, 2**32,
+                  2**32 + 1, 2**32 + 4096, 2**63, 2**63 + 1, 2**63 + 4096, 2**64 - 4096, 2**64 - 2, 2**64 - 1):
+        case(f'28-align-{align}', rodata(69812, align), 28)
+    # Addresses that agree with 180 modulo more: 9 * 8,192; 2^16; 2^17; 3 * 2^16; 2^46 itself; 2^63, which is above the limit.
+    for page, align, fine in ((73728, 4096, True), (73728, 8192, True), (73728, 8193, False), (73728, 16384, False),
+                              (73728, 73728, False), (131072, 65535, False), (131072, 65536, True), (131072, 65537, False),
+                              (131072, 131072, True), (131072, 196608, False), (131072, 262144, False), (196608, 32768, True),
+                              (196608, 65536, True), (196608, 131072, False), (196608, 196608, False), (2**46, 2**45, True),
+                              (2**46, 2**46, True), (2**46, 2**46 + 1, False), (2**46, 2**47, False), (2**46, 2**63, False)):
+        case(f'28-address-{page + 180}-align-{align}', rodata(page + 180, align), listed(page) if fine else 28)
+    for align, expected in (1, 30), (2**62, 30), (2**63, 30), (2**63 + 1, 28), (2**63 + 2**62, 28), (2**64 - 1, 28):
+        case(f'28-address-2^63+180-align-{align}', rodata(2**63 + 180, align), expected)
+    for k in range(64):
+        case(f'28-align-2^{k}', build([load(TEXT, 0, 65536, 180, 180, align=2**k)], size=184), ONE_LISTING if k <= 16 else 28)
+    # Offset and address are equal, or the address is the lower one: below UTZERO, so 30.
+    for align, expected in (0, 30), (2**63, 30), (3, 28), (2**64 - 1, 28):
+        case(f'28-address-0-align-{align}', build([load(RODATA, 0, 0, 16, 16, align=align)] + ONE, size=240), expected)
+    for align, expected in (4096, 30), (8192, 30), (16384, 28):
+        low = load(RODATA, 8192 + 180, 180, 16, 16, align=align)
+        case(f'28-address-below-offset-align-{align}', build([low] + ONE, size=8400), expected)
+    # Document 01's image: 69,812 leaves 4,276 modulo 65,536, and 180 is asked for.
+    for align, first, second in ((0, True, True), (1, True, True), (2, True, True), (3, False, False), (4096, True, True),
+                                 (4097, False, False), (8192, True, False), (65536, True, False), (131072, False, False)):
+        for name, at, fine in ('text', 64, first), ('data', 120, second):
+            case(f'28-example-{name}-align-{align}', change(EXAMPLE, at + 48, 8, align), EXAMPLE_LISTING if fine else 28)
+    # The field is at 48, of eight bytes; the physical address at 24 is not asked.
+    for at in 64, 120:
+        for physical in 0, 65537, 2**64 - 1:
+            case(f'28-physical-{physical}-at-{at}', change(EXAMPLE, at + 24, 8, physical), EXAMPLE_LISTING)
+    for align, physical in (65536, 180), (65536, 131252), (3, 180):
+        image = change(rodata(69812, align), 120 + 24, 8, physical)
+        case(f'28-physical-{physical}-align-{align}', image, 28)
+    case('28-physical-69812-align-65536', change(rodata(131252, 65536), 120 + 24, 8, 69812), listed(131072))
+    # Each header has its own field.
+    def three(*aligns):
+        headers = [load(TEXT, 0, 65536, 256, 256, align=aligns[0]), load(RODATA, 256, 69888, 64, 64, align=aligns[1]),
+                   load(DATA, 320, 74048, 32, 5000, align=aligns[2])]
+        return build(headers, size=352)
+
+    for aligns, expected in (((65536, 4096, 8192), THREE_LISTING), ((0, 1, 2), THREE_LISTING), ((8192, 2048, 0), THREE_LISTING),
+                             ((131072, 4096, 8192), 28), ((65536, 8192, 8192), 28), ((65536, 4096, 16384), 28), ((3, 1, 1), 28),
+                             ((1, 3, 1), 28), ((1, 1, 3), 28), ((0, 0, 65537), 28)):
+        case(f'28-three-{"-".join(map(str, aligns))}', three(*aligns), expected)
+    # A header that is skipped is not judged.
+    for align in 3, 65536, 2**64 - 1:
+        for name, header in (('type-2', load(RODATA, 180, 69812, 16, 16, type=2, align=align)),
+                             ('type-0', load(RODATA, 180, 69812, 16, 16, type=0, align=align)),
+                             ('empty', load(RODATA, 180, 69812, 0, 0, align=align))):
+            case(f'28-{name}-align-{align}', two(header), ONE_LISTING)
+            case(f'28-{name}-first-align-{align}', build([header] + ONE, size=240), ONE_LISTING)
+        case(f'28-file-0-align-{align}', two(load(RODATA, 180, 69812, 0, 1, align=align)), 28)
+    # The shortest images with a header that reaches 28: the table lies inside the file header. At 12 its flags are 2; at 48 its
+    # offset, the count, is 1, and no shorter image with a wrong alignment passes all other checks.
+    inside = change(build([], count=1, table=12, entry=2**32, size=68), 12, 4, 1)
+    for align, expected in (3, 28), (4096, 25):
+        case(f'28-length-68-align-{align}', change(inside, 60, 8, align), expected)
+    inside = build([], count=1, table=48, entry=65540, size=104)
+    for at, width, value in (48, 4, 1), (52, 2, TEXT), (64, 8, 65537), (80, 8, 4), (88, 8, 4):
+        inside = change(inside, at, width, value)
+    for align, expected in (3, 28), (4096, lines(65540, 'text 65536 69632', '69632 69632', 5)):
+        case(f'28-length-104-align-{align}', change(inside, 96, 8, align), expected)
 
 
 def overflow():
@@ -168,7 +247,7 @@ def entry():
 def skipped():
     """Headers of other types, or with memory size 0, in any place, with everything else in them wrong."""
     def wrong(**other):
-        return load(**{**dict(flags=7, offset=2**64 - 1, address=3, file=2**64 - 1, memory=2**64 - 1), **other})
+        return load(**{**dict(flags=7, offset=2**64 - 1, address=3, file=2**64 - 1, memory=2**64 - 1, align=3), **other})
 
     others = [0, 2, 3, 4, 6, 7, 257, 65537, 2**24 + 1, 2**31 + 1, 0x6474e551, 2**32 - 1]
     for kind in others:

@@ -11,12 +11,14 @@ unfolding phdrError
 judge-phdr-spec =
     tie.close
     (tie.spec
+    (λ c κs. search needs)
     (λ c. search chain depth 25)
     (λ c. search chain depth 25)
     (λ c. search chain depth 25)
-    (λ c. search chain depth 25)
-    (λ c. search chain depth 25)
-    (λ c. search chain depth 25)
+    (λ c. search calls depth 25)
+    (λ c. search calls depth 25)
+    (λ c. search calls depth 25)
+    (λ c. search calls depth 25)
     (λ c κs. search needs)
     (λ c. search calls depth 25)
     (λ c. search needs)
