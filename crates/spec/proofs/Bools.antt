@@ -85,15 +85,19 @@ same-test true b f g = sym (f refl)
 same-test false true f g = g refl
 same-test false false f g = refl
 
+-- of the numbers below suc c those that aren't c are below c
+pub before-last : (i c : ℕ) → i < suc c → eqb i c ≡ false → i < c
+before-last i c h q = less (eqb-false i c q)
+  where
+    less : (i ≡ c → ⊥) → i < c
+    less ne = omega arith
+
 -- every number below a count, some number, and every element of a list
 pub below-at : (c : ℕ) (t : ℕ → Bool) → allBelow c t ≡ true → (i : ℕ) → i < c → t i ≡ true
 below-at zero t e i h = absurd (not-suc-le-zero h)
 below-at (suc c) t e i h =
     let p = both (t c) (allBelow c t) e in
-    split (eqb i c) (λ q. rw (eqb-true i c q) (p .0)) (λ q. let ne = eqb-false i c q in below-at c t (p .1) i (less ne))
-  where
-    less : (i ≡ c → ⊥) → i < c
-    less ne = omega arith
+    split (eqb i c) (λ q. rw (eqb-true i c q) (p .0)) (λ q. below-at c t (p .1) i (before-last i c h q))
 
 pub below-test : (c : ℕ) (t : ℕ → Bool) → ((i : ℕ) → i < c → t i ≡ true) → allBelow c t ≡ true
 below-test zero t f = refl
@@ -107,10 +111,7 @@ some-at (suc c) t e =
 pub some-test : (c : ℕ) (t : ℕ → Bool) (i : ℕ) → i < c → t i ≡ true → anyBelow c t ≡ true
 some-test zero t i h e = absurd (not-suc-le-zero h)
 some-test (suc c) t i h e =
-    split (eqb i c) (λ q. rw (← eqb-true i c q, e)) (λ q. let ne = eqb-false i c q in or-test (t c) (anyBelow c t) (λ z. some-test c t i (less ne) e))
-  where
-    less : (i ≡ c → ⊥) → i < c
-    less ne = omega arith
+    split (eqb i c) (λ q. rw (← eqb-true i c q, e)) (λ q. or-test (t c) (anyBelow c t) (λ z. some-test c t i (before-last i c h q) e))
 
 pub all-at : {A : Type 0} (t : A → Bool) (d : A) (l : List A) → all t l ≡ true → (k : ℕ) → k < length l → t (getD l k d) ≡ true
 all-at t d [] e k h = absurd (not-suc-le-zero h)

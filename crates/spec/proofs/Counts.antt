@@ -8,7 +8,7 @@ use lib.Dec.{eqb}
 use borrow.Author.Tests.{eqb-true, eqb-false}
 use Rattle.spec.specs.Tests.{_⇒_else_}
 use Rattle.spec.specs.Book.{countBelow}
-use Rattle.spec.proofs.Bools.{split}
+use Rattle.spec.proofs.Bools.{split, before-last}
 
 abbrev more : Bool → ℕ → ℕ
 more b k = b ⇒ k + 1 else k
@@ -29,10 +29,7 @@ none-counted t (suc c) e k l =
     (λ q. let z : countBelow t c + 1 ≡ 0 = rw q at e in absurd (omega arith))
     (λ q. split (eqb k c)
     (λ same. rw (eqb-true k c same) q)
-    (λ other. let ne = eqb-false k c other in none-counted t c (rw q at e) k (less ne)))
-  where
-    less : (k ≡ c → ⊥) → k < c
-    less ne = omega arith
+    (λ other. none-counted t c (rw q at e) k (before-last k c l other)))
 
 -- one number more passes
 pub count-flip : (t u : ℕ → Bool) (c p : ℕ) → p < c → t p ≡ false → u p ≡ true → ((k : ℕ) → k < c → (k ≡ p → ⊥) → t k ≡ u k) → countBelow u c ≡ countBelow t c + 1
@@ -45,11 +42,8 @@ count-flip t u (suc c) p l off on h =
     (λ q.
     let ne = eqb-false p c q in
     ap (λ (b : Bool). more b (countBelow u c)) (sym (h c (omega arith) (λ z. ne (sym z))))
-    ∙ go (t c) (countBelow u c) (countBelow t c) (count-flip t u c p (less ne) off on (λ k x. h k (omega arith))))
+    ∙ go (t c) (countBelow u c) (countBelow t c) (count-flip t u c p (before-last p c l q) off on (λ k x. h k (omega arith))))
   where
-    less : (p ≡ c → ⊥) → p < c
-    less ne = omega arith
-
     go : (b : Bool) (x y : ℕ) → x ≡ y + 1 → more b x ≡ more b y + 1
     go true x y e = omega arith
     go false x y e = e

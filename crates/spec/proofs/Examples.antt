@@ -257,14 +257,14 @@ keptNames =
     ∷ (kstrcpy (replicate 28 128), ascii "..." ++ replicate 25 0)
     ∷ []
 
-abbrev pub agree : List (ℕ × ℕ) → Bool
-agree rows = all (λ row. row .0 is row .1) rows
+abbrev pub rows-equal : List (ℕ × ℕ) → Bool
+rows-equal rows = all (λ row. row .0 is row .1) rows
 
-pub starred-hold : agree starred ≡ true
+pub starred-hold : rows-equal starred ≡ true
 unfolding ehdrError phdrs powerOfTwo alignOk phdrError segmentsOf elfError ibrk
 starred-hold = refl
 
-pub unstarred-hold : agree unstarred ≡ true
+pub unstarred-hold : rows-equal unstarred ≡ true
 unfolding ehdrError phdrs powerOfTwo alignOk phdrError segmentsOf elfError ibrk access argBuffer copyArgv
 unstarred-hold = refl
 
@@ -282,11 +282,11 @@ pub bad-answers-hold : map (λ q. weigh (record { setup = deposit; segments = []
 unfolding ehdrError phdrs powerOfTwo alignOk phdrError segmentsOf elfError access argBuffer copyArgv
 bad-answers-hold = refl
 
-pub alignments-hold : agree alignments ≡ true
+pub alignments-hold : rows-equal alignments ≡ true
 unfolding ehdrError phdrs powerOfTwo alignOk phdrError segmentsOf elfError listError
 alignments-hold = refl
 
-pub aouts-hold : agree aouts ≡ true
+pub aouts-hold : rows-equal aouts ≡ true
 unfolding aoutError
 aouts-hold = refl
 

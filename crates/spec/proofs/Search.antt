@@ -6,10 +6,10 @@ use mathlib.Core.Path.{_≡_, refl, ap₂}
 use mathlib.Core.Bool.{Bool, true, false}
 use mathlib.Core.Option.{Option, none, some}
 use lib.Dec.{eqb}
-use borrow.Author.Tests.{eqb-true, eqb-false}
+use borrow.Author.Tests.{eqb-true}
 use Rattle.spec.specs.Tests.{_⇒_else_}
 use Rattle.spec.specs.Book.{highest}
-use Rattle.spec.proofs.Bools.{split}
+use Rattle.spec.proofs.Bools.{split, before-last}
 
 -- what is found is below the bound and passes
 pub hit : (t : ℕ → Bool) (c k : ℕ) → highest t c ≡ some k → (k < c) × (t k ≡ true)
@@ -27,10 +27,7 @@ miss t (suc c) e k h =
     (λ q. let s : some c ≡ none = rw q at e in absurd (let w : _≡_ {A = ℕ} 0 1 = cc in omega arith))
     (λ q. split (eqb k c)
     (λ same. rw (eqb-true k c same) q)
-    (λ other. let ne = eqb-false k c other in miss t c (rw q at e) k (less ne)))
-  where
-    less : (k ≡ c → ⊥) → k < c
-    less ne = omega arith
+    (λ other. miss t c (rw q at e) k (before-last k c h other)))
 
 pub highest-none : (t : ℕ → Bool) (c : ℕ) → ((k : ℕ) → k < c → t k ≡ false) → highest t c ≡ none
 highest-none t zero h = refl
