@@ -69,8 +69,8 @@ pub fn table() {
     println!("   noise % of ours, Rust, limit");
     let memory = [region(1_024), region(2 * 1_024), region(1_024)];
     let small = image::example();
-    // 596 pages of the file, 300 of the bss and the stack's four; and 396 of the file and the stack's.
-    let (large, middle) = (image::pages(400, 100, 96, 300), image::pages(200, 100, 96, 0));
+    // 596 pages of the file, 300 of the bss and the stack's four; 896 of the file and the stack's; and 396 of the file and the stack's.
+    let (large, full, middle) = (image::pages(400, 100, 96, 300), image::pages(700, 100, 96, 0), image::pages(200, 100, 96, 0));
     // The same with 380 pages of text and rodata, and of data and stack.
     let (most_text, most_data) = (image::pages(300, 80, 16, 0), image::pages(10, 10, 376, 0));
     // Both with a bss, for both forms of fork.
@@ -79,6 +79,7 @@ pub fn table() {
 
     Pair::new(&memory).show(start("start of 7 pages", 1, &small), Moves::Image(&[], 7));
     Pair::new(&memory).show(start("start of 900 pages", 1, &large), Moves::Image(&large, 304));
+    Pair::new(&memory).show(start("start of 900 pages, file", 1, &full), Moves::Image(&full, 4));
     let mut p = Pair::new(&memory);
     p.start(1, &small);
     p.show(replace("replace by 7 pages", 1, &small, EXAMPLE_END - PAGE), Moves::Image(&[], 7));
@@ -86,6 +87,9 @@ pub fn table() {
     p.start(1, &large);
     p.show(end("end of 900 pages", 1, &large), Moves::No);
     p.show(replace("replace by 900 pages", 1, &large, image::UTZERO + 895 * PAGE), Moves::Image(&large, 304));
+    let mut p = Pair::new(&memory);
+    p.start(1, &full);
+    p.show(replace("replace by 900 pages, file", 1, &full, image::UTZERO + 895 * PAGE), Moves::Image(&full, 4));
     let mut p = Pair::new(&memory);
     p.start(1, &most_text);
     p.show_fork("fork of 400 pages, 380 text", 20);

@@ -1,6 +1,6 @@
 #!/usr/bin/env python3
 """Writes the directed scripts, tests/replay/NAME.txt (boundaries/), the files that some of them read, example.elf, example.aout,
-school.numbers and partner.flags, and tests/images/aouts.txt with the reader's answers, aouts.out.
+pages.elf, pages-more.elf, school.numbers and partner.flags, and tests/images/aouts.txt with the reader's answers, aouts.out.
 
     directed.py            writes them
     directed.py --check    says whether they are as it would write them
@@ -9,8 +9,8 @@ import os
 import sys
 
 import aout as plan9
-from boundaries import (access, addresses, alignment, aout, brk, flag_texts, flags, fork, form, frames, images, numbers, push, replace,
-                        sets, shared, start, texts)
+from boundaries import (access, addresses, alignment, aout, brk, flag_texts, flags, fork, form, frames, images, numbers, pages, push,
+                        replace, sets, shared, start, texts)
 from papers.flags import table_lines
 from papers.setup import written
 from random_images import EXAMPLE
@@ -20,12 +20,12 @@ REPLAY, IMAGES = (os.path.join(os.path.dirname(HERE), name) for name in ('replay
 SCRIPTS = [images.images, start.examples, start.args, push.push, brk.brk, frames.frames, access.access, access.strings,
            replace.replace, start.names, fork.fork, numbers.numbers, frames.sizes, brk.rule, frames.history, form.form, form.files,
            sets.sets, texts.texts, flags.flags, flag_texts.flag_texts, shared.shared, shared.orders, shared.torn, aout.aout,
-           addresses.addresses, addresses.address_sets, alignment.alignment]
+           addresses.addresses, addresses.address_sets, alignment.alignment, pages.pages]
 
 
 def main(argv):
     read = {'example.elf': EXAMPLE, 'example.aout': plan9.EXAMPLE, 'school.numbers': written(texts.SCHOOL),
-            'partner.flags': table_lines(flags.PARTNER)}
+            'partner.flags': table_lines(flags.PARTNER), **pages.IMAGES}
     files = {os.path.join(HERE, name): content for name, content in read.items()}
     for end, lines in zip(('txt', 'out'), aout.reader()):
         files[os.path.join(IMAGES, 'aouts.' + end)] = ''.join(line + '\n' for line in lines).encode()

@@ -4,9 +4,9 @@
     misread.py [--all]    --all names every script that notices an edit, and not only the first
 
 Each edit is made in a copy of the model outside the repository, and the scripts of its request are run through it: those of
-alignments for request 1, those of bad addresses for request 4, those with a line `flags` for request 7, those with an a.out for
-request 9. Start and replace answer 30 for most of an image's numbers alike, so for request 1 the listing's cases follow, and for
-request 9 the cases of the reader of a.outs by itself, tests/images/aouts.txt.
+alignments for request 1, that of pages for request 3, those of bad addresses for request 4, those with a line `flags` for request 7,
+those with an a.out for request 9. Start and replace answer 30 for most of an image's numbers alike, so for request 1 the listing's
+cases follow, and for request 9 the cases of the reader of a.outs by itself, tests/images/aouts.txt.
 """
 import os
 import re
@@ -23,8 +23,9 @@ from readelf_check import read_cases  # noqa: E402
 
 MODEL = 'model.py', 'script.py', 'papers'
 # Of each request, a line that its scripts have.
-LINES = {'Request 1': re.compile(rb'^# Alignments', re.M), 'Request 4': re.compile(rb'^# Bad addresses', re.M),
-         'Request 7': re.compile(rb'^flags', re.M), 'Request 9': re.compile(rb'^(start|replace) [^ ]+ [^ ]+ aout=', re.M)}
+LINES = {'Request 1': re.compile(rb'^# Alignments', re.M), 'Request 3': re.compile(rb'^# Pages', re.M),
+         'Request 4': re.compile(rb'^# Bad addresses', re.M), 'Request 7': re.compile(rb'^flags', re.M),
+         'Request 9': re.compile(rb'^(start|replace) [^ ]+ [^ ]+ aout=', re.M)}
 
 
 def edits():

@@ -1,15 +1,16 @@
--- Frames filled: what lent parts leave, and pages of file bytes.
+-- Frames filled: what lent parts leave.
 use Prim.Native.Nat.{ℕ, _+_, _-_, _≤_}
 use native.Mathlib.Omega.{arith}
-use mathlib.Core.Path.{_≡_, refl, sym, ap, _∙_}
+use mathlib.Core.Path.{_≡_, sym, ap, _∙_}
 use mathlib.Core.List.{List, _++_}
-use lib.ListN.{length, take, drop, replicate, length-append, length-replicate, length-drop}
+use lib.ListN.{length, take, drop, replicate, length-replicate, length-drop}
 use lib.Seq.{length-take-le}
 use borrow.Rule.Slice.PartMut.{putMid, midOf, mid-len}
 use Rattle.spec.specs.Numbers.{zeroPage}
 use Rattle.spec.specs.Frames.{put}
-use Rattle.spec_laws.proofs.Lists.{put-append, put-part, length-put}
-use Rattle.pagealloc.specs.Contents.{padded}
+use Rattle.spec_laws.proofs.Lists.{put-part, length-put}
+use Rattle.pagealloc.specs.declared.pages.Part.{Part}
+use Rattle.pagealloc.specs.Contents.{cleared}
 use Rattle.pagealloc.proofs.Held.{passed}
 
 -- ---- zeros
@@ -28,38 +29,18 @@ pub put-zero-page : (d x : List ℕ) (a : ℕ) → a + 4096 ≤ length d → x �
 unfolding zeroPage
 put-zero-page d x a h e = put-zeros d x a (a + 4096) 4096 h (omega arith) e
 
--- ---- zeros, bytes and zeros
-
--- a lent part right behind what was put
-put-behind : (d s t : List ℕ) (a b k : ℕ) → a ≤ length d → b ≡ a + length s → length t ≡ k → putMid b k (put d a s) t ≡ put d a (s ++ t)
-put-behind d s t a b k h eb ek = rw eb (put-part (put d a s) t (a + length s) k ek) ∙ sym (put-append d s t a h)
-
-pub length-padded : (from : ℕ) (s : List ℕ) → from + length s ≤ 4096 → length (padded from s) ≡ 4096
-unfolding padded
-length-padded from s h = simp (length-append, length-replicate) (omega arith)
-
-pub put-padded : (d s x y z : List ℕ) (base from : ℕ) → base + 4096 ≤ length d → from + length s ≤ 4096
-    → x ≡ replicate (length (midOf base (base + from - base) d)) 0
-    → y ≡ s
-    → z ≡ replicate (length (midOf (base + from + length s) (base + 4096 - (base + from + length s))
-    (putMid (base + from) (base + from + length s - (base + from)) (putMid base (base + from - base) d x) y))) 0
-    → putMid (base + from + length s) (base + 4096 - (base + from + length s))
-    (putMid (base + from) (base + from + length s - (base + from)) (putMid base (base + from - base) d x) y) z
-    ≡ put d base (padded from s)
-unfolding padded
-put-padded d s x y z base from hd hs ex ey ez =
-    let k₁ : base + from + length s - (base + from) ≡ length s = omega arith in
-    let k₂ : base + 4096 - (base + from + length s) ≡ 4096 - from - length s = omega arith in
-    let lr = length-replicate {A = ℕ} from 0 in
-    let ls = length-append (replicate from 0) s in
-    let first : putMid base (base + from - base) d x ≡ put d base (replicate from 0) = put-zeros d x base (base + from) from (omega arith) (omega arith) ex in
-    let two : putMid (base + from) (base + from + length s - (base + from)) (putMid base (base + from - base) d x) y ≡ put d base (replicate from 0 ++ s) =
-    rw (first, ey, k₁) (put-behind d (replicate from 0) s base (base + from) (length s) (omega arith) (omega arith) refl) in
-    let l : length (put d base (replicate from 0 ++ s)) ≡ length d = length-put d (replicate from 0 ++ s) base (omega arith) in
-    let last : z ≡ replicate (4096 - from - length s) 0 = zeros-part _ z (base + from + length s) (base + 4096) (4096 - from - length s) (rw (two, l) hd) k₂ ez in
-    rw (two, last, k₂)
-    (put-behind d (replicate from 0 ++ s) (replicate (4096 - from - length s) 0) base (base + from + length s) (4096 - from - length s) (omega arith) (omega arith)
-    (length-replicate (4096 - from - length s) 0))
+-- what lies before and after a part
+pub put-cleared : (d x y : List ℕ) (base : ℕ) (part : Part) → base + 4096 ≤ length d → part .from ≤ part .to → part .to ≤ 4096
+    → x ≡ replicate (length (midOf base (base + part .from - base) d)) 0
+    → y ≡ replicate (length (midOf (base + part .to) (base + 4096 - (base + part .to)) (putMid base (base + part .from - base) d x))) 0
+    → putMid (base + part .to) (base + 4096 - (base + part .to)) (putMid base (base + part .from - base) d x) y ≡ cleared d base part
+put-cleared d x y base part hd lo hi ex ey =
+    let z : List ℕ = replicate (part .from) 0 in
+    let first : putMid base (base + part .from - base) d x ≡ put d base z = put-zeros d x base (base + part .from) (part .from) (omega arith) (omega arith) ex in
+    let l : length (put d base z) ≡ length d = length-put d z base (omega (arith, length-replicate {A = ℕ} (part .from) 0)) in
+    let room : base + 4096 ≤ length (putMid base (base + part .from - base) d x) = rw (first, l) hd in
+    put-zeros (putMid base (base + part .from - base) d x) y (base + part .to) (base + 4096) (4096 - part .to) room (omega arith) ey
+    ∙ ap (λ (f : List ℕ). put f (base + part .to) (replicate (4096 - part .to) 0)) first
 
 -- ---- one frame copied into another
 

@@ -1,3 +1,4 @@
--- What is lent, the answers of searches, and what pages hold.
+-- What is lent, what pages hold, and what a reader may ask of the two steps by which a page is loaded.
 pub mod Contents
 pub mod Lent
+pub mod Steps

@@ -3,8 +3,9 @@
 
 ghost use mathlib.Core.Path.{_≡_};
 ghost use mathlib.Core.List.{_++_};
-ghost use Prim.Native.Nat.{_*_, _^_, _≤_, _<_, min};
+ghost use Prim.Native.Nat.{_+_, _*_, _^_, _≤_, _<_, min};
 ghost use lib.ListN.{length, take, drop, replicate};
+ghost use Rattle.spec.specs.Frames.{put};
 
 // Every byte becomes 0.
 pub fn zero(d: &mut [u8])
@@ -69,6 +70,16 @@ pub fn copy(d: &mut [u8], s: &[u8])
         copy_part(&mut d[i..e], &s[i..e]);
         i = e;
     }
+}
+
+// The bytes from `at` on become `s`, at most a page.
+pub fn write_phys(frames: &mut [u8], at: mem::PhysAddr, s: &[u8])
+    requires { ⌜ (at .0 + length (now s) ≤ length (now frames)) × (length (now s) ≤ 4096) ⌝ }
+    ensures { λ _. ⌜ now (frames .exit) ≡ put (now (frames .entry)) (at .0) (now (s .entry)) ⌝ }
+{
+    let a = at.0 as usize;
+    let e = a + s.len();
+    copy_part(&mut frames[a..e], s);
 }
 
 // The address of frame `k`.

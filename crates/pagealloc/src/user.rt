@@ -6,18 +6,8 @@ ghost use Prim.Native.Nat.{_+_, _*_, _^_, _≤_, _<_};
 ghost use lib.ListN.{length};
 ghost use Rattle.spec.specs.Numbers.{pageDown};
 ghost use Rattle.spec.specs.Book.{frameCount};
-ghost use Rattle.spec.specs.Frames.{put, pokes, store};
+ghost use Rattle.spec.specs.Frames.{pokes, store};
 ghost use Rattle.pagealloc.specs.Lent.{Mapped};
-
-// The bytes from `at` on become `s`.
-fn write_phys(frames: &mut [u8], at: mem::PhysAddr, s: &[u8])
-    requires { ⌜ at .0 + length (now s) ≤ length (now frames) ⌝ }
-    ensures { λ _. ⌜ now (frames .exit) ≡ put (now (frames .entry)) (at .0) (now (s .entry)) ⌝ }
-{
-    let a = at.0 as usize;
-    let e = a + s.len();
-    crate::frames::copy(&mut frames[a..e], s);
-}
 
 // The address of byte `offset` of frame `k`.
 fn phys(k: usize, offset: u64) -> mem::PhysAddr
@@ -41,7 +31,7 @@ pub fn write_user(frames: &mut [u8], book: &[u64], owner: u64, addr: u64, bytes:
             return;
         };
         let e = i + crate::frames::least((spec::PAGE_SIZE_4K - offset) as usize, bytes.len() - i);
-        write_phys(frames, phys(k, offset), &bytes[i..e]);
+        crate::frames::write_phys(frames, phys(k, offset), &bytes[i..e]);
         i = e;
     }
 }

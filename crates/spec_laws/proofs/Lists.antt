@@ -75,6 +75,12 @@ put-append d s t at h =
       append-assoc (take at d) s t,
     ) refl)
 
+-- what was put is found again
+pub put-back : (d s : List ℕ) (at : ℕ) → at ≤ length d → take (length s) (drop at (put d at s)) ≡ s
+put-back d s at h =
+    let y : List ℕ = drop (at + length s) d in
+    rw (append-assoc (take at d) s y, drop-at (take at d) (s ++ y) at (length-take-le at d h)) (take-at s y (length s) refl)
+
 -- the form that a lent part of a slice leaves
 pub put-part : (d s : List ℕ) (at k : ℕ) → length s ≡ k → putMid at k d s ≡ put d at s
 put-part d s at k e = rw (drop-drop, e) (sym (append-assoc (take at d) s (drop (at + k) d)))

@@ -41,9 +41,7 @@ class World(User):
         entry, segments, ranges, bss = loaded
         for s in segments:
             for page in range(down(s.vaddr), up(s.end), PAGE):
-                before = max(s.vaddr - page, 0)
-                file = s.file[max(page - s.vaddr, 0):max(page + PAGE - s.vaddr, 0)]
-                self.place(n, page, s.perm, bytes(before) + file + bytes(PAGE - before - len(file)))
+                self.load_page(n, page, s)
         for page in range(self.setup.low, self.setup.ustktop, PAGE):
             self.place(n, page, DATA, bytes(PAGE))
         self.records[n] = Record(ranges + [self.setup.stack], bss, kstrcpy(elem(name)))

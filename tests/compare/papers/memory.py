@@ -1,4 +1,5 @@
-"""Item 2: frames, book and records. The book is a list of mappings (request 10 of document 02)."""
+"""Item 2: frames, book and records. Of document 02: the book is a list of mappings (request 10), and a page is loaded in two steps
+(request 3)."""
 from .machine import DATA, PAGE, Refused, down, up
 from .setup import DEPOSIT
 
@@ -139,11 +140,27 @@ class Memory:
         self.book[self.at_place(i, n)] = 0
         self.book[self.at_count(i)] -= 1
 
-    def place(self, n, page, perm, content):
-        """A page into the highest-numbered free frame."""
+    def take(self, n, page, perm):
+        """Process n's page takes the highest-numbered free frame, whose bytes are as they were."""
         i = self.free()[-1]
         self.hold(n, page, perm, i)
+        return i
+
+    def place(self, n, page, perm, content):
+        """A page with all of its bytes."""
+        i = self.take(n, page, perm)
         self.frames[PAGE * i:PAGE * (i + 1)] = content
+
+    def load_page(self, n, page, s):
+        """A page of a segment: the file's part is put in place, then what is before and after it is cleared."""
+        at = PAGE * self.take(n, page, s.perm)
+        first, last = max(page, s.vaddr), min(page + PAGE, s.vaddr + len(s.file))
+        if first >= last:
+            first = last = page
+        before, after = at + first - page, at + last - page
+        self.frames[before:after] = s.file[first - s.vaddr:last - s.vaddr]
+        self.frames[at:before] = bytes(before - at)
+        self.frames[after:at + PAGE] = bytes(at + PAGE - after)
 
     def share(self, n, page, child):
         """Process n's page as the child's too, in its frame."""
