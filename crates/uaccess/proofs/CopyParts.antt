@@ -2,7 +2,7 @@
 use Prim.Native.Nat.{ℕ, _+_, _*_, _-_, _%_, _≤_}
 use native.Mathlib.Omega.{arith}
 use native.Mathlib.Nat.{add-assoc}
-use mathlib.Core.Path.{_≡_, refl, sym, ap, _∙_}
+use mathlib.Core.Path.{_≡_, sym, ap, _∙_}
 use mathlib.Core.Bool.{Bool, true}
 use mathlib.Core.Option.{none, some}
 use mathlib.Core.List.{List}
@@ -14,7 +14,6 @@ use Rattle.spec.specs.Book.{frameCount, frameOf}
 use Rattle.spec.specs.Frames.{Store, Mem, cellIn, memOf, put, pokes, store}
 use Rattle.spec.specs.Access.{cellOk, byteOf, bytesAt}
 use Rattle.spec.proofs.Bools.{clash}
-use Rattle.spec_laws.proofs.Lists.{put-part}
 use Rattle.spec_laws.proofs.Frame.{frame-found}
 use Rattle.spec_laws.proofs.Pokes.{pokes-append, pokes-page}
 use Rattle.spec_laws.proofs.Contents.{length-bytes, get-bytes}
@@ -66,11 +65,10 @@ read-turn mem a i n d x h e =
 -- ---- writes
 
 -- bytes that are put into a page's frame are written
-pub write-page : (frames book bs x : List ℕ) (n va k at : ℕ) → length frames ≡ 4096 * frameCount book → frameOf book n (pageDown va) ≡ some k → va % 4096 + length bs ≤ 4096
-    → at ≡ 4096 * k + va % 4096 → x ≡ bs → store (putMid at (at + length bs - at) frames x) book ≡ pokes (store frames book) n va bs
-write-page frames book bs x n va k at fits e h ea ex =
-    let l : at + length bs - at ≡ length bs = omega arith in
-    ap (λ (y : List ℕ). store y book) (rw (l, ex) (put-part frames bs at (length bs) refl) ∙ ap (λ (j : ℕ). put frames j bs) ea) ∙ sym (pokes-page (store frames book) n va bs k fits e h)
+pub write-page : (frames g book bs : List ℕ) (n va k at : ℕ) → length frames ≡ 4096 * frameCount book → frameOf book n (pageDown va) ≡ some k → va % 4096 + length bs ≤ 4096
+    → at ≡ 4096 * k + va % 4096 → g ≡ put frames at bs → store g book ≡ pokes (store frames book) n va bs
+write-page frames g book bs n va k at fits e h ea eg =
+    ap (λ (y : List ℕ). store y book) (eg ∙ ap (λ (j : ℕ). put frames j bs) ea) ∙ sym (pokes-page (store frames book) n va bs k fits e h)
 
 -- a part of the bytes is written after those before it
 pub write-turn : (m t u : Store) (n a i k : ℕ) (bs : List ℕ) → i + k ≤ length bs → t ≡ pokes m n a (take i bs) → u ≡ pokes t n (a + i) (take (i + k - i) (drop i bs)) → u ≡ pokes m n a (take (i + k) bs)

@@ -97,10 +97,7 @@ fn write_part(
     let spec::Found::At(k) = frame_at(book, tags, bases, table, number, va) else {
         return;
     };
-    let at = phys(k, va);
-    let a = at.0 as usize;
-    let e = a + bytes.len();
-    pagealloc::frames::copy(&mut frames[a..e], bytes);
+    pagealloc::frames::write_phys(frames, phys(k, va), bytes);
 }
 
 // Copies `bytes` to the process's memory from `addr` on: `copy_to_user` of a range that has been checked for writing.

@@ -34,22 +34,12 @@ module _ (c : tie.After-k) where
   found = page-found (now (start .args .book)) (start .args .number) (pageDown (start .args .va)) _ _ (c .before .before .frame-at .ensures) (c .k .given .1)
 
 phys-requires : tie.Need-phys-requires
-phys-requires c κs = omega (arith, found (c .before) .there)
+phys-requires c κs = omega (arith, found (c .before .before) .there)
 
-add-e : tie.Need-add-e
-add-e c = omega (arith, found (c .before .before) .there, c .phys .ensures)
-
-sub-copy : tie.Need-sub-copy
-sub-copy c = search needs
-
-part-copy-start : tie.Need-part-copy-start
-part-copy-start c = search needs
-
-part-copy-end : tie.Need-part-copy-end
-part-copy-end c = omega (arith, found (c .before .before) .there, c .phys .ensures)
-
-copy-requires : tie.Need-copy-requires
-copy-requires c κs = search needs
+write-phys-requires : tie.Need-write-phys-requires
+write-phys-requires c κs =
+    let k = c .before .before .before in
+    (omega (arith, found k .there, c .phys .ensures, start k .pre .0 .0, start k .pre .1 .0), omega (arith, start k .pre .1 .0))
 
 same-length : tie.Need-same-length
 same-length c = search needs
@@ -58,21 +48,9 @@ returns-2 : tie.Need-returns-2
 returns-2 c =
     let k = c .before .before .before .before .before .before in
     let a = start k .args in
-    write-page (now (a .frames)) (now (a .book)) (now (a .bytes)) _ (a .number) (a .va) _ _ (start k .pre .0 .0) (found k .is) (start k .pre .1 .0) (c .before .before .before .before .phys .ensures) (c .before .before .copy .ensures)
+    write-page (now (a .frames)) _ (now (a .book)) (now (a .bytes)) (a .number) (a .va) _ _ (start k .pre .0 .0) (found k .is) (start k .pre .1 .0) (c .before .before .before .phys .ensures) (c .before .before .write-phys .ensures)
 
 pub write-part-spec : {M : Type 1} → statement M
 write-part-spec =
     tie.close
-    (tie.spec
-    frame-at-requires
-    enum-known-k
-    enum-told
-    returns
-    phys-requires
-    add-e
-    sub-copy
-    part-copy-start
-    part-copy-end
-    copy-requires
-    same-length
-    returns-2)
+    (tie.spec frame-at-requires enum-known-k enum-told returns phys-requires write-phys-requires same-length returns-2)
