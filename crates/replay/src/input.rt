@@ -19,15 +19,20 @@ pub(crate) fn behind(s: Session, end: usize) -> Session {
     next
 }
 
-// Reads more of a line, behind what there is of it. Of one that is too long no more is kept than shows it.
+// Reads more of a line, behind what there is of it. Of one that is too long no more is kept than shows it. If that fails, a line on
+// standard error says so.
 pub(crate) fn read(input: &mut [u8], s: Session) -> Session {
     let kept = room::least(room::shift(input, s.at, s.end), LINE_MAX + 1);
     let rest = room::lent(input, kept, INPUT_SIZE);
     let got = libc::read(libc::STDIN_FILENO, rest);
+    if got < 0 {
+        os::fail(b"replay: standard input");
+    }
     let end = std::num::wrapping_add_usize(kept, io::count(got, rest));
     let mut next = s;
     next.at = 0;
     next.end = end;
     next.ended = end == kept;
+    next.failed = got < 0;
     next
 }

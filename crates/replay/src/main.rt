@@ -23,6 +23,7 @@ fn fresh(frames: u64, at: usize, end: usize, ended: bool) -> Session {
         at,
         end,
         ended,
+        failed: false,
     }
 }
 
@@ -55,7 +56,8 @@ fn after(s: Session, a: Asked) -> Session {
     }
 }
 
-// Takes a turn: runs and answers the next line, or reads more of it if it isn't whole. The last line may lack its line feed.
+// Takes a turn: runs and answers the next line, or reads more of it if it isn't whole. The last line may lack its line feed. If its
+// answer can't be written, a line on standard error says so.
 fn turn(
     frames: &mut [u8; replay_session::FRAMES_SIZE],
     book: &mut [u64; replay_session::BOOK_SIZE],
@@ -76,7 +78,7 @@ fn turn(
     let procs = left.procs;
     let answer = left.answer;
     next.procs = procs;
-    replay_replies::put_reply(
+    let written = replay_replies::put_reply(
         next.setup,
         room::part(frames, 0, next.bytes),
         room::first_words(book, next.words),
@@ -85,6 +87,10 @@ fn turn(
         a,
         answer,
     );
+    if !written {
+        os::fail(b"replay: standard output");
+        next.failed = true;
+    }
     next
 }
 
@@ -98,7 +104,7 @@ fn main() {
     // A proved loop has to end, and nothing says that the input does: it has fewer bytes than this.
     let mut left: u64 = u64::MAX;
     while 0 < left {
-        if s.ended & (s.end <= s.at) {
+        if s.failed | (s.ended & (s.end <= s.at)) {
             return;
         }
         s = turn(&mut frames, &mut book, &mut space, &mut list, &mut input, s);

@@ -64,33 +64,21 @@ fn put(dst: &mut [u8], bytes: &[u8]) -> Taken {
     Taken::Size(n)
 }
 
-// Reads a file to its end. It must be shorter than `dst`.
-fn read_file(fd: i32, dst: &mut [u8]) -> Taken {
-    let mut n = 0;
-    while n < dst.len() {
-        let rest = &mut dst[n..];
-        let got = libc::read(fd, rest);
-        if got < 0 {
-            return Taken::Not(Why::Missing);
-        }
-        let more = io::count(got, rest);
-        if more == 0 {
-            return Taken::Size(n);
-        }
-        n += more;
-    }
-    Taken::Not(Why::LargeFile)
-}
-
-// Puts the bytes of the file at `path`.
+// Puts the bytes of the file at `path`. It must be shorter than `dst`.
 fn file(dst: &mut [u8], path: &[u8]) -> Taken {
     let fd = os::open_read(path);
     if fd < 0 {
         return Taken::Not(Why::Missing);
     }
-    let t = read_file(fd, dst);
+    let got = files::read(fd, dst);
     libc::close(fd);
-    t
+    if got.failed {
+        return Taken::Not(Why::Missing);
+    }
+    if dst.len() <= got.count {
+        return Taken::Not(Why::LargeFile);
+    }
+    Taken::Size(got.count)
 }
 
 // Puts the bytes that a word gives at the start of `dst`.

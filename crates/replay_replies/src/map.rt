@@ -6,8 +6,14 @@ use crate::texts::put;
 use crate::texts::put_named;
 use spec::VirtRange;
 
+// How many pages the lines that were written show, or that one could not be written.
+enum Shown {
+    Pages(u64),
+    Not,
+}
+
 // Writes a space and a name without the zeros at its end, with dots for what is no sign; nothing for no name.
-fn put_name(name: [u8; 28]) {
+fn put_name(name: [u8; 28]) -> bool {
     let mut text = [0u8; 28];
     let mut end = 0;
     let mut i = 0;
@@ -19,108 +25,122 @@ fn put_name(name: [u8; 28]) {
             end = i;
         }
     }
-    if 0 < end {
-        put(b" ");
-        put(replay_buffers::room::part(&text, 0, end));
+    if end == 0 {
+        return true;
     }
+    put(b" ") && put(replay_buffers::room::part(&text, 0, end))
 }
 
 // Writes the holders of frame `k`: the numbers of its places that are not 0.
-fn put_holders(book: &[u64], k: usize)
+fn put_holders(book: &[u64], k: usize) -> bool
     requires { ⌜ 17 * k + 16 < length (now book) ⌝ }
 {
-    put(b" holders");
+    let mut written = put(b" holders");
     let mut i: usize = 0;
     while i < 16 {
         let w = book[17 * k + i];
         i += 1;
         if w != 0 {
-            put_named(b" ", i as u64);
+            written = written && put_named(b" ", i as u64);
         }
     }
+    written
 }
 
 // Writes the line of a page: its address, and the first frame that has it in its process's place, with the frame's holders.
-fn put_page(book: &[u64], number: u64, page: u64) {
+fn put_page(book: &[u64], number: u64, page: u64) -> bool {
     let place = (std::num::wrapping_sub_u64(number, 1) % 16) as usize;
     let frames = book.len() / 17;
-    put_named(b"\n    page ", page);
+    if !put_named(b"\n    page ", page) {
+        return false;
+    }
     let mut k = 0;
     while k < frames {
         let w = book[17 * k + place];
         if (book::page_of(w) == page) & (book::owner_of(w) == number) {
-            put_named(b" frame ", k as u64);
-            put_holders(book, k);
-            return;
+            return put_named(b" frame ", k as u64) && put_holders(book, k);
         }
         k += 1;
     }
-    put(b" frame none");
+    put(b" frame none")
 }
 
-// Writes the lines of a range's pages, and answers how many there are.
-fn put_pages(book: &[u64], number: u64, r: VirtRange) -> u64 {
+// Writes the lines of a range's pages.
+fn put_pages(book: &[u64], number: u64, r: VirtRange) -> Shown {
     let mem::Rounded::To(start) = mem::checked_page_up(r.start) else {
-        return 0;
+        return Shown::Pages(0);
     };
     let end = r.end;
     if spec::MAX_TOP < end {
-        return 0;
+        return Shown::Pages(0);
     }
     let mut pages: u64 = 0;
     let mut page = start;
     while page < end {
-        put_page(book, number, page);
+        if !put_page(book, number, page) {
+            return Shown::Not;
+        }
         page += spec::PAGE_SIZE_4K;
         pages += 1;
     }
-    pages
+    Shown::Pages(pages)
 }
 
 // Writes the line of a segment or the bss, and those of its pages. A range that ends before it starts has no bytes.
-fn put_part(kind: &[u8], book: &[u64], number: u64, r: VirtRange) -> u64 {
-    put(kind);
-    put_named(b" ", r.start);
-    put_named(b" ", r.end);
-    put_named(b" size ", if r.end < r.start { 0 } else { r.end - r.start });
-    put_pages(book, number, r)
+fn put_part(kind: &[u8], book: &[u64], number: u64, r: VirtRange) -> Shown {
+    let size = if r.end < r.start { 0 } else { r.end - r.start };
+    if put(kind)
+        && put_named(b" ", r.start)
+        && put_named(b" ", r.end)
+        && put_named(b" size ", size)
+    {
+        return put_pages(book, number, r);
+    }
+    Shown::Not
 }
 
 // Writes the lines of a segment, if the record uses its place.
-fn put_segment(book: &[u64], number: u64, segment: spec::UserSegment) -> u64 {
+fn put_segment(book: &[u64], number: u64, segment: spec::UserSegment) -> Shown {
     let r = segment.range;
     let perm = segment.perm;
     match perm {
         spec::TEXT => put_part(b"\n  text", book, number, r),
         spec::RODATA => put_part(b"\n  rodata", book, number, r),
         spec::DATA => put_part(b"\n  data", book, number, r),
-        _ => 0,
+        _ => Shown::Pages(0),
     }
 }
 
 // Writes the table of a living process.
-pub(crate) fn put_map(book: &[u64], procs: spec::Procs, number: u64) {
+pub(crate) fn put_map(book: &[u64], procs: spec::Procs, number: u64) -> bool {
     if !call_front::is_number(number) {
-        crate::answers::put_answer(spec::Answer::Refused(spec::NUMBER));
-        return;
+        return crate::answers::put_answer(spec::Answer::Refused(spec::NUMBER));
     }
     if !call_front::lives(procs, number) {
-        crate::answers::put_answer(spec::Answer::Refused(spec::DEAD));
-        return;
+        return crate::answers::put_answer(spec::Answer::Refused(spec::DEAD));
     }
     let at = (std::num::wrapping_sub_u64(number, 1) % 16) as usize;
     let p = procs.all[at];
     let name = p.text;
     let segments = p.segments;
-    put_named(b"process ", number);
-    put_name(name);
+    if !put_named(b"process ", number) {
+        return false;
+    }
+    if !put_name(name) {
+        return false;
+    }
     let mut pages: u64 = 0;
     let mut i = 0;
     while i < 16 {
         let segment = segments[i];
-        pages = std::num::wrapping_add_u64(pages, put_segment(book, number, segment));
+        let Shown::Pages(shown) = put_segment(book, number, segment) else {
+            return false;
+        };
+        pages = std::num::wrapping_add_u64(pages, shown);
         i += 1;
     }
-    let more = put_part(b"\n  bss", book, number, p.bss);
-    put_named(b"\n  pages ", std::num::wrapping_add_u64(pages, more));
+    let Shown::Pages(more) = put_part(b"\n  bss", book, number, p.bss) else {
+        return false;
+    };
+    put_named(b"\n  pages ", std::num::wrapping_add_u64(pages, more))
 }

@@ -9,13 +9,12 @@ use replay_script::asked::Asked;
 use replay_script::asked::Kind;
 
 // Writes that a line or a file has more bytes than it may have.
-fn put_large(most: usize) {
-    put_named(b"too large: at most ", most as u64);
-    put(b" bytes");
+fn put_large(most: usize) -> bool {
+    put_named(b"too large: at most ", most as u64) && put(b" bytes")
 }
 
 // Writes why a line is no call.
-fn put_why(why: Why) {
+fn put_why(why: Why) -> bool {
     match why {
         Why::Bad => put(b"bad line"),
         Why::Missing => put(b"no such file"),
@@ -24,7 +23,7 @@ fn put_why(why: Why) {
     }
 }
 
-// Writes the answer of a line, given what the program holds behind it.
+// Writes the answer of a line, given what the program holds behind it, and answers whether all of it was written.
 pub fn put_reply(
     setup: spec::Setup,
     frames: &[u8],
@@ -33,11 +32,11 @@ pub fn put_reply(
     procs: spec::Procs,
     a: Asked,
     answer: spec::Answer,
-) {
+) -> bool {
     let bss = segment::Bss::Set(mem::range(a.number, a.second));
     let kind = a.kind;
-    match kind {
-        Kind::Nothing => return,
+    let written = match kind {
+        Kind::Nothing => return true,
         Kind::Wrong(why) => put_why(why),
         Kind::Sum => sums::put_sums(procs, book, frames),
         Kind::Map => map::put_map(book, procs, a.number),
@@ -48,6 +47,6 @@ pub fn put_reply(
         Kind::Text => answers::put_string(answer, bytes),
         Kind::Name => answers::put_kept(bytes),
         _ => answers::put_answer(answer),
-    }
-    put(b"\n");
+    };
+    written && put(b"\n")
 }

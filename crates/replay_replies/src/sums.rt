@@ -81,16 +81,15 @@ fn records_sum(sum: u32, procs: spec::Procs) -> u32 {
 }
 
 // Writes a name and a sum in eight hex digits.
-fn put_sum(name: &[u8], sum: u32) {
+fn put_sum(name: &[u8], sum: u32) -> bool {
     let mut digits = [0u8; 16];
     let count = io::hex(sum as u64, 8, &mut digits);
-    put(name);
-    put(&digits[..count]);
+    put(name) && put(&digits[..count])
 }
 
 // Writes the sums of all records, of book words and of the bytes of frames.
-pub(crate) fn put_sums(procs: spec::Procs, book: &[u64], frames: &[u8]) {
-    put_sum(b"records=", records_sum(ONES, procs) ^ ONES);
-    put_sum(b" book=", words_sum(ONES, book) ^ ONES);
-    put_sum(b" frames=", bytes_sum(ONES, frames) ^ ONES);
+pub(crate) fn put_sums(procs: spec::Procs, book: &[u64], frames: &[u8]) -> bool {
+    put_sum(b"records=", records_sum(ONES, procs) ^ ONES)
+        && put_sum(b" book=", words_sum(ONES, book) ^ ONES)
+        && put_sum(b" frames=", bytes_sum(ONES, frames) ^ ONES)
 }

@@ -16,7 +16,7 @@ pub const FRAMES_SIZE: usize = FRAMES_MAX * FRAME_BYTES;
 pub const BOOK_SIZE: usize = FRAMES_MAX * BOOK_WORDS;
 
 // How many bytes the frames have, and how many words their book; and how many of these a call is lent. The input's bytes from `at` to
-// `end` aren't taken yet, and if it has ended, there are no more.
+// `end` aren't taken yet, and if it has ended, there are no more. If reading or writing has failed, no further line is run.
 pub struct Session {
     pub procs: Procs,
     pub setup: Setup,
@@ -27,4 +27,5 @@ pub struct Session {
     pub at: usize,
     pub end: usize,
     pub ended: bool,
+    pub failed: bool,
 }

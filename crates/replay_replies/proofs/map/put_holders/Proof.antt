@@ -1,16 +1,15 @@
 -- `map::put_holders` is safe and ends.
 use Prim.Native.Nat.{_+_, _*_, _-_, _≤_, _<_}
-use native.Mathlib.Omega.{arith}
 use lib.ListN.{length}
 use borrow.Author.Needs.{needs}
 use Rattle.replay_replies.proofs.map.put_holders.Statement.{statement}
 use Rattle.replay_replies.proofs.map.put_holders.Tie as tie
 
 abbrev Inv-loop : tie.InvT-loop
-Inv-loop book k i₀ t6 i = (i ≤ 16) × (17 * k + 16 < length book)
+Inv-loop book k written₀ i₀ t7 written i = (i ≤ 16) × (17 * k + 16 < length book)
 
 abbrev μ-loop : tie.MeasureT-loop
-μ-loop book k i₀ t6 i = 16 - i
+μ-loop book k written₀ i₀ t7 written i = 16 - i
 
 pub put-holders-spec : {M : Type 1} → statement M
 put-holders-spec =
@@ -21,13 +20,15 @@ put-holders-spec =
     (λ c. search needs)
     (λ c κs. search needs)
     (λ c. search needs)
-    (λ c. omega arith)
-    (λ c. omega arith)
-    (λ c. omega arith)
-    (λ c. omega arith)
+    (λ c. search needs)
+    (λ c. search needs)
+    (λ c. search needs)
+    (λ c. search needs)
     (λ c. search needs)
     (λ c. search needs)
     (λ c κs. search needs)
+    (λ c. search needs)
+    (λ c. search needs)
     (λ c. search needs)
     (λ c. search needs)
     (λ c. search needs)

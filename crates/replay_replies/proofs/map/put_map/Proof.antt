@@ -5,10 +5,10 @@ use Rattle.replay_replies.proofs.map.put_map.Statement.{statement}
 use Rattle.replay_replies.proofs.map.put_map.Tie as tie
 
 abbrev Inv-loop : tie.InvT-loop
-Inv-loop book number at p segments pages₀ i₀ t14 t15 pages i = i ≤ 16
+Inv-loop book number at p segments pages₀ i₀ t15 t16 pages i = i ≤ 16
 
 abbrev μ-loop : tie.MeasureT-loop
-μ-loop book number at p segments pages₀ i₀ t14 t15 pages i = 16 - i
+μ-loop book number at p segments pages₀ i₀ t15 t16 pages i = 16 - i
 
 pub put-map-spec : {M : Type 1} → statement M
 put-map-spec =
@@ -27,17 +27,25 @@ put-map-spec =
     (λ c. search needs)
     (λ c. search needs)
     (λ c κs. search needs)
+    (λ c. search needs)
+    (λ c κs. search needs)
+    (λ c. search needs)
+    (λ c. search needs)
+    (λ c. search needs)
+    (λ c. search needs)
     (λ c κs. search needs)
     (λ c. search needs)
     (λ c. search needs)
     (λ c. search needs)
     (λ c κs. search needs)
-    (λ c κs. search needs)
     (λ c. search needs)
     (λ c. search needs)
     (λ c. search needs)
     (λ c. search needs)
     (λ c κs. search needs)
+    (λ c. search needs)
+    (λ c. search needs)
+    (λ c. search needs)
     (λ c. search needs)
     (λ c κs. search needs)
     (λ c κs. search needs)
