@@ -1,0 +1,6 @@
+// No symbol _start.
+void begin(void)
+{
+	for (;;)
+		;
+}

@@ -1,0 +1,6 @@
+// Text alone.
+void _start(void)
+{
+	for (;;)
+		;
+}
