@@ -172,7 +172,7 @@ pub fn start(image: &[u8], args: &[&[u8]]) -> UserRegs {
     exec::exec::<Machine>(image, "reader", args).unwrap()
 }
 
-/// What sysexec does after reading the image, but for the closing of descriptors: document 01 leaves both out.
+/// What sysexec does after reading the image, but for the closing of descriptors: the port leaves both out.
 pub fn replace(image: &[u8], argv: usize) -> UserRegs {
     Exec::layout::<Machine>(&elf::parse(image).unwrap()).unwrap();
     let args = Exec::copy_argv::<Machine>(argv).unwrap().unwrap();

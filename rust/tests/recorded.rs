@@ -1,5 +1,5 @@
 // The recorded scripts of tests/replay, whose answers are the published Rust's with the bad addresses of tests/compare/model.py and its
-// 30 for images that number 28 refuses, or under other machine numbers or another flag table than document 01's, and of Plan 9's a.outs,
+// 30 for images that number 28 refuses, or under other machine numbers or another flag table than the deposit machine's, and of Plan 9's a.outs,
 // the model's, run through the library: every answer, and by `sum` every record, book word and frame byte. How a script is read and
 // answered is the oracle's code; the calls here are the library's.
 

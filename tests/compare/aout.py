@@ -1,7 +1,7 @@
 """Plan 9 a.out images, made word by word as a.out(6) describes them. Values are cut to their words."""
 import struct
 
-from papers.setup import DEPOSIT
+from rules.setup import DEPOSIT
 
 HEADER = 32
 NAMES = 'magic', 'text', 'data', 'bss', 'syms', 'entry', 'spsz', 'pcsz'

@@ -5,8 +5,8 @@ stacks, 8 to 5 and 4 to 1; frame 0 is free.
 """
 from boundaries.built import build, seg
 from boundaries.out import LOW, TOP, UTZERO, mapping
-from papers.machine import DATA, MAX, PAGE, RODATA, TEXT
-from papers.memory import WORDS
+from rules.machine import DATA, MAX, PAGE, RODATA, TEXT
+from rules.memory import WORDS
 from script import Script, shown
 
 BEGIN = ['frames 12 9', "start 1 'x " + shown(build(seg(5, 0), seg(5, 1), seg(4, 2))), 'fork 1 2']

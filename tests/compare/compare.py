@@ -22,10 +22,10 @@ write an answer for each line: `target/oracle/release/oracle`, `target/bin/repla
 --tables: other flag tables too, in histories and directed scripts.
 --aouts: images that are Plan 9 a.outs too, in histories and directed scripts.
 --bad: more calls that name a bad address, in histories.
-The oracle has document 01's numbers and table and ELF alone, so it is compared without. It names no bad address either: beside it
+The oracle has the deposit machine's numbers and the built-in table and ELF alone, so it is compared without. It names no bad address either: beside it
 answers are compared without their addresses (`of_both`); all others are compared in full. And it does not read the alignment field,
 for which 28 refuses images: start and replace of such an image are put to it with no bytes in the image's place (`for_rust`), which
-30 answers too, and the image by itself, whose listing must be that of the papers without 28 (`with_28`).
+30 answers too, and the image by itself, whose listing must be that of the rules without 28 (`with_28`).
 
 It counts the answers that are the oracle's own needs of frames and not the Rust's, and the images that 28 refuses beside the oracle.
 """
@@ -45,11 +45,11 @@ sys.path[:0] = HERE, os.path.join(ROOT, 'tests', 'images')
 import books  # noqa: E402
 from elf import change  # noqa: E402
 from histories import History  # noqa: E402
-from papers.flags import BUILT_IN, read_table, table_ok  # noqa: E402
-from papers.image import parse  # noqa: E402
-from papers.listing import listing  # noqa: E402
-from papers.machine import TEXT, Refused  # noqa: E402
-from papers.setup import DEPOSIT, read  # noqa: E402
+from rules.flags import BUILT_IN, read_table, table_ok  # noqa: E402
+from rules.image import parse  # noqa: E402
+from rules.listing import listing  # noqa: E402
+from rules.machine import TEXT, Refused  # noqa: E402
+from rules.setup import DEPOSIT, read  # noqa: E402
 from random_images import EXAMPLE, any_image, random_image  # noqa: E402
 from random_sets import random_set, random_table  # noqa: E402
 from readelf_check import read_cases  # noqa: E402
@@ -114,7 +114,7 @@ def image_of(line):
 
 
 def refused_with_28(image):
-    """Whether the papers do, under document 01's table, the only one that the oracle has."""
+    """Whether the rules do, under the built-in table, the only one that the oracle has."""
     try:
         parse(image, BUILT_IN)
     except Refused as r:
@@ -124,7 +124,7 @@ def refused_with_28(image):
 
 def for_rust(lines):
     """Lines as the oracle gets them, and the images that it gets by themselves, by the places of their lines. The Rust doesn't read the
-    alignment field (request 1 of document 02): an image that 28 refuses is exchanged for one of no bytes, which 30 answers too."""
+    alignment field (request 1): an image that 28 refuses is exchanged for one of no bytes, which 30 answers too."""
     out, images = asked(lines), {}
     for at, line in enumerate(out):
         image = image_of(line)
@@ -139,13 +139,13 @@ def on_one_line(lines):
 
 
 def with_28(image, listed):
-    """What the Rust lists, as it is compared: `refused=28` for an image that the papers refuse so, if without 28 they list it the
+    """What the Rust lists, as it is compared: `refused=28` for an image that the rules refuse so, if without 28 they list it the
     same."""
     if listing(image) != ['refused=28']:
         return listed
     without = on_one_line(listing(image, alignment=False))
     BY_28.update(images=1, listed=not listed.startswith(b'refused'))
-    return b'refused=28' if listed == without else listed + b' (the papers without 28: ' + without + b')'
+    return b'refused=28' if listed == without else listed + b' (the rules without 28: ' + without + b')'
 
 
 def by_28():
@@ -155,7 +155,7 @@ def by_28():
 
 def answers(command, lines):
     """The answers of a command to script lines; one more if it failed. The oracle gets the lines as `for_rust` says; if it lists one of
-    those images otherwise than the papers, that is its answer."""
+    those images otherwise than the rules, that is its answer."""
     lines, images = for_rust(lines) if is_oracle(command) else (lines, {})
     out, failed = run(command, b'\n'.join(lines) + b'\n')
     got = whole(out) + ([failed.encode()] if failed else [])
@@ -171,7 +171,7 @@ def without_address(answer):
 
 
 def of_both(a, b, x, y):
-    """What both answered, as it is compared: beside the Rust, which names no bad address (request 4 of document 02), without it."""
+    """What both answered, as it is compared: beside the Rust, which names no bad address (request 4), without it."""
     if is_oracle(a) or is_oracle(b):
         return [[without_address(answer) for answer in got] for got in (x, y)]
     return x, y
@@ -271,7 +271,7 @@ class Count:
                 self.handed[name].add(handed(line))
 
     def under(self):
-        """What was handed to the calls beside document 01's."""
+        """What was handed to the calls beside the deposit machine's numbers and the built-in table."""
         sets, tables = self.handed['numbers'] - {DEPOSIT.numbers}, self.handed['flags'] - {BUILT_IN}
         kept = sum(map(table_ok, tables))
         counts = (len(sets), 'other sets'), (kept, 'other tables'), (len(tables) - kept, 'tables that break a rule')

@@ -11,8 +11,8 @@ import sys
 import aout as plan9
 from boundaries import (access, addresses, alignment, aout, brk, flag_texts, flags, fork, form, frames, images, numbers, pages, push,
                         replace, sets, shared, start, texts)
-from papers.flags import table_lines
-from papers.setup import written
+from rules.flags import table_lines
+from rules.setup import written
 from random_images import EXAMPLE
 
 HERE = os.path.dirname(os.path.abspath(__file__))

@@ -1,7 +1,7 @@
 """ELF images, made field by field. Values are cut to their fields."""
 import struct
 
-from papers.setup import DEPOSIT
+from rules.setup import DEPOSIT
 
 TEXT, RODATA, DATA = 5, 4, 6      # flags
 
@@ -19,7 +19,7 @@ def program(flags, offset, address, file, memory, type=1, align=4096):
 
 
 def example(code, data, base=DEPOSIT.utzero):
-    """Document 01's 184-byte image, linked at `base`: four bytes of code and four of data follow its headers."""
+    """The example of 184 bytes, linked at `base`: four bytes of code and four of data follow its headers."""
     heads = program(TEXT, 0, base, 180, 180) + program(DATA, 180, base + 4276, 4, 8000)
     return header(base + 176, 2) + heads + code + data
 

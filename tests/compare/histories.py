@@ -2,17 +2,17 @@
 
 A history is a list of script lines. The model runs along while it is made, only to know which processes live, where their
 segments lie and what the book holds, so that addresses and words are apt; no answer of the model goes into a history. A history may
-be under another set of the machine's numbers and another flag table than document 01's, and its images Plan 9 a.outs; the oracle has
+be under another set of the machine's numbers and another flag table than the built-in one, and its images Plan 9 a.outs; the oracle has
 none of these.
 """
 import struct
 
-from papers.flags import REFUSED, table_lines, table_ok
-from papers.layout import stack_size
-from papers.machine import DATA, MAX, PAGE, Refused, down, up
-from papers.memory import WORDS
-from papers.names import elem
-from papers.setup import DEPOSIT, written
+from rules.flags import REFUSED, table_lines, table_ok
+from rules.layout import stack_size
+from rules.machine import DATA, MAX, PAGE, Refused, down, up
+from rules.memory import WORDS
+from rules.names import elem
+from rules.setup import DEPOSIT, written
 from random_images import any_aout, any_image, example_at, random_aout, random_image
 from random_sets import near_set, near_table, random_set, random_table
 from script import Script, shown

@@ -1,5 +1,5 @@
 #!/usr/bin/env python3
-"""Shows that the recorded scripts can fail: each edit of misreadings.txt, which has the model misread the papers, must change answers.
+"""Shows that the recorded scripts can fail: each edit of misreadings.txt, which has the model misread the rules, must change answers.
 
     misread.py [--all]    --all names every script that notices an edit, and not only the first
 
@@ -21,7 +21,7 @@ REPLAY, IMAGES = (os.path.join(ROOT, 'tests', name) for name in ('replay', 'imag
 sys.path.insert(0, IMAGES)
 from readelf_check import read_cases  # noqa: E402
 
-MODEL = 'model.py', 'script.py', 'papers'
+MODEL = 'model.py', 'script.py', 'rules'
 # Of each request, a line that its scripts have.
 LINES = {'Request 1': re.compile(rb'^# Alignments', re.M), 'Request 3': re.compile(rb'^# Pages', re.M),
          'Request 4': re.compile(rb'^# Bad addresses', re.M), 'Request 7': re.compile(rb'^flags', re.M),
@@ -70,7 +70,7 @@ def scripts(request):
 def changed(folder, changes):
     """The model with an edit made, in a folder."""
     for name in MODEL:
-        copy = shutil.copytree if name == 'papers' else shutil.copyfile
+        copy = shutil.copytree if name == 'rules' else shutil.copyfile
         copy(os.path.join(HERE, name), os.path.join(folder, name))
     for file, old, new in changes:
         path = os.path.join(folder, file)

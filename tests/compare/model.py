@@ -1,5 +1,5 @@
 #!/usr/bin/env python3
-"""The model: the papers as a program (papers/), which answers scripts and lists images.
+"""The model: the rules as a program (rules/), which answers scripts and lists images.
 
     model.py          a script on standard input, an answer for each line
     model.py list     an image on standard input, the listing
@@ -9,9 +9,9 @@
 """
 import sys
 
-from papers.aout import read_aout
-from papers.listing import listing
-from papers.machine import KINDS, Refused
+from rules.aout import read_aout
+from rules.listing import listing
+from rules.machine import KINDS, Refused
 from script import Script, bytes_of
 
 

@@ -2,9 +2,9 @@
 table; ELF, and Plan 9 a.outs."""
 import aout
 from elf import change, example, field, header, program
-from papers.flags import BUILT_IN, REFUSED
-from papers.machine import DATA, MAX, PAGE, RODATA, TEXT, up
-from papers.setup import DEPOSIT
+from rules.flags import BUILT_IN, REFUSED
+from rules.machine import DATA, MAX, PAGE, RODATA, TEXT, up
+from rules.setup import DEPOSIT
 
 FLAGS = {TEXT: 5, RODATA: 4, DATA: 6}
 
@@ -17,7 +17,7 @@ EXAMPLE = example_at(DEPOSIT.utzero)
 
 
 def random_row(r, table, perm):
-    """Low flag bits for a permission: under another table than document 01's mostly a row that has it, else one not refused."""
+    """Low flag bits for a permission: under another table than the built-in one mostly a row that has it, else one not refused."""
     if table == BUILT_IN:
         return FLAGS[perm]
     if r.random() < 0.03:

@@ -1,7 +1,7 @@
 """Random sets of the machine's numbers, and flag tables, from a generator of random numbers."""
-from papers.flags import REFUSED
-from papers.machine import DATA, MAX, PAGE, RODATA, TEXT, down
-from papers.setup import Setup
+from rules.flags import REFUSED
+from rules.machine import DATA, MAX, PAGE, RODATA, TEXT, down
+from rules.setup import Setup
 
 
 def random_set(r):

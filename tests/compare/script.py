@@ -1,12 +1,12 @@
 """Scripts of calls, as docs/REPLAY.md describes them, and the model's answers to them."""
 import zlib
 
-from papers.calls import World
-from papers.flags import read_table
-from papers.machine import KINDS, MAX, PAGE, Ended, Refused, down, up
-from papers.names import kstrcpy
-from papers.segments import rule
-from papers.setup import Setup, read
+from rules.calls import World
+from rules.flags import read_table
+from rules.machine import KINDS, MAX, PAGE, Ended, Refused, down, up
+from rules.names import kstrcpy
+from rules.segments import rule
+from rules.setup import Setup, read
 
 BLANK = 238
 LINE_MAX = BUFFER_MAX = 65536

@@ -15,10 +15,10 @@ import compare
 from compare import OPTIONS, REPLAY, answers, asked, of_both, script_lines
 from elf import DATA, TEXT, header, program
 from histories import History
-from papers.aout import read_aout
-from papers.machine import PAGE, Refused, up
-from papers.machine import TEXT as TEXT_PAGES
-from papers.setup import DEPOSIT
+from rules.aout import read_aout
+from rules.machine import PAGE, Refused, up
+from rules.machine import TEXT as TEXT_PAGES
+from rules.setup import DEPOSIT
 from script import BadLine, bytes_of, shown
 
 MODEL = 'tests/compare/model.py'

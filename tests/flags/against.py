@@ -13,8 +13,8 @@ sys.path.insert(0, os.path.join(os.path.dirname(os.path.dirname(os.path.abspath(
 from boundaries.flag_texts import each_byte, each_row, form  # noqa: E402
 from boundaries.flags import ACCEPTED  # noqa: E402
 from feed import FILE_MAX, at_longest, compare  # noqa: E402
-from papers.flags import WORDS, read_table, table_lines  # noqa: E402
-from papers.machine import Refused  # noqa: E402
+from rules.flags import WORDS, read_table, table_lines  # noqa: E402
+from rules.machine import Refused  # noqa: E402
 
 
 def printed(text):

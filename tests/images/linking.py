@@ -28,10 +28,10 @@ PAGE = HERE.parents[1] / 'docs' / 'LINKING.md'
 SOURCES = HERE / 'linking'
 sys.path.insert(0, str(HERE.parent / 'compare'))
 from feed import from_file  # noqa: E402
-from papers.layout import load, page_count  # noqa: E402
-from papers.listing import listing  # noqa: E402
-from papers.machine import Refused  # noqa: E402
-from papers.setup import DEPOSIT  # noqa: E402
+from rules.layout import load, page_count  # noqa: E402
+from rules.listing import listing  # noqa: E402
+from rules.machine import Refused  # noqa: E402
+from rules.setup import DEPOSIT  # noqa: E402
 from script import Script  # noqa: E402
 
 FRAMES = 1024

@@ -1,11 +1,11 @@
 #!/usr/bin/env python3
-"""Images for the listing program, each with the listing that document 01 gives it.
+"""Images for the listing program, each with the listing that the rules give it.
 
   make.py            write example.img, ../../crates/listing_cases/data/cases and ../../crates/listing_cases/stdout
   make.py --check    compare those three files with what would be written
   make.py --to DIR   write each image as DIR/NAME.img with its listing as DIR/NAME.txt
 
-Each case (cases/) states its listing, worked out by hand from document 01, and the model of tests/compare gives it again from the
+Each case (cases/) states its listing, worked out by hand from the rules, and the model of tests/compare gives it again from the
 bytes; the two must agree before anything is written. Only the sweep and the linker's executables have their listing from the model
 alone; readelf_check.py compares the latter with readelf's reading.
 
@@ -17,7 +17,7 @@ import sys
 
 from cases import header, layout, order, segments, whole
 from cases.built import CASES, EXAMPLE
-from papers.listing import listing
+from rules.listing import listing
 
 HERE = pathlib.Path(__file__).resolve().parent
 CRATE = HERE.parent.parent / 'crates' / 'listing_cases'

@@ -35,7 +35,7 @@ def read_cases():
 
 
 def refusal(said, loads, size):
-    """Why an image is refused, in the order of the papers' numbers, as far as the images compared go; None if it is not."""
+    """Why an image is refused, in the order of the numbers, as far as the images compared go; None if it is not."""
     if size > 32768:
         return 1
     if 'Class:                             ELF64' not in said:

@@ -18,7 +18,7 @@ from processor import DATA, EVERYTHING, PAGE, PC, Failure, Library, Process, Ref
 
 sys.path.insert(0, str(pathlib.Path(__file__).resolve().parents[1] / 'compare'))
 import aout  # noqa: E402
-from papers.image import parse  # noqa: E402
+from rules.image import parse  # noqa: E402
 
 # The machine's numbers: those of the deposit machine, whose stack ends at 2^47, and others with a larger stack that ends at 2^27.
 DEPOSIT = 65536, 1 << 47, 16384, 1 << 47

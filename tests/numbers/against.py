@@ -13,8 +13,8 @@ sys.path.insert(0, os.path.join(os.path.dirname(os.path.dirname(os.path.abspath(
 from boundaries.sets import ACCEPTED, conditions  # noqa: E402
 from boundaries.texts import both, each_byte, form  # noqa: E402
 from feed import FILE_MAX, at_longest, compare  # noqa: E402
-from papers.machine import Refused  # noqa: E402
-from papers.setup import read, written  # noqa: E402
+from rules.machine import Refused  # noqa: E402
+from rules.setup import read, written  # noqa: E402
 
 
 def printed(text):

@@ -18,8 +18,8 @@ ROOT = os.path.dirname(os.path.dirname(HERE))
 sys.path.insert(0, os.path.join(ROOT, 'tests', 'compare'))
 import aout  # noqa: E402
 import feed  # noqa: E402
-from papers.flags import BUILT_IN, table_lines  # noqa: E402
-from papers.setup import Setup, written  # noqa: E402
+from rules.flags import BUILT_IN, table_lines  # noqa: E402
+from rules.setup import Setup, written  # noqa: E402
 from script import FILE_MAX, LINE_MAX, Script  # noqa: E402
 
 STACK = 8 << 20

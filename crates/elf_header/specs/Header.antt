@@ -11,7 +11,7 @@ use Rattle.elf_header.specs.declared.header.Ehdr.{Ehdr}
 use Rattle.elf_header.specs.declared.header.Verdict.{Verdict}
 use Rattle.elf_header.specs.declared.header.Verdict.the-variants.{Fine, Refused}
 
--- the scope's number of a verdict, 0 where nothing is refused
+-- the number of a verdict, 0 where nothing is refused
 abbrev pub verdictNumber : Verdict → ℕ
 verdictNumber Fine = 0
 verdictNumber (Refused e) = errorNumber e

@@ -1,6 +1,6 @@
 -- What the exported functions that are no calls answer. C has neither options nor an enum that holds a number, so that an optional bss
--- is a mark and a range, and the form of an image a mark and a magic, in the calls too (02, 9/13). Those that are handed a setup judge
--- it, 38 and 39, after their own 1 (02, 5/13 and 7/13); beyond that they answer what the specification's `ibrk`, `argsError`,
+-- is a mark and a range, and the form of an image a mark and a magic, in the calls too (request 9). Those that are handed a setup judge
+-- it, 38 and 39, after their own 1 (request 5 and 7/13); beyond that they answer what the specification's `ibrk`, `argsError`,
 -- `readError` and the plan say.
 -- Assumes nothing.
 use Prim.Native.Nat.{ℕ, _+_, _*_}
@@ -65,7 +65,7 @@ planIn setup form image = setupError setup isnt 0 ⇒ refusedPlan (setupError se
 abbrev pub plannedOf : Plan → Planned
 plannedOf p = record { number = p .number; own = p .own; entry = p .entry; segments = p .segments; count = p .count; bss = p .bss; pages = p .pages }
 
--- 02, 10/13: the words of the book of so many frames, seventeen a frame; 0 for a number of frames that no call takes
+-- Request 10: the words of the book of so many frames, seventeen a frame; 0 for a number of frames that no call takes
 abbrev pub bookWords : ℕ → ℕ
 bookWords frames = within 1 (maxFrames + 1) frames ⇒ 17 * frames else 0
 

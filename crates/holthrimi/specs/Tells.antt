@@ -11,7 +11,7 @@ use Rattle.spec.specs.declared.Answer.{Answer}
 use Rattle.spec.specs.declared.Answer.the-variants.{Regs, Value, Done, No, Refused, Ended, RefusedAt, EndedAt}
 use Rattle.holthrimi.specs.declared.told.Told.{Told}
 
--- 0 accepted, 1 refused, 2 ended; and 3 for a range that can't be accessed (02, 4/13), since any value, 1 too, may be its bad address
+-- 0 accepted, 1 refused, 2 ended; and 3 for a range that can't be accessed (request 4), since any value, 1 too, may be its bad address
 abbrev pub kindOf : Answer → ℕ
 kindOf (Regs regs) = 0
 kindOf (Value value) = 0

@@ -1,4 +1,4 @@
--- A page of a segment loaded in two steps, whatever bytes stood in the frames before (02, 3/13).
+-- A page of a segment loaded in two steps, whatever bytes stood in the frames before (request 3).
 use Prim.Native.Nat.{ℕ, _+_, _-_, _≤_, _<_}
 use native.Mathlib.Omega.{arith}
 use mathlib.Core.Path.{_≡_, sym, ap, _∙_}

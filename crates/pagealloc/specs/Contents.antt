@@ -1,5 +1,5 @@
 -- What pages hold: the file bytes that fall into a page, and zeros. The specification's `pageBytes` goes address by address; a page is
--- loaded in two steps (02, 3/13), the file's part put in place, then the rest cleared.
+-- loaded in two steps (request 3), the file's part put in place, then the rest cleared.
 -- Assumes nothing.
 use Prim.Native.Nat.{ℕ, _+_, _-_, min, max}
 use mathlib.Core.List.{List}

@@ -1,4 +1,4 @@
--- 02, 3/13: what a reader may ask of the two steps. They hold for any earlier bytes of the frames.
+-- Request 3: what a reader may ask of the two steps. They hold for any earlier bytes of the frames.
 -- Assumes nothing.
 use Prim.Native.Nat.{ℕ, _+_, _-_, _≤_, _<_}
 use mathlib.Core.Path.{_≡_}

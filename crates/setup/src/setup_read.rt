@@ -1,4 +1,4 @@
-// The machine numbers in a file (02, 5/13): four lines, `UTZERO=65536` and so on, read into a setup. A number has at most 15 digits,
+// The machine numbers in a file (request 5): four lines, `UTZERO=65536` and so on, read into a setup. A number has at most 15 digits,
 // so that it never passes 64 bits.
 
 ghost use mathlib.Core.Path.{_≡_};

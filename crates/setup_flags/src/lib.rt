@@ -1,4 +1,4 @@
-// The lines of a flag table (02, 7/13), read and written, and what the flags program prints of a file.
+// The lines of a flag table (request 7), read and written, and what the flags program prints of a file.
 
 mod flags_put;
 mod flags_read;

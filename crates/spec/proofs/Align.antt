@@ -1,4 +1,4 @@
--- 02, 1/13: an alignment. Agreement modulo a number is lying a multiple of it apart; a number of 64 bits with one bit set is a power of
+-- Request 1: an alignment. Agreement modulo a number is lying a multiple of it apart; a number of 64 bits with one bit set is a power of
 -- two; and what check 28 passes and refuses.
 use Prim.Native.Nat.{ℕ, zero, suc, _+_, _-_, _*_, _/_, _%_, _^_, _≤_, _<_}
 use native.Mathlib.Omega.{arith}

@@ -1,4 +1,4 @@
--- The worked examples of the scope: what the definitions give, beside what the scope says, and one proof.
+-- The worked examples of docs/RULES.md: what the definitions give, beside what is said there, and one proof.
 use mathlib.Core.Path.{_≡_, refl}
 use mathlib.Core.Bool.{Bool, true, false, _||_}
 use mathlib.Core.Option.{none, some}
@@ -40,7 +40,7 @@ one flags offset vaddr filesz memsz = ehdr 65652 64 1 ++ phdr flags offset vaddr
 abbrev pub image184 : List ℕ
 image184 = ehdr 65712 64 2 ++ phdr 5 0 65536 180 180 ++ phdr 6 180 69812 4 8000 ++ replicate 4 170 ++ 1 ∷ 2 ∷ 3 ∷ 4 ∷ []
 
--- 02, 1/13: a header of an image, from place `at` on, with another alignment; in the listing's image the text header stands at 64, the data
+-- Request 1: a header of an image, from place `at` on, with another alignment; in the listing's image the text header stands at 64, the data
 -- header at 120
 abbrev aligned : List ℕ → ℕ → ℕ → List ℕ
 aligned image at align = take (at + 48) image ++ leBytes 8 align ++ drop (at + 56) image
@@ -53,14 +53,14 @@ texts (suc k) vaddr = phdr 5 0 vaddr 120 120 ++ texts k (vaddr + 4096)
 abbrev pub many : ℕ → List ℕ
 many k = ehdr 65652 64 k ++ texts k 65536
 
--- its program; and with a table that has constants which a build marks writable as rodata (02, 7/13)
+-- its program; and with a table that has constants which a build marks writable as rodata (request 7)
 abbrev program : Program
 program = elfProgram builtIn image184
 
 abbrev partners : Program
 partners = elfProgram (set builtIn 6 2) image184
 
--- 02, 9/13: an a.out of two instructions, which is entered at its first, with 8 bytes of data and a bss of 8,000; syms, spsz and pcsz are
+-- Request 9: an a.out of two instructions, which is entered at its first, with 8 bytes of data and a bss of 8,000; syms, spsz and pcsz are
 -- nonsense. Plan 9's magic for arm64 is 4 × 28 × 28 + 7.
 abbrev word : ℕ → List ℕ
 word n = reverse (leBytes 4 n)
@@ -75,7 +75,7 @@ plan9 = aoutProgram deposit (aout 8 8 8000 65568)
 abbrev lex-mot : List (List ℕ)
 lex-mot = ascii "lex" ∷ ascii "mot" ∷ []
 
--- what the definitions give, and what the scope says
+-- what the definitions give, and what docs/RULES.md says
 abbrev pub starred : List (ℕ × ℕ)
 starred =
     (elfError builtIn (replicate 63 0), 11)
@@ -105,7 +105,7 @@ readsBack args = said (copyArgv deposit (pushed (deposit .ustktop) args (loaded 
     said over = false
     said (read more) = same (same _is_) more args
 
--- 02, 4/13: a data page at 65,536, a text page behind it, and a data page below the top; the address that is named, or 0
+-- Request 4: a data page at 65,536, a text page behind it, and a data page below the top; the address that is named, or 0
 abbrev three : Mem
 three a =
     within 65536 69632 a || within (2 ^ 47 - 4096) (2 ^ 47) a ⇒ some (record { perm = 3; byte = 7 }) else
@@ -187,7 +187,7 @@ unstarred =
     ∷ (readsBack ([] ∷ (65 ∷ []) ∷ [] ∷ replicate 9 66 ∷ []) ⇒ 1 else 0, 1)
     ∷ []
 
--- 02, 1/13: on the data header 69,812 leaves 4,276 of 65,536, where 180 is asked for
+-- Request 1: on the data header 69,812 leaves 4,276 of 65,536, where 180 is asked for
 abbrev alignments : List (ℕ × ℕ)
 alignments =
     (elfError builtIn (aligned image184 64 65536), 0)
@@ -215,7 +215,7 @@ alignments =
     at-zero : ℕ → List ℕ
     at-zero flags = ehdr 116 64 1 ++ phdr flags 0 0 120 120
 
--- 02, 9/13
+-- Request 9
 abbrev aouts : List (ℕ × ℕ)
 aouts =
     (aoutError deposit 3143 (take 31 (aout 8 8 0 65568)), 42)
@@ -268,7 +268,7 @@ pub unstarred-hold : rows-equal unstarred ≡ true
 unfolding ehdrError phdrs powerOfTwo alignOk phdrError segmentsOf elfError ibrk access argBuffer copyArgv
 unstarred-hold = refl
 
--- 02, 4/13: a range that is asked for answers no; the string copy called by itself is refused; the others end the process
+-- Request 4: a range that is asked for answers no; the string copy called by itself is refused; the others end the process
 pub bad-answers-hold : map (λ q. weigh (record { setup = deposit; segments = []; bss = range 0 0; mem = three }) 0 0 q .says)
     (user-range-ok 69631 2 true
     ∷ try-copy-str-from-user (0 ∷ 0 ∷ []) 73727

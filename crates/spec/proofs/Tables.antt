@@ -1,4 +1,4 @@
--- 02, 7/13, for the reader: the record `Tables` holds.
+-- Request 7, for the reader: the record `Tables` holds.
 use Prim.Native.Nat.{ℕ, _%_}
 use native.Mathlib.Omega.{arith}
 use mathlib.Core.Path.{_≡_, refl, ap, _∙_}

@@ -31,7 +31,7 @@ abbrev pub lowestBad : Mem → Bool → ℕ → ℕ → Checked
 lowestBad mem write a zero = Fine
 lowestBad mem write a (suc k) = cellOk write (mem a) ⇒ lowestBad mem write (a + 1) k else Bad a
 
--- `user_range_ok` (02, 4/13): a range that starts above the top, UADDRTOP, is bad at its own start, empty or not; otherwise it is bad at
+-- `user_range_ok` (request 4): a range that starts above the top, UADDRTOP, is bad at its own start, empty or not; otherwise it is bad at
 -- the lowest byte address below the top that can't be accessed; otherwise, where it reaches past the top, at the top. An empty range
 -- that starts at or below the top passes.
 unfoldable pub access : Setup → Mem → Bool → ℕ → ℕ → Checked

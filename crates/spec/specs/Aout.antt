@@ -1,4 +1,4 @@
--- 02, 9/13: Plan 9's executables, by a.out(6): a header of eight 32-bit big-endian words, which are magic, text, data, bss, syms, entry,
+-- Request 9: Plan 9's executables, by a.out(6): a header of eight 32-bit big-endian words, which are magic, text, data, bss, syms, entry,
 -- spsz and pcsz, then the bytes of text and of data. The caller gives the magic that is expected; syms, spsz and pcsz aren't read, nor
 -- what stands behind data.
 -- Assumes nothing.

@@ -1,4 +1,4 @@
--- 02, 9/13, for the reader: what stands in the pages of an a.out before its arguments are pushed.
+-- Request 9, for the reader: what stands in the pages of an a.out before its arguments are pushed.
 -- Assumes nothing.
 use Prim.Native.Nat.{ℕ, _+_, _<_}
 use mathlib.Core.Path.{_≡_}
@@ -14,7 +14,7 @@ use Rattle.spec.specs.Exec.{imageError, loaded}
 use Rattle.spec.specs.declared.Setup.{Setup}
 use Rattle.spec.specs.declared.Form.the-variants.{Aout}
 
--- 02, 9/13: header and text at UTZERO, data at the next page, zeros elsewhere
+-- Request 9: header and text at UTZERO, data at the next page, zeros elsewhere
 pub record AoutPages (setup : Setup) (image : List ℕ) (mem : Mem) : Type 0 where
   -- the file's first 32 + text bytes, as text
   pub text-bytes : (i : ℕ) → i < textEnd image → mem (setup .utzero + i) ≡ some (record { perm = 1; byte = getD image i 0 })
@@ -24,7 +24,7 @@ pub record AoutPages (setup : Setup) (image : List ℕ) (mem : Mem) : Type 0 whe
   pub others : (a : ℕ) (c : Cell) → mem a ≡ some c → within (setup .utzero) (setup .utzero + textEnd image) a ≡ false
       → within (dataAt setup image) (dataAt setup image + dataSize image) a ≡ false → c .byte ≡ 0
 
--- 02, 9/13: so it is with every accepted a.out
+-- Request 9: so it is with every accepted a.out
 abbrev pub AoutsLoad : Type 0
 AoutsLoad =
     (setup : Setup) (magic : ℕ) (image : List ℕ) → imageError setup (Aout magic) image ≡ 0

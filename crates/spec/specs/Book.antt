@@ -34,7 +34,7 @@ permOf w = w % 16
 abbrev pub valid : ℕ → Bool
 valid n = within 1 (maxProcs + 1) n
 
--- 02, 10/13: seventeen words a frame, places 1 to 16, then the count, frame after frame
+-- Request 10: seventeen words a frame, places 1 to 16, then the count, frame after frame
 abbrev pub frameCount : List ℕ → ℕ
 frameCount book = length book / 17
 
@@ -82,7 +82,7 @@ permIn book n (some k) = some (permOf (mapping book k n))
 abbrev pub bookPerm : List ℕ → ℕ → ℕ → Option ℕ
 bookPerm book n page = permIn book n (frameOf book n page)
 
--- 02, 10/13: how many frames a process holds alone
+-- Request 10: how many frames a process holds alone
 abbrev pub isAlone : List ℕ → ℕ → ℕ → Bool
 isAlone book n k = mapping book k n isnt 0 && holders book k is 1
 
@@ -151,7 +151,7 @@ pageCount (g ∷ gs) = (g .range .end - g .range .start) / 4096 + pageCount gs
 abbrev pub procAt : Procs → ℕ → Proc
 procAt ps n = getD (ps .all) (n - 1) zeroProc
 
--- 02, 10/13: data, bss and stack, which fork copies; text and rodata, which it shares
+-- Request 10: data, bss and stack, which fork copies; text and rodata, which it shares
 abbrev pub dataOnly : List UserSegment → List UserSegment
 dataOnly gs = filter (λ g. g .perm is 3) gs
 

@@ -1,4 +1,4 @@
--- Item 4, elf.rs: the checks 11 to 28 of an image, in their order, and its loadable segments, under a flag table (02, 7/13). An image
+-- Item 4, elf.rs: the checks 11 to 28 of an image, in their order, and its loadable segments, under a flag table (request 7). An image
 -- is any bytes; what is not checked here isn't read.
 -- Assumes nothing.
 use Prim.Native.Nat.{ℕ, zero, suc, _+_, _*_, _-_, _%_, _^_, _≤_, _<_}
@@ -110,7 +110,7 @@ agree m a b = a % m is b % m
 unfoldable pub powerOfTwo : ℕ → Bool
 powerOfTwo n = anyBelow 64 (λ k. n is 2 ^ k)
 
--- 28 (02, 1/13): an alignment of 0 or 1 asks for nothing; any other is a power of two, and address and offset agree modulo it
+-- 28 (request 1): an alignment of 0 or 1 asks for nothing; any other is a power of two, and address and offset agree modulo it
 unfoldable pub alignOk : Phdr → Bool
 alignOk p = p .align is 0 || p .align is 1 || powerOfTwo (p .align) && agree (p .align) (p .vaddr) (p .offset)
 

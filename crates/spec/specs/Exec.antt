@@ -132,7 +132,7 @@ abbrev pub firstBad : Setup → Mem → List (ℕ × ℕ) → Checked
 firstBad setup mem [] = Fine
 firstBad setup mem ((at, len) ∷ more) = access setup mem true at len names Bad else firstBad setup mem more
 
--- whether it may write its strings and its pointers (02, 4/13): a push below address 0 is bad at 0
+-- whether it may write its strings and its pointers (request 4): a push below address 0 is bad at 0
 abbrev pub pushAccess : Setup → Mem → ℕ → List (List ℕ) → Checked
 pushAccess setup mem top args = belowZero top args ⇒ Bad 0 else firstBad setup mem (copies (stringsAt top args) (argvAt top args) args)
 

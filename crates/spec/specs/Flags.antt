@@ -1,4 +1,4 @@
--- The flag table (02, 7/13): what the low three bits of a segment's flags (execute 1, write 2, read 4) stand for, one row for each of
+-- The flag table (request 7): what the low three bits of a segment's flags (execute 1, write 2, read 4) stand for, one row for each of
 -- their eight values: 0 refused, 1 text, 2 rodata, 3 data.
 -- Assumes nothing.
 use Prim.Native.Nat.{ℕ, _/_, _%_}
@@ -7,7 +7,7 @@ use mathlib.Core.List.{List, [], _∷_}
 use lib.ListN.{getD}
 use Rattle.spec.specs.Tests.{_is_, within, allBelow}
 
--- the built-in table (01): 5 text, 4 rodata, 6 data, others refused
+-- the built-in table: 5 text, 4 rodata, 6 data, others refused
 abbrev pub builtIn : List ℕ
 builtIn = 0 ∷ 0 ∷ 0 ∷ 0 ∷ 2 ∷ 1 ∷ 3 ∷ 0 ∷ []
 

@@ -1,4 +1,4 @@
--- The flag table in lines (02, 7/13): `flags0=refused` to `flags7=refused`. What reads it answers 39 for bytes that are not as described
+-- The flag table in lines (request 7): `flags0=refused` to `flags7=refused`. What reads it answers 39 for bytes that are not as described
 -- and for a table that is against the rules.
 -- Assumes nothing.
 use Prim.Native.Nat.{ℕ, zero, suc, _+_}

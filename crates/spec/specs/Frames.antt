@@ -20,7 +20,7 @@ pub record Store : Type 0 where
 abbrev pub store : List ℕ → List ℕ → Store
 store frames book = record { frames = frames; book = book }
 
--- 1: frame bytes are 4,096 a frame, book words seventeen (02, 10/13), frames 1 to 1,024
+-- 1: frame bytes are 4,096 a frame, book words seventeen (request 10), frames 1 to 1,024
 abbrev pub sized : Store → Bool
 sized m =
     length (m .frames) is 4096 * frameCount (m .book) && length (m .book) is 17 * frameCount (m .book)
@@ -96,7 +96,7 @@ frameBytes frames (some k) = take 4096 (drop (4096 * k) frames)
 
 -- ---- pages shared
 
--- 02, 10/13: a text or rodata frame of process n gets a mapping of the child's beside it, and one holder more
+-- Request 10: a text or rodata frame of process n gets a mapping of the child's beside it, and one holder more
 abbrev pub join : ℕ → ℕ → List ℕ → ℕ → List ℕ
 join n child book k =
     mapping book k n isnt 0 && permOf (mapping book k n) isnt 3

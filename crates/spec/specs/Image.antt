@@ -1,4 +1,4 @@
--- 02, 9/13: an image is read in the form that the caller names.
+-- Request 9: an image is read in the form that the caller names.
 -- Assumes nothing.
 use Prim.Native.Nat.{ℕ}
 use mathlib.Core.List.{List}

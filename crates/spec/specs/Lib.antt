@@ -1,4 +1,4 @@
--- Everything that a reader must believe, one module for each of the scope's items, in its order. No module uses one that stands
+-- Everything that a reader must believe, one module for each item of docs/RULES.md, in its order. No module uses one that stands
 -- below it.
 pub mod Tests
 pub mod Flags

@@ -1,6 +1,5 @@
--- The listing program: what it prints for an image. It is the reader's half of the scope that a user sees without starting a
--- process. It reads ELF, and keeps the deposit machine's numbers and the
--- built-in flag table.
+-- The listing program: what it prints for an image, which a user sees without starting a process. It reads ELF, and keeps the deposit
+-- machine's numbers and the built-in flag table.
 -- Assumes nothing.
 use Prim.Native.Nat.{ℕ, zero, suc, _+_, _/_, _%_}
 use mathlib.Core.List.{List, [], _∷_, _++_}

@@ -24,7 +24,7 @@ use Rattle.spec.specs.declared.Answer.the-variants.{Regs, Value, Done, N
 
 -- ---- calls and answers
 
--- the ten calls with their arguments: bytes of lent buffers, fork's lent list, and the form of an image (02, 9/13) among them
+-- the ten calls with their arguments: bytes of lent buffers, fork's lent list, and the form of an image (request 9) among them
 pub data Ask : Type 0 where
   start : (form : Form) (image name bytes lengths : List ℕ) → Ask
   replace : (form : Form) (image name : List ℕ) (argv : ℕ) → Ask
@@ -79,7 +79,7 @@ numberOf (Ended number) = number
 numberOf (RefusedAt address) = 35
 numberOf (EndedAt address) = 35
 
--- its values: a refusal answers zeros, but for the bad address (02, 4/13)
+-- its values: a refusal answers zeros, but for the bad address (request 4)
 abbrev pub zeroRegs : UserRegs
 zeroRegs = record { pc = 0; sp = 0; argc = 0; argv = 0 }
 
@@ -194,11 +194,11 @@ unclaimed taken n begins = not (taken n)
 unclaimed taken n (forks child segments) = not (taken child)
 unclaimed taken n plain = true
 
--- 02, 10/13: what fork copies: data, bss and stack
+-- Request 10: what fork copies: data, bss and stack
 abbrev pub copied : Machine → ℕ
 copied m = pageCount (dataOnly (pieces (m .segments) (m .bss)))
 
--- 02, 10/13: whether a call is a replace, the only one that weighs the frames that its process holds alone
+-- Request 10: whether a call is a replace, the only one that weighs the frames that its process holds alone
 abbrev pub replaces : Ask → Bool
 replaces (start form image name bytes lengths) = false
 replaces (replace form image name argv) = true

@@ -1,4 +1,4 @@
--- The machine numbers (02, 5/13), whole pages, and numbers in bytes. Every rule below that needs a machine number or the
+-- The machine numbers (request 5), whole pages, and numbers in bytes. Every rule below that needs a machine number or the
 -- flag table is handed the setup that has it.
 -- Assumes nothing.
 use Prim.Native.Nat.{ℕ, zero, suc, _+_, _*_, _-_, _/_, _%_, _^_, _≤_, _<_}
@@ -16,7 +16,7 @@ use Rattle.spec.specs.declared.Setup.{Setup}
 abbrev pub maxTop : ℕ
 maxTop = 2 ^ 47
 
--- the deposit machine's, with the built-in flag table (01)
+-- the deposit machine's, with the built-in flag table
 abbrev pub deposit : Setup
 deposit = record { utzero = 65536; ustktop = 2 ^ 47; ustksize = 16384; uaddrtop = 2 ^ 47; flags = builtIn }
 
@@ -28,7 +28,7 @@ limit setup = setup .ustktop - setup .ustksize - 4096
 abbrev pub argLimit : Setup → ℕ
 argLimit setup = setup .ustksize / 4
 
--- 38 (02, 5/13): all are multiples of 4,096; UTZERO and USTKSIZE are at least 4,096; USTKSIZE is at most 65,536 and below USTKTOP;
+-- 38 (request 5): all are multiples of 4,096; UTZERO and USTKSIZE are at least 4,096; USTKSIZE is at most 65,536 and below USTKTOP;
 -- UTZERO + 8,192 is at most USTKTOP − USTKSIZE; USTKTOP is at most UADDRTOP, and that at most 2^47
 unfoldable pub setupOk : Setup → Bool
 setupOk setup =
@@ -38,7 +38,7 @@ setupOk setup =
     && not (setup .utzero + 8192 above setup .ustktop - setup .ustksize)
     && not (setup .ustktop above setup .uaddrtop) && not (setup .uaddrtop above maxTop)
 
--- what a setup is refused with: 38, then 39 for its flag table (02, 7/13); or 0
+-- what a setup is refused with: 38, then 39 for its flag table (request 7); or 0
 unfoldable pub setupError : Setup → ℕ
 setupError setup =
     not (setupOk setup) ⇒ 38 else

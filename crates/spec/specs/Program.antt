@@ -1,4 +1,4 @@
--- 02, 9/13: what a reader gives of an image, whatever its form: where the program is entered, and its segments with their file bytes.
+-- Request 9: what a reader gives of an image, whatever its form: where the program is entered, and its segments with their file bytes.
 -- Layout, pages and processes are stated over this, and don't know what an image is.
 -- Assumes nothing.
 use Prim.Native.Nat.{ℕ, _+_}

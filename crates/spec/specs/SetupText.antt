@@ -1,4 +1,4 @@
--- The machine numbers in a file (02, 5/13): four lines, `UTZERO=65536` and so on. What reads it answers 37 for bytes that are not as
+-- The machine numbers in a file (request 5): four lines, `UTZERO=65536` and so on. What reads it answers 37 for bytes that are not as
 -- described, and 38, after all lines are read, for numbers that break a condition.
 -- Assumes nothing.
 use Prim.Native.Nat.{ℕ, _+_, _*_, _-_}

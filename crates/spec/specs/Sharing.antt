@@ -1,4 +1,4 @@
--- 02, 10/13, for the reader: what sharing text and rodata leaves as it was, and what it saves.
+-- Request 10, for the reader: what sharing text and rodata leaves as it was, and what it saves.
 -- Assumes nothing.
 use Prim.Native.Nat.{ℕ, suc, _+_, _*_, _-_}
 use mathlib.Core.Path.{_≡_}

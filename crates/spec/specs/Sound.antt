@@ -31,7 +31,7 @@ placeOk setup book k n =
     || (ownerOf (mapping book k n) is n && within 1 4 (permOf (mapping book k n)) && within (setup .utzero) (setup .uaddrtop) (pageOf (mapping book k n))
     && gives (frameOf book n (pageOf (mapping book k n))) k)
 
--- 02, 10/13: two mappings of a frame agree on page and permission, and are not of data: a data frame has at most one
+-- Request 10: two mappings of a frame agree on page and permission, and are not of data: a data frame has at most one
 abbrev pub beside : ℕ → ℕ → Bool
 beside v w = v is 0 || w is 0 || (pageOf v is pageOf w && permOf v is permOf w && permOf v isnt 3)
 

@@ -1,4 +1,4 @@
--- 02, 7/13, for the reader: which flag tables there are, that lines and tables stand for each other, and that a user of the built-in
+-- Request 7, for the reader: which flag tables there are, that lines and tables stand for each other, and that a user of the built-in
 -- table sees no change.
 -- Assumes nothing.
 use Prim.Native.Nat.{ℕ, _%_}
@@ -45,7 +45,7 @@ pub record Tables : Type 0 where
   -- what is written of an accepted table is read as that table; and where bytes are read, they are its lines
   pub read-back : (flags : List ℕ) → length flags ≡ 8 → flagsOk flags ≡ true → readFlags (flagsText flags) ≡ record { error = 0; flags = flags }
   pub written-back : (bytes : List ℕ) → readFlags bytes .error ≡ 0 → (flagsText (readFlags bytes .flags) ≡ bytes) × (flagsOk (readFlags bytes .flags) ≡ true)
-  -- with the built-in table flags stand for what 01 says: 5 text, 4 rodata, 6 data, others refused; and 39 is never answered
+  -- with the built-in table flags stand for this: 5 text, 4 rodata, 6 data, others refused; and 39 is never answered
   pub rule : (p : Phdr) → flagPerm builtIn p ≡ (p .flags % 8 is 5 ⇒ 1 else p .flags % 8 is 4 ⇒ 2 else p .flags % 8 is 6 ⇒ 3 else 0)
   pub answers : (s : State) (c : Call) → s .setup .flags ≡ builtIn → answer s c ≡ (
       not (sized (s .store) && lengthsFit (c .ask)) ⇒ refuse 1 (c .ask) else

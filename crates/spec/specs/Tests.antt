@@ -1,5 +1,5 @@
 -- How the rules are written: tests on numbers and lists, and a chain of them in order, `test ⇒ answer else rest`. Every rule below
--- is such a chain, so that it can be read from the top like the scope's sentence.
+-- is such a chain, so that it can be read from the top like the sentence in docs/RULES.md.
 -- Assumes nothing.
 use Prim.Native.Nat.{ℕ, zero, suc, _+_}
 use Prim.Native.Char.{code}

@@ -114,7 +114,7 @@ brk s n p top = record {
   procs = setProc (s .procs) n (record { segments = p .segments; text = p .text; bss = range (p .bss .start) top });
 }
 
--- fork (02, 10/13): text and rodata are shared; data, stack and bss are copied now, segments in record order, then bss; the child
+-- fork (request 10): text and rodata are shared; data, stack and bss are copied now, segments in record order, then bss; the child
 -- takes record and name
 abbrev pub copy : State → ℕ → ℕ → Proc → State
 copy s n child p = record {

@@ -43,7 +43,7 @@ told r = numberOf (r .says) ∷ valueOf (r .says) ∷ r .buffer
 
 -- the process starts with two arguments; its data hold file bytes; it writes; its break grows and the new page is zero; it forks; each
 -- writes its own byte and reads its own; the break shrinks inside a page and the tail stays; a range up to its page's end passes, and one
--- byte more is bad at that end (02, 4/13); a string is read; a write to text ends the child, with its address
+-- byte more is bad at that end (request 4); a string is read; a write to text ends the child, with its address
 abbrev calls : List Call
 calls =
     call 1 (start Elf image184 (ascii "bin/lex") (ascii "lexmot") (3 ∷ 3 ∷ []))
@@ -93,7 +93,7 @@ at-school = refl
 abbrev forked : Call
 forked = call 1 (fork 2 (segment 65536 69632 1 ∷ segment 69632 73728 3 ∷ stack school ∷ []))
 
--- the first bytes of a process's text, which are its image's; and a replace by an a.out of as many pages (02, 9/13), with no arguments
+-- the first bytes of a process's text, which are its image's; and a replace by an a.out of as many pages (request 9), with no arguments
 abbrev text : ℕ → Call
 text n = call n (copy-from-user (replicate 4 9) 65536)
 

@@ -1,4 +1,4 @@
--- Bad addresses (02, 4/13): which answers name one, what check of the process's own memory it comes from, and that it can't be accessed.
+-- Bad addresses (request 4): which answers name one, what check of the process's own memory it comes from, and that it can't be accessed.
 use Prim.Native.Nat.{ℕ, zero, suc, _+_, _*_, _-_, _%_, _^_}
 use native.Mathlib.Omega.{arith}
 use mathlib.Core.Path.{_≡_, refl, sym, ap, ap₂, _∙_}

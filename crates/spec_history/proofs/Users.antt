@@ -95,7 +95,7 @@ others-read s g q v t h ne a =
     let r = others-keep s g q v t h ne in
     reads (state s h) (r .0) q a v ∙ ap (λ (m : Machine). held m a) (r .1) ∙ sym (reads s g q a v)
 
--- ---- bad addresses (02, 4/13)
+-- ---- bad addresses (request 4)
 
 -- a call that names one is a living process's, which has a number
 record Living (s : State) (n : ℕ) (q : Ask) (a : ℕ) : Type 0 where

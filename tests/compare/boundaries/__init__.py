@@ -1,2 +1,2 @@
-"""Directed scripts: each goes along the boundaries of one part of the papers, a value that just passes beside one that just
+"""Directed scripts: each goes along the boundaries of one part of the rules, a value that just passes beside one that just
 doesn't. A function here gives a script; tests/compare/directed.py writes them all."""

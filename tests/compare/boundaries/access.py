@@ -1,5 +1,5 @@
 """user_range_ok, copy_from_user, copy_to_user, try_copy_str_from_user."""
-from papers.machine import MAX, PAGE
+from rules.machine import MAX, PAGE
 
 from .built import build, seg
 from .out import BSS_END, DATA, LIMIT, LOW, TEXT, TOP, UTZERO, Out, run_of

@@ -1,8 +1,8 @@
 """Request 4: the address that every 35 of a range, string or push, and every no of a range, names."""
 from typing import NamedTuple
 
-from papers.machine import MAX, PAGE
-from papers.setup import DEPOSIT, Setup
+from rules.machine import MAX, PAGE
+from rules.setup import DEPOSIT, Setup
 from script import shown
 
 from .built import build, seg

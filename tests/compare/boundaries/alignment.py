@@ -3,9 +3,9 @@ import os
 import struct
 
 from elf import change, header
-from papers.flags import BUILT_IN
-from papers.image import parse
-from papers.machine import MAX, PAGE, down, up
+from rules.flags import BUILT_IN
+from rules.image import parse
+from rules.machine import MAX, PAGE, down, up
 from script import shown
 
 from .built import H1, H2, build, data, example, many, phdr, seg, text

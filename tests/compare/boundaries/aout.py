@@ -1,9 +1,9 @@
 """Plan 9 a.outs: what their reader gives by itself, and calls that take them."""
 from aout import EXAMPLE, HEADER, HEADER_BIT, MAGIC, build, change, example_at, word
 from model import read_line
-from papers.flags import BUILT_IN, REFUSED
-from papers.machine import MAX, PAGE, RODATA, up
-from papers.setup import DEPOSIT, Setup
+from rules.flags import BUILT_IN, REFUSED
+from rules.machine import MAX, PAGE, RODATA, up
+from rules.setup import DEPOSIT, Setup
 from random_images import EXAMPLE as ELF
 from script import shown
 
@@ -36,7 +36,7 @@ def with_entry(number, *entries, image=SMALL):
 
 
 def groups():
-    """Under what they show: images, each with the number that the reader gives by the papers, and the magic that is expected."""
+    """Under what they show: images, each with the number that the reader gives by the rules, and the magic that is expected."""
     yield 'text alone, with data, with bss, with both, and with symbols behind them', all_of(
         0, build(TEXT), build(TEXT, b'data'), build(TEXT, b'', 1), build(TEXT, b'data', 1), EXAMPLE)
     yield '42: under 32 bytes; the header alone is 27 where it says no text, 43 where it says some', [

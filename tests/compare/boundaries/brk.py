@@ -1,5 +1,5 @@
 """break, and its rule by itself."""
-from papers.machine import MAX, PAGE
+from rules.machine import MAX, PAGE
 
 from .built import build, data, seg
 from .out import BSS, BSS_END, LIMIT, LOW, TOP, UTZERO, Out

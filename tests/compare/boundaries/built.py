@@ -1,6 +1,6 @@
 """Images for the scripts: the example with fields changed, and images of a few headers."""
 from elf import change, header, program
-from papers.machine import PAGE
+from rules.machine import PAGE
 from random_images import EXAMPLE
 
 from .out import UTZERO

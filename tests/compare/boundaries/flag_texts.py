@@ -1,6 +1,6 @@
 """The lines of a file that say a flag table, and the line `flags` of a script."""
-from papers.flags import BUILT_IN, WORDS, table_lines
-from papers.machine import MAX, PAGE
+from rules.flags import BUILT_IN, WORDS, table_lines
+from rules.machine import MAX, PAGE
 from script import shown
 
 from .built import build, seg

@@ -1,9 +1,9 @@
 """Flag tables, and calls under them."""
 from itertools import product
 
-from papers.flags import BUILT_IN, REFUSED, table_lines
-from papers.machine import DATA, MAX, PAGE, RODATA, TEXT
-from papers.setup import DEPOSIT, Setup, written
+from rules.flags import BUILT_IN, REFUSED, table_lines
+from rules.machine import DATA, MAX, PAGE, RODATA, TEXT
+from rules.setup import DEPOSIT, Setup, written
 from script import shown
 
 from .built import build, many, seg

@@ -1,5 +1,5 @@
 """fork."""
-from papers.machine import MAX, PAGE
+from rules.machine import MAX, PAGE
 
 from .built import build, many, seg
 from .out import BSS_END, DATA, LOW, TEXT, TOP, UTZERO, Out

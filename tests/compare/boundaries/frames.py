@@ -1,5 +1,5 @@
 """Frames: exactly enough, freed and used again; books of each size; longer histories."""
-from papers.machine import PAGE
+from rules.machine import PAGE
 from script import shown
 
 from .built import data, long_image

@@ -1,6 +1,6 @@
 """Images: each boundary of checks 11 to 28, 30 and 31."""
 from elf import header
-from papers.machine import MAX, PAGE
+from rules.machine import MAX, PAGE
 from random_images import EXAMPLE
 from script import shown
 

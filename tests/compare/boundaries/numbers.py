@@ -1,5 +1,5 @@
 """Numbers 1 to 5, for each of the ten calls."""
-from papers.machine import MAX, PAGE
+from rules.machine import MAX, PAGE
 
 from .out import BSS_END, DATA, E, LIMIT, LOW, TEXT, TOP, Out, count, lend, mapping, place
 

@@ -1,9 +1,9 @@
 """What scripts are written with: the example and its addresses, and lines."""
 import struct
 
-from papers.machine import PAGE
-from papers.memory import WORDS
-from papers.setup import DEPOSIT
+from rules.machine import PAGE
+from rules.memory import WORDS
+from rules.setup import DEPOSIT
 from random_images import EXAMPLE
 from script import shown
 

@@ -1,8 +1,8 @@
 """Request 3: the pages of a segment, by where the file's part of a page begins and ends, in frames that hold other bytes."""
 from elf import header, program
-from papers.flags import BUILT_IN
-from papers.image import parse
-from papers.machine import PAGE, down, up
+from rules.flags import BUILT_IN
+from rules.image import parse
+from rules.machine import PAGE, down, up
 
 from .out import E, TOP, UTZERO, Out
 

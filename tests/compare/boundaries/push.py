@@ -1,5 +1,5 @@
 """push."""
-from papers.machine import MAX
+from rules.machine import MAX
 
 from .out import BSS_END, DATA, LIMIT, LOW, TOP, UTZERO, Out, run_of
 

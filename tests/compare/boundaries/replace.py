@@ -1,5 +1,5 @@
 """replace."""
-from papers.machine import MAX, PAGE
+from rules.machine import MAX, PAGE
 from random_images import EXAMPLE
 from script import shown
 

@@ -1,7 +1,7 @@
 """Sets of the machine's numbers, and calls under them."""
 from histories import most_empty
-from papers.machine import MAX, PAGE
-from papers.setup import DEPOSIT, Setup, written
+from rules.machine import MAX, PAGE
+from rules.setup import DEPOSIT, Setup, written
 from random_images import example_at
 from script import shown
 
@@ -268,7 +268,7 @@ def other_uaddrtop(o):
         hand(o, setup._replace(uaddrtop=end))
         o.all(*(f'range 1 {a} 0 r' for a in (2**32, 2**32 + 1, 2**32 + PAGE, 2**32 + PAGE + 1, FAR, FAR + 1)))
         o.all(f'string 1 {end} 3', 'break 1 0')
-    o.note("a refused set of lines leaves the set; frames goes back to 01's")
+    o.note("a refused set of lines leaves the set; frames goes back to the deposit machine's")
     hand(o, setup)
     for refused in (written(setup)[:-1], written(setup._replace(ustktop=2**31 + 1))):
         o('numbers', shown(refused))
@@ -279,7 +279,7 @@ def other_uaddrtop(o):
 
 def sets():
     o = Out('sets', "Sets of the machine's numbers: calls under each, along its bounds; each condition one off; sets that change.")
-    o.note("no frames: 01's numbers, then what is handed over")
+    o.note("no frames: the deposit machine's numbers, then what is handed over")
     o.all('frames 0', f'rule 0 {DEPOSIT.limit} 0 {DEPOSIT.limit}', f'rule 0 {DEPOSIT.limit} 0 {DEPOSIT.limit + 1}')
     hand(o, smallest(PAGE))
     o.all('rule 0 8192 0 8192', 'rule 0 8192 9 8193', "start 1 'x 00")

@@ -1,7 +1,7 @@
-"""Text and rodata shared at a fork (request 10 of document 02): families, needs, and books that are torn by one rule."""
+"""Text and rodata shared at a fork (request 10): families, needs, and books that are torn by one rule."""
 from itertools import permutations
 
-from papers.machine import MAX, PAGE
+from rules.machine import MAX, PAGE
 from script import shown
 
 from .built import build, seg

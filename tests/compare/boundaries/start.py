@@ -1,5 +1,5 @@
 """start: the examples, arguments, names."""
-from papers.machine import MAX
+from rules.machine import MAX
 from script import shown
 
 from .built import many
@@ -7,7 +7,7 @@ from .out import BSS_END, E, LIMIT, TOP, Out, run_of
 
 
 def examples():
-    o = Out('examples', "Document 01's examples that are calls.")
+    o = Out('examples', "The examples that are calls.")
     o.fresh(args=(b'lex', b'mot'))
     o.text(f"""
         sum

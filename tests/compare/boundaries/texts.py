@@ -1,6 +1,6 @@
 """The lines of a file that say a set of the machine's numbers, and the line `numbers` of a script."""
-from papers.machine import MAX, PAGE
-from papers.setup import DEPOSIT, NAMES, Setup, written
+from rules.machine import MAX, PAGE
+from rules.setup import DEPOSIT, NAMES, Setup, written
 from script import shown
 
 from .out import Out
@@ -43,7 +43,7 @@ def form():
 
 
 def each_byte():
-    """01's lines with each byte left out, one less and one more; and each beginning of them."""
+    """The deposit machine's lines with each byte left out, one less and one more; and each beginning of them."""
     whole = written(DEPOSIT)
     for i, b in enumerate(whole):
         yield whole[:i] + whole[i + 1:]
@@ -89,7 +89,7 @@ def texts():
     o.note('37 before 38')
     for text in both():
         read(text)
-    o.note("01's lines with a byte left out, one less, one more; and each beginning of them")
+    o.note("the deposit machine's lines with a byte left out, one less, one more; and each beginning of them")
     for text in each_byte():
         read(text)
     o.note('the line numbers: four numbers, or bytes, and nothing else')

@@ -2,5 +2,5 @@
 import pathlib
 import sys
 
-# The model of document 01 and the images' fields are tests/compare's.
+# The model of the rules and the images' fields are tests/compare's.
 sys.path.insert(0, str(pathlib.Path(__file__).resolve().parents[2] / 'compare'))

@@ -23,7 +23,7 @@ def case(name, image, expected):
     CASES.append((name, image, [f'refused={expected}'] if isinstance(expected, int) else expected))
 
 
-# The example of document 01: the code (an endless `b .`) and four bytes of data follow the two headers.
+# The example of docs/RULES.md: the code (an endless `b .`) and four bytes of data follow the two headers.
 EXAMPLE = example(bytes([0, 0, 0, 20]), bytes([1, 2, 3, 4]))
 EXAMPLE_LISTING = lines(65712, 'text 65536 69632', 'data 69632 73728', '69816 77824', 7)
 

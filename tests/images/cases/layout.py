@@ -1,5 +1,5 @@
 """Numbers 30 and 31, and the bss."""
-from papers.setup import DEPOSIT
+from rules.setup import DEPOSIT
 
 from .built import DATA, ONE, ONE_LISTING, RODATA, TEXT, THREE, build, case, lines, load, two
 

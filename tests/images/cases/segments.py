@@ -80,7 +80,7 @@ def alignment():
     for align, expected in (4096, 30), (8192, 30), (16384, 28):
         low = load(RODATA, 8192 + 180, 180, 16, 16, align=align)
         case(f'28-address-below-offset-align-{align}', build([low] + ONE, size=8400), expected)
-    # Document 01's image: 69,812 leaves 4,276 modulo 65,536, and 180 is asked for.
+    # The example: 69,812 leaves 4,276 modulo 65,536, and 180 is asked for.
     for align, first, second in ((0, True, True), (1, True, True), (2, True, True), (3, False, False), (4096, True, True),
                                  (4097, False, False), (8192, True, False), (65536, True, False), (131072, False, False)):
         for name, at, fine in ('text', 64, first), ('data', 120, second):

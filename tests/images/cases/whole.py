@@ -1,8 +1,8 @@
-"""Document 01's examples, number 1, every byte of the example's headers, and the linker's executables."""
+"""The examples of docs/RULES.md, number 1, every byte of the example's headers, and the linker's executables."""
 import pathlib
 
 from elf import change
-from papers.listing import listing
+from rules.listing import listing
 
 from .built import CASES, EXAMPLE, EXAMPLE_LISTING, ONE_LISTING, RODATA, TEXT, build, case, lines, load, two
 

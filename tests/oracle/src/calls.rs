@@ -177,7 +177,7 @@ impl Calls for World {
         r
     }
 
-    /// The harness's own: `end` is document 01's addition.
+    /// The harness's own: r9 has no `end`.
     fn end(&mut self, n: u64) -> Answer<()> {
         self.of(n, |w, n| {
             w.procs.remove(n);

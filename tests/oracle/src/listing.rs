@@ -1,4 +1,4 @@
-//! Document 01's listing program, from what elf.rs and exec.rs say of an image.
+//! The listing program, from what elf.rs and exec.rs say of an image.
 use crate::answer::number;
 use crate::script::KINDS;
 use crate::world::{Machine, SEGMENTS};

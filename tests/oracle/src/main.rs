@@ -2,10 +2,10 @@
 //! them and prints the answers.
 //!
 //!     oracle          a script on standard input, an answer for each line
-//!     oracle list     an image on standard input, document 01's listing
+//!     oracle list     an image on standard input, its listing
 //!     oracle lists    an image a line, as BYTES; its listing on one line, `;` between the lines
 //!
-//! What the Rust has no notion of is the harness's own, by the papers' rules: those places say so. With ORACLE_NEEDS=1 a last line
+//! What the Rust has no notion of is the harness's own, by the rules: those places say so. With ORACLE_NEEDS=1 a last line
 //! on standard error counts the forks and replaces that the harness's own needs of frames decide.
 
 mod answer;

@@ -1,4 +1,4 @@
-//! Names: the Rust's are strings, document 01's any bytes.
+//! Names: the Rust's are strings, the rules' any bytes.
 use crate::answer::rust;
 use crate::script::Answer;
 use crate::world::{Machine, World};

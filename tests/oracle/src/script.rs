@@ -38,7 +38,7 @@ pub trait Calls: Sized {
     fn record(&self, n: usize) -> Record;
     /// Lend only so much of frames and book, which have as much.
     fn lend(&mut self, bytes: usize, words: usize);
-    /// Hands over a set of the machine's numbers: UTZERO, USTKTOP, USTKSIZE and UADDRTOP. None where document 01's are fixed.
+    /// Hands over a set of the machine's numbers: UTZERO, USTKTOP, USTKSIZE and UADDRTOP. None where the deposit machine's are fixed.
     fn numbers(&mut self, _set: [u64; 4]) -> Option<Answer<()>> {
         None
     }
@@ -46,7 +46,7 @@ pub trait Calls: Sized {
     fn numbers_of(&mut self, _lines: &[u8]) -> Option<Answer<()>> {
         None
     }
-    /// Hands over a flag table, a code for each value of the low three flag bits. None where document 01's is fixed.
+    /// Hands over a flag table, a code for each value of the low three flag bits. None where the built-in one is fixed.
     fn flags(&mut self, _table: [u8; 8]) -> Option<Answer<()>> {
         None
     }

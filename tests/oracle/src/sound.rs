@@ -18,7 +18,7 @@ impl World {
         Ok(())
     }
 
-    /// Whether the lent book is sound, by document 01's item 2 and document 02's request 10.
+    /// Whether the lent book is sound, by item 2 of the rules and request 10.
     fn sound(&self) -> bool {
         let mut pages: [BTreeMap<u64, u64>; PROCS + 1] = [const { BTreeMap::new() }; PROCS + 1];
         for words in self.book[..self.words].chunks_exact(WORDS) {
@@ -60,7 +60,7 @@ impl World {
     }
 }
 
-/// Whether a living process's record is as document 01's item 2 wants it.
+/// Whether a living process's record is as item 2 of the rules wants it.
 fn shape(r: &Record) -> bool {
     let (utzero, limit) = (UTZERO as u64, LIMIT as u64);
     let stack = [STACK as u64, USTKTOP as u64, 3];

@@ -4,7 +4,7 @@
 //! runs, and after it the book is written again from the address spaces. The records are the Rust's own processes: segments, bss
 //! and text.
 //!
-//! The Rust copies every page at a fork, where document 02's request 10 has text and rodata shared, and frees every page of a
+//! The Rust copies every page at a fork, where request 10 has text and rodata shared, and frees every page of a
 //! process that is replaced. One rule has its frames come out as the book's: a fork finds as many spare frames above the lent ones
 //! as the parent has pages of text and rodata, and a frame that other processes hold too is not freed with a process. The Rust asks
 //! for text and rodata first and gets the highest frames first, so the spare frames take their copies, and only these; after the

@@ -1,4 +1,4 @@
-//! The machine that the Rust runs on: document 01's numbers, frames, and an address space for each process.
+//! The machine that the Rust runs on: the deposit machine's numbers, frames, and an address space for each process.
 use crate::dat::{Access, MMU, Perm, Proc, ProcArch, PutError, RunQueue, UserRegs};
 use crate::mcslock::Lock;
 use crate::mem::{PAGE_SIZE_4K, PhysAddr};

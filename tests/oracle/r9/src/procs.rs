@@ -53,7 +53,7 @@ impl<S: Space> Procs<S> {
         &mut self.0[n].as_mut().unwrap().pmmu
     }
 
-    /// The book of the address spaces, for so many frames, as document 02's request 10 writes it.
+    /// The book of the address spaces, for so many frames, as request 10 writes it.
     pub fn book(&self, frames: usize) -> Vec<u64> {
         let mut book = vec![0; WORDS * frames];
         for (n, space) in self.spaces() {
@@ -118,7 +118,7 @@ impl<S: Space> Procs<S> {
         Ok(())
     }
 
-    /// What document 02's request 10 asks of a fork of `n` beyond the Rust, which copies every page: the copies of text and rodata,
+    /// What request 10 asks of a fork of `n` beyond the Rust, which copies every page: the copies of text and rodata,
     /// which must be the pages in the spare frames, those from `spare` on, and hold the parent's bytes, are freed, and the child's
     /// pages are mapped where the parent's are. Says what is not so.
     pub fn share(&mut self, n: usize, child: usize, spare: usize) -> Result<(), &'static str> {

@@ -1,5 +1,5 @@
 //! Stands in for r9's bitmapalloc.rs, which isn't published: which frames are free, a bit each. The highest-numbered free frame
-//! goes first, as document 01 says. It is as cheap as it can be: taking a frame looks at one word of the bitmap in nearly every
+//! goes first, as the rules say. It is as cheap as it can be: taking a frame looks at one word of the bitmap in nearly every
 //! case, and the count of used frames is kept; r9's own must look through its bitmap from its start.
 use crate::mem::{PhysAddr, PhysRange};
 use crate::pagealloc::PageAllocError;

@@ -15,7 +15,7 @@ def check(number, passes):
 
 
 def aligned(align, vaddr, offset):
-    """What the alignment field asks for (request 1 of document 02): 0 and 1 nothing, any other value that it has exactly one bit set
+    """What the alignment field asks for (request 1): 0 and 1 nothing, any other value that it has exactly one bit set
     and that address and offset agree modulo it."""
     if align in (0, 1):
         return True

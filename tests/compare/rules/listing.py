@@ -1,4 +1,4 @@
-"""The listing program, which keeps document 01's numbers and table."""
+"""The listing program, which keeps the deposit machine's numbers and the built-in table."""
 from .layout import load, page_count
 from .machine import KINDS, Refused
 from .setup import DEPOSIT

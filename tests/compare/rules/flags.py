@@ -1,5 +1,5 @@
 """The flag table: a code for each value of the low three flag bits, its rules, and the lines of a file that say one
-(request 7 of document 02)."""
+(request 7)."""
 import re
 
 from .machine import DATA, KINDS, RODATA, TEXT, Refused
@@ -8,7 +8,7 @@ REFUSED = 0
 WORDS = {REFUSED: 'refused', **KINDS}
 CODES = {word.encode(): code for code, word in WORDS.items()}
 EXECUTE, WRITE = 1, 2
-# Document 01's own.
+# The built-in one.
 BUILT_IN = REFUSED, REFUSED, REFUSED, REFUSED, RODATA, TEXT, DATA, REFUSED
 LINES = re.compile(''.join('flags%d=(%s)\n' % (row, '|'.join(WORDS.values())) for row in range(8)).encode())
 

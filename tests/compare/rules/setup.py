@@ -1,5 +1,5 @@
 """What is handed to every call: the machine's numbers, a set of four, its conditions, and the lines of a file that say one (request
-5 of document 02); and the flag table (request 7)."""
+5); and the flag table (request 7)."""
 import re
 from typing import NamedTuple
 
@@ -61,12 +61,12 @@ class Setup(NamedTuple):
         return self.ustksize // 4
 
 
-# Document 01's own, with its table.
+# The deposit machine's, with the built-in table.
 DEPOSIT = Setup(65536, 2**47, 16384, 2**47)
 
 
 def read(text):
-    """The set that a file's bytes say, with document 01's table; Refused 37, 38."""
+    """The set that a file's bytes say, with the built-in table; Refused 37, 38."""
     said = LINES.fullmatch(text)
     if not said:
         raise Refused(37)

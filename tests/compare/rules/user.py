@@ -1,4 +1,4 @@
-"""Item 3: user memory. A range that is refused names its bad address (request 4 of document 02)."""
+"""Item 3: user memory. A range that is refused names its bad address (request 4)."""
 from .machine import DATA, PAGE, Ended, down
 from .memory import Memory
 

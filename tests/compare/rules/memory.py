@@ -1,4 +1,4 @@
-"""Item 2: frames, book and records. Of document 02: the book is a list of mappings (request 10), and a page is loaded in two steps
+"""Item 2: frames, book and records. The book is a list of mappings (request 10), and a page is loaded in two steps
 (request 3)."""
 from .machine import DATA, PAGE, Refused, down, up
 from .setup import DEPOSIT
@@ -28,7 +28,7 @@ class Record:
 
 
 class Memory:
-    """Frames, book and records, and what is handed to each call, machine numbers and flag table: document 01's at first."""
+    """Frames, book and records, and what is handed to each call, machine numbers and flag table: the deposit machine's at first."""
 
     def __init__(self, frames=0, fill=0):
         self.n = frames

@@ -1,4 +1,4 @@
-"""Plan 9's a.out, the other form of an image (request 9 of document 02)."""
+"""Plan 9's a.out, the other form of an image (request 9)."""
 from .image import Segment, check
 from .machine import DATA, TEXT, up
 
