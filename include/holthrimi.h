@@ -129,15 +129,33 @@ struct holthrimi_answer {
     struct holthrimi_regs regs;
 };
 
-/* The numbers of refusals. 1, 38, 39 and 2 to 5 come first in every call, in this order; then each call's own, in the order named with
- * it. */
+/* The numbers of refusals; docs/NUMBERS.md has all of them in one table. 1, 38, 39 and 2 to 5 come first in every call, in this order;
+ * then each call's own, in the order named with it. */
 enum {
     HOLTHRIMI_SIZES = 1,     /* not 4,096 bytes and 17 words a frame, frames outside 1 to 1,024, or argument lengths don't sum to their bytes */
     HOLTHRIMI_TORN = 2,      /* the book is not sound: its mappings, counts and the records don't agree */
     HOLTHRIMI_NUMBER = 3,    /* a process's number outside 1 to 16 */
     HOLTHRIMI_DEAD = 4,      /* the process isn't living */
     HOLTHRIMI_TAKEN = 5,     /* the new process's number lives */
-    /* 11 to 28, 42 and 43 are the image's own: see holthrimi_parse */
+    /* 11 to 28, 42 and 43 are the image's own, by holthrimi_parse; start and replace answer 30 for them */
+    HOLTHRIMI_TRUNCATED = 11,  /* under 64 bytes */
+    HOLTHRIMI_BAD_MAGIC = 12,  /* the first four bytes are not 127 "ELF" */
+    HOLTHRIMI_NOT_ELF64 = 13,  /* byte 4 is not 2 */
+    HOLTHRIMI_NOT_LITTLE_ENDIAN = 14, /* byte 5 is not 1 */
+    HOLTHRIMI_BAD_VERSION = 15, /* byte 6 or the word at 20 is not 1 */
+    HOLTHRIMI_NOT_EXECUTABLE = 16, /* the type at 16 is not 2 */
+    HOLTHRIMI_NOT_AARCH64 = 17, /* the machine at 18 is not 183 */
+    HOLTHRIMI_BAD_PHENTSIZE = 18, /* the half-word at 54 is not 56 */
+    HOLTHRIMI_MISALIGNED_ENTRY = 19, /* the entry is not a multiple of 4 */
+    HOLTHRIMI_PHDRS_OUT_OF_RANGE = 20, /* the table of program headers leaves the image */
+    HOLTHRIMI_FILESZ_OVER_MEMSZ = 21, /* a program header's file size is above its memory size */
+    HOLTHRIMI_SEGMENT_OUT_OF_RANGE = 22, /* its file bytes leave the image */
+    HOLTHRIMI_MISALIGNED = 23, /* its address and offset differ modulo 4,096 */
+    HOLTHRIMI_OVERFLOW = 24,   /* it ends above 2^64 - 4,096 */
+    HOLTHRIMI_BAD_FLAGS = 25,  /* the flag table refuses its flags */
+    HOLTHRIMI_UNORDERED = 26,  /* its first page is below an earlier segment's page end */
+    HOLTHRIMI_ENTRY_NOT_IN_TEXT = 27, /* the entry is not in the file bytes of a text segment */
+    HOLTHRIMI_BAD_ALIGN = 28,  /* its alignment is not 0, 1 or a power of two, or address and offset differ modulo it; directly after 23 */
     HOLTHRIMI_EBADEXEC = 30, /* the image's layout, or any of 11 to 28, 42 and 43 */
     HOLTHRIMI_TOO_MANY = 31, /* over 15 segments recorded */
     HOLTHRIMI_EBADARG = 32,  /* a NUL in an argument; a break without bss */
@@ -148,8 +166,8 @@ enum {
     HOLTHRIMI_SETUP_LINES = 37, /* holthrimi_read_setup: bytes that are not as described */
     HOLTHRIMI_SETUP = 38,    /* the machine's numbers break a condition */
     HOLTHRIMI_FLAGS = 39,    /* the flag table is against its rules; holthrimi_read_flags: bytes that are not as described, too */
-    HOLTHRIMI_NOT_AOUT = 42, /* an a.out under 32 bytes, or with another magic; start and replace answer 30 */
-    HOLTHRIMI_AOUT_OUT_OF_RANGE = 43 /* an a.out whose text and data leave the file; start and replace answer 30 */
+    HOLTHRIMI_NOT_AOUT = 42, /* an a.out under 32 bytes, or with another magic */
+    HOLTHRIMI_AOUT_OUT_OF_RANGE = 43 /* an a.out whose text and data leave the file */
 };
 
 /* ---- images
@@ -301,12 +319,8 @@ uint64_t holthrimi_check(struct holthrimi_setup setup,
 
 /*
  * 38 or 39 for the setup; then the number that the reader of its form refuses an image with; or 0. An a.out's are 42, 43, 19 and 27, as
- * above. An ELF's are:
- * 11 under 64 bytes; 12 magic; 13 not ELF64; 14 not little-endian; 15 version; 16 not executable; 17 not aarch64; 18 size of a program
- * header; 19 entry not a multiple of 4; 20 the header table leaves the image; then for each program header, in table order: 21 file
- * size above memory size; 22 file bytes leave the image; 23 address and offset differ modulo 4,096; 28 an alignment that is not 0, 1 or
- * a power of two, or modulo which address and offset differ; 24 it ends above 2^64 - 4,096; 25 flags; 26 its first page is below an
- * earlier segment's page end; then 27 the entry is not in the file bytes of a text segment.
+ * above. An ELF's are 11 to 20; then, for each program header in table order, but those whose type is not 1 or whose memory size is 0,
+ * 21, 22, 23, 28, 24, 25, 26; then 27.
  */
 uint64_t holthrimi_parse(struct holthrimi_setup setup, bool aout, uint32_t magic, const uint8_t *image, size_t image_bytes);
 

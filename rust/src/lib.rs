@@ -27,7 +27,8 @@ pub const RODATA: u64 = 2;
 /// and data read and written.
 pub const DATA: u64 = 3;
 
-/// The numbers of refusals; an image's own are 11 to 28, 42 and 43 (`holthrimi_parse` in `include/holthrimi.h`).
+/// The numbers of refusals; `docs/NUMBERS.md` has all of them in one table. 11 to 28, 42 and 43 are an image's own: a start or replace
+/// answers 30 for them.
 pub mod number {
     /// Not 4,096 bytes and 17 words a frame, frames outside 1 to 1,024, or argument lengths don't sum to their bytes.
     pub const SIZES: u64 = 1;
@@ -39,6 +40,42 @@ pub mod number {
     pub const DEAD: u64 = 4;
     /// The new process's number lives.
     pub const TAKEN: u64 = 5;
+    /// An ELF under 64 bytes.
+    pub const TRUNCATED: u64 = 11;
+    /// The first four bytes are not 127 `ELF`.
+    pub const BAD_MAGIC: u64 = 12;
+    /// Byte 4 is not 2.
+    pub const NOT_ELF64: u64 = 13;
+    /// Byte 5 is not 1.
+    pub const NOT_LITTLE_ENDIAN: u64 = 14;
+    /// Byte 6 or the word at 20 is not 1.
+    pub const BAD_VERSION: u64 = 15;
+    /// The type at 16 is not 2.
+    pub const NOT_EXECUTABLE: u64 = 16;
+    /// The machine at 18 is not 183.
+    pub const NOT_AARCH64: u64 = 17;
+    /// The half-word at 54 is not 56.
+    pub const BAD_PHENTSIZE: u64 = 18;
+    /// The entry is not a multiple of 4.
+    pub const MISALIGNED_ENTRY: u64 = 19;
+    /// The table of program headers leaves the image.
+    pub const PHDRS_OUT_OF_RANGE: u64 = 20;
+    /// A program header's file size is above its memory size.
+    pub const FILESZ_OVER_MEMSZ: u64 = 21;
+    /// Its file bytes leave the image.
+    pub const SEGMENT_OUT_OF_RANGE: u64 = 22;
+    /// Its address and offset differ modulo 4,096.
+    pub const MISALIGNED: u64 = 23;
+    /// It ends above 2^64 - 4,096.
+    pub const OVERFLOW: u64 = 24;
+    /// The flag table refuses its flags.
+    pub const BAD_FLAGS: u64 = 25;
+    /// Its first page is below an earlier segment's page end.
+    pub const UNORDERED: u64 = 26;
+    /// The entry is not in the file bytes of a text segment.
+    pub const ENTRY_NOT_IN_TEXT: u64 = 27;
+    /// Its alignment is not 0, 1 or a power of two, or address and offset differ modulo it. It is judged directly after 23.
+    pub const BAD_ALIGN: u64 = 28;
     /// The image's layout, or any of 11 to 28, 42 and 43.
     pub const EBADEXEC: u64 = 30;
     /// Over 15 segments recorded.
@@ -59,9 +96,9 @@ pub mod number {
     pub const SETUP: u64 = 38;
     /// The flag table is against its rules, or its lines are not as described.
     pub const FLAGS: u64 = 39;
-    /// An a.out under 32 bytes, or with another magic. A start or replace answers 30.
+    /// An a.out under 32 bytes, or with another magic.
     pub const NOT_AOUT: u64 = 42;
-    /// An a.out whose text and data leave the file. A start or replace answers 30.
+    /// An a.out whose text and data leave the file.
     pub const AOUT_OUT_OF_RANGE: u64 = 43;
 }
 

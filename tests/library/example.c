@@ -298,7 +298,8 @@ static void flag_table(uint8_t row, uint8_t code) {
     CHECK(holthrimi_ibrk(setup, false, 0, 0, 0, 0).error == HOLTHRIMI_FLAGS);
     CHECK(holthrimi_args_error(setup, &byte, 1, (const uint64_t[]){2}, 1) == HOLTHRIMI_SIZES);
     CHECK(holthrimi_args_error(setup, (const uint8_t *)"", 1, (const uint64_t[]){1}, 1) == HOLTHRIMI_FLAGS);
-    CHECK(holthrimi_parse(setup, ELF, image, 63) == HOLTHRIMI_FLAGS && holthrimi_parse(HOLTHRIMI_DEPOSIT, ELF, image, 63) == 11);
+    CHECK(holthrimi_parse(setup, ELF, image, 63) == HOLTHRIMI_FLAGS);
+    CHECK(holthrimi_parse(HOLTHRIMI_DEPOSIT, ELF, image, 63) == HOLTHRIMI_TRUNCATED);
     CHECK(unchanged());
     setup.flags[row] = was;
     CHECK(holthrimi_check(LENT) == HOLTHRIMI_TORN);
@@ -324,11 +325,12 @@ static void rodata_in_row_6(void) {
 
     /* Row 6 refused: 25, which a start answers with 30. Row 5 rodata: the entry is in no text. Row 4 the image does not use. */
     setup.flags[6] = 0;
-    CHECK(holthrimi_parse(setup, ELF, image, IMAGE) == 25 && holthrimi_parse(HOLTHRIMI_DEPOSIT, ELF, image, IMAGE) == 0);
+    CHECK(holthrimi_parse(setup, ELF, image, IMAGE) == HOLTHRIMI_BAD_FLAGS);
+    CHECK(holthrimi_parse(HOLTHRIMI_DEPOSIT, ELF, image, IMAGE) == 0);
     CHECK(refused(holthrimi_start(LENT, 1, ELF, image, IMAGE, name, 3, name, 3, lengths, 1), HOLTHRIMI_EBADEXEC));
     setup.flags[6] = HOLTHRIMI_DATA;
     setup.flags[5] = HOLTHRIMI_RODATA;
-    CHECK(holthrimi_parse(setup, ELF, image, IMAGE) == 27);
+    CHECK(holthrimi_parse(setup, ELF, image, IMAGE) == HOLTHRIMI_ENTRY_NOT_IN_TEXT);
     setup.flags[5] = HOLTHRIMI_TEXT;
     setup.flags[4] = 0;
     CHECK(holthrimi_parse(setup, ELF, image, IMAGE) == 0 && holthrimi_plan(setup, ELF, image, IMAGE).number == 0);
@@ -405,7 +407,8 @@ static void aouts(void) {
     /* 42, 43, 19 and 27, in this order; sums are exact. */
     CHECK(reads(magic, 8, 4, entry) == 0 && reads(magic, 8, 4, entry + 4) == 0 && reads(magic, 12, 0, entry + 8) == 0);
     CHECK(reads(magic - 1, 9, 4, 1) == HOLTHRIMI_NOT_AOUT && reads(magic | 0x8000, 8, 4, entry) == HOLTHRIMI_NOT_AOUT);
-    CHECK(holthrimi_parse(setup, true, magic | 0x8000, plan9, PLAN9) == 0 && holthrimi_parse(setup, ELF, plan9, PLAN9) == 11);
+    CHECK(holthrimi_parse(setup, true, magic | 0x8000, plan9, PLAN9) == 0);
+    CHECK(holthrimi_parse(setup, ELF, plan9, PLAN9) == HOLTHRIMI_TRUNCATED);
     CHECK(reads(magic, 9, 4, 1) == HOLTHRIMI_AOUT_OUT_OF_RANGE && reads(magic, 8, 5, entry) == HOLTHRIMI_AOUT_OUT_OF_RANGE);
     CHECK(reads(magic, 0xffffffff, 13, entry) == HOLTHRIMI_AOUT_OUT_OF_RANGE);
     CHECK(reads(magic, 8, 0xfffffffc, entry) == HOLTHRIMI_AOUT_OUT_OF_RANGE);
@@ -426,7 +429,7 @@ static void aouts(void) {
     setup.flags[7] = 0;
     CHECK(holthrimi_parse(setup, false, magic, image, IMAGE) == 0 && holthrimi_plan(setup, false, magic, image, IMAGE).number == 0);
     setup.flags[5] = 0;
-    CHECK(holthrimi_parse(setup, AOUT, plan9, PLAN9) == 0 && holthrimi_parse(setup, ELF, image, IMAGE) == 25);
+    CHECK(holthrimi_parse(setup, AOUT, plan9, PLAN9) == 0 && holthrimi_parse(setup, ELF, image, IMAGE) == HOLTHRIMI_BAD_FLAGS);
     setup.flags[5] = HOLTHRIMI_TEXT;
 
     /* Header and text at UTZERO, data on the next page, and bss behind it. */
@@ -641,7 +644,7 @@ int main(void) {
     CHECK(plan.bss.start == 69816 && plan.bss.end == 77824);
     CHECK(plan.segments[0].perm == HOLTHRIMI_TEXT && plan.segments[1].perm == HOLTHRIMI_DATA);
     CHECK(plan.segments[2].range.end == top && plan.segments[3].perm == 0);
-    CHECK(holthrimi_parse(setup, ELF, image, IMAGE) == 0 && holthrimi_parse(setup, ELF, image, 63) == 11);
+    CHECK(holthrimi_parse(setup, ELF, image, IMAGE) == 0 && holthrimi_parse(setup, ELF, image, 63) == HOLTHRIMI_TRUNCATED);
     CHECK(holthrimi_plan(setup, ELF, image, 63).number == 30 && holthrimi_plan(setup, ELF, image, 63).own == 11);
 
     /* The machine's numbers in four lines, written and read. */
