@@ -1,5 +1,5 @@
--- Everything that a reader must believe, one module for each item of docs/RULES.md, in its order. No module uses one that stands
--- below it.
+-- Everything that a reader must believe, one module for each item of docs/RULES.md, in its order; a request is one of docs/changes. No
+-- module uses one that stands below it.
 pub mod Tests
 pub mod Flags
 pub mod Numbers
