@@ -126,6 +126,18 @@ FAILING_OUTPUTS = [(full, b'No space left on device'), (unread_pipe, b'Broken pi
                    (half_full, b'File too large')]
 
 
+def there(ways, *data):
+    """Those of the ways that this machine has: a terminal or /dev/full may be missing."""
+    found = []
+    for make, why in ways:
+        try:
+            with make(*data):
+                found.append((make, why))
+        except OSError as error:
+            print(f'streams: {make.__name__}: skipped: {error}')
+    return found
+
+
 class Tally:
     def __init__(self):
         self.runs = self.bad = 0
@@ -141,17 +153,17 @@ def line(name, part, why):
     return b'%s: %s: %s\n' % (name.encode(), part, why)
 
 
-def failing_reads(tally, name, program):
+def failing_reads(tally, name, program, ways):
     data = INPUTS[name]
-    for make, why in FAILING_INPUTS:
+    for make, why in ways:
         with make(data) as read, into_file() as (write, _, written):
             said = run([program], read, write)
             answered = ANSWERED[name] if make in (silent_pipe, hung_up) else b''
             tally.told(f'{name} reads: {make.__name__}', (written(), said), (answered, line(name, b'standard input', why)))
 
 
-def failing_writes(tally, name, program, folder, whole):
-    for make, why in FAILING_OUTPUTS:
+def failing_writes(tally, name, program, ways, folder, whole):
+    for make, why in ways:
         with tempfile.TemporaryFile() as file, make() as (write, most, written):
             file.write(INPUTS.get(name, b''))
             file.seek(0)
@@ -170,7 +182,7 @@ def whole_runs(tally, name, program):
         return written()
 
 
-def failing_cases(tally, program):
+def failing_cases(tally, program, ways):
     """listing_cases, which reads the file `cases`: missing, a directory, and cut short in each part of an image."""
     name = 'listing_cases'
     whole = (CRATES / name / 'data' / 'cases').read_bytes()
@@ -199,17 +211,18 @@ def failing_cases(tally, program):
         cases.write_bytes(whole[:first] + long + bytes(39999))
         tried('cut in what is dropped', cut, only)
         cases.write_bytes(whole[:first])
-        failing_writes(tally, name, program, folder, only)
+        failing_writes(tally, name, program, ways, folder, only)
 
 
 def main(programs):
     tally = Tally()
+    inputs, outputs = there(FAILING_INPUTS, b''), there(FAILING_OUTPUTS)
     for name in INPUTS:
         program = os.path.join(programs, name)
         whole = whole_runs(tally, name, program)
-        failing_reads(tally, name, program)
-        failing_writes(tally, name, program, None, whole)
-    failing_cases(tally, os.path.join(programs, 'listing_cases'))
+        failing_reads(tally, name, program, inputs)
+        failing_writes(tally, name, program, outputs, None, whole)
+    failing_cases(tally, os.path.join(programs, 'listing_cases'), outputs)
     if not tally.bad:
         print(f'streams: {tally.runs} runs of five programs: no error was a verdict')
     return min(tally.bad, 1)
