@@ -21,7 +21,7 @@ from rules.listing import listing
 
 HERE = pathlib.Path(__file__).resolve().parent
 CRATE = HERE.parent.parent / 'crates' / 'listing_cases'
-GROUPS = [whole.of_document_01, header.header, header.table, order.order, segments.sizes, segments.modulo, segments.alignment,
+GROUPS = [whole.examples, header.header, header.table, order.order, segments.sizes, segments.modulo, segments.alignment,
           segments.overflow, segments.flags, segments.unordered, segments.entry, segments.skipped, layout.lowest_and_limit,
           layout.bss, layout.recorded, whole.longest, whole.sweep, whole.programs]
 

@@ -9,20 +9,20 @@ from .built import CASES, EXAMPLE, EXAMPLE_LISTING, ONE_LISTING, RODATA, TEXT, b
 PROGRAMS = pathlib.Path(__file__).resolve().parents[1] / 'programs'
 
 
-def of_document_01():
-    case('01-example', EXAMPLE, EXAMPLE_LISTING)
-    case('01-63-bytes', EXAMPLE[:63], 11)
-    case('01-64-zero-bytes', bytes(64), 12)
-    case('01-no-headers-table-at-length', build([], table=64), 27)
-    case('01-no-headers-table-past-length', build([], table=65), 20)
-    case('01-file-size-0-at-length', two(load(RODATA, 240, 69872, 0, 16)),
+def examples():
+    case('example', EXAMPLE, EXAMPLE_LISTING)
+    case('example-63-bytes', EXAMPLE[:63], 11)
+    case('example-64-zero-bytes', bytes(64), 12)
+    case('example-no-headers-table-at-length', build([], table=64), 27)
+    case('example-no-headers-table-past-length', build([], table=65), 20)
+    case('example-file-size-0-at-length', two(load(RODATA, 240, 69872, 0, 16)),
          lines(65712, 'text 65536 69632', 'rodata 69632 73728', '73728 73728', 6))
-    case('01-file-size-0-past-length', two(load(RODATA, 241, 69873, 0, 16)), 22)
-    case('01-flags-13', build([load(13, 0, 65536, 180, 180)], size=184), ONE_LISTING)
-    case('01-flags-7', two(load(7, 0, 69632, 180, 180)), 25)
-    case('01-flags-7-memory-0', two(load(7, 0, 69632, 0, 0)), ONE_LISTING)
-    case('01-end-2^64-4096', two(load(RODATA, 0, 2**64 - 8192, 180, 4096)), 30)
-    case('01-end-2^64-4095', two(load(RODATA, 0, 2**64 - 8192, 180, 4097)), 24)
+    case('example-file-size-0-past-length', two(load(RODATA, 241, 69873, 0, 16)), 22)
+    case('example-flags-13', build([load(13, 0, 65536, 180, 180)], size=184), ONE_LISTING)
+    case('example-flags-7', two(load(7, 0, 69632, 180, 180)), 25)
+    case('example-flags-7-memory-0', two(load(7, 0, 69632, 0, 0)), ONE_LISTING)
+    case('example-end-2^64-4096', two(load(RODATA, 0, 2**64 - 8192, 180, 4096)), 30)
+    case('example-end-2^64-4095', two(load(RODATA, 0, 2**64 - 8192, 180, 4097)), 24)
 
 
 def longest():
