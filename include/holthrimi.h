@@ -154,7 +154,7 @@ enum {
     HOLTHRIMI_OVERFLOW = 24,   /* it ends above 2^64 - 4,096 */
     HOLTHRIMI_BAD_FLAGS = 25,  /* the flag table refuses its flags */
     HOLTHRIMI_UNORDERED = 26,  /* its first page is below an earlier segment's page end */
-    HOLTHRIMI_ENTRY_NOT_IN_TEXT = 27, /* the entry is not in the file bytes of a text segment */
+    HOLTHRIMI_ENTRY_NOT_IN_TEXT = 27, /* the entry is not in the file bytes of a text segment; of an a.out, in the text after the header */
     HOLTHRIMI_BAD_ALIGN = 28,  /* its alignment is not 0, 1 or a power of two, or address and offset differ modulo it; directly after 23 */
     HOLTHRIMI_EBADEXEC = 30, /* the image's layout, or any of 11 to 28, 42 and 43 */
     HOLTHRIMI_TOO_MANY = 31, /* over 15 segments recorded */

@@ -72,7 +72,7 @@ pub mod number {
     pub const BAD_FLAGS: u64 = 25;
     /// Its first page is below an earlier segment's page end.
     pub const UNORDERED: u64 = 26;
-    /// The entry is not in the file bytes of a text segment.
+    /// The entry is not in the file bytes of a text segment; of an a.out, in the text after the header.
     pub const ENTRY_NOT_IN_TEXT: u64 = 27;
     /// Its alignment is not 0, 1 or a power of two, or address and offset differ modulo it. It is judged directly after 23.
     pub const BAD_ALIGN: u64 = 28;
