@@ -1,6 +1,8 @@
 // Exported functions for bench/: the loops over frames and book, as C calls them. Each tests what the function that it calls asks of
 // its caller.
 
+#![tactic(auto)]
+
 ghost use Rattle.std.specs.Prelude.{◌≡◌, false, ◌≤◌, ◌<◌, length, replicate};
 ghost use Rattle.spec.specs.Tests.{◌is◌, ◌⇒◌else◌};
 ghost use Rattle.spec.specs.Numbers.{deposit};

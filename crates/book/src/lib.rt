@@ -1,6 +1,8 @@
 // The book, where r9 has its page allocator's list and the MMU's tables: seventeen 64-bit words a frame, a place for each process and
 // then the count of holders. A place is 0, or a mapping: page address + 16 × owner + permission. A frame whose count is 0 is free.
 
+#![tactic(auto)]
+
 // Book words, and searches of the book.
 mod word;
 

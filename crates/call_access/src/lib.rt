@@ -2,6 +2,8 @@
 // string copy. Each gives the numbers that come first, then goes by crate uaccess. A bad
 // address is only told here; in the two copies it ends the process.
 
+#![tactic(auto)]
+
 mod call_copy_from_user;
 mod call_copy_to_user;
 mod call_try_copy_str_from_user;

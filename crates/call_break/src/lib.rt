@@ -1,6 +1,8 @@
 // Break: the end of a process's bss moves, as `ibrk` moves it. Crate segment has the rule; here its answer is carried out: pages
 // past the new end are released, new ones are placed and zeroed.
 
+#![tactic(auto)]
+
 ghost use Rattle.std.specs.Prelude.{◌≡◌, true, [], ◌∷◌, ◌*◌, ◌%◌, ◌^◌, ◌≤◌, ◌<◌, length};
 ghost use Rattle.spec.specs.Tests.{within};
 ghost use Rattle.spec.specs.Numbers.{zero_page};

@@ -1,6 +1,8 @@
 // End (added): a process gives up its memory and its record. r9 has no such call of its own, but an address that can't be used ends
 // a process in the same way.
 
+#![tactic(auto)]
+
 ghost use Rattle.std.specs.Prelude.{◌≡◌};
 ghost use Rattle.spec.specs.Machine.{end, plainly, call};
 ghost use Rattle.spec.specs.World.{Does, state_of};

@@ -1,6 +1,8 @@
 // Fork: a child shares its parent's text and rodata, takes a copy of every other page, and its record and name. The parent's frames
 // come from the table that the check of the book leaves, the child's own are the highest free ones.
 
+#![tactic(auto)]
+
 pub mod by_list;
 pub mod copy;
 pub mod count;

@@ -1,6 +1,8 @@
 // What the ten calls share: records by value, the numbers that come first in every call, a record's pages, and a process that
 // ends. Every call begins here, so that the order of numbers 1 to 5 is written once.
 
+#![tactic(auto)]
+
 // The records of processes, by value.
 pub mod record;
 

@@ -1,6 +1,8 @@
 // The call `push`: arguments onto the stack of a living process, as `push_args` of r9's exec.rs (module push_args). All of its
 // numbers are weighed before the first byte is written.
 
+#![tactic(auto)]
+
 mod push_args;
 
 ghost use Rattle.spec.specs.Machine.{push, plainly, call};

@@ -11,7 +11,7 @@ use exec::Plan;
 use spec::{Answer, Form, Proc, Setup};
 
 // The process's record from then on, and the answer.
-#[derive(Drop)]
+#[derive(Clone, Copy)]
 pub struct Entered {
     pub proc: Proc,
     pub answer: Answer,

@@ -1,6 +1,8 @@
 // Replace: a process becomes another program, as r9's exec.rs does in `sysexec` once it has read the image; its last steps stand in
 // module enter. Arguments are read and all but the frames is checked before the old pages go.
 
+#![tactic(auto)]
+
 mod enter;
 
 ghost use Rattle.std.specs.Prelude.{◌≡◌};

@@ -1,6 +1,8 @@
 // Start: a new process from an image and its arguments, as r9's exec.rs does in `exec`; its last steps stand in crate exec_load. All
 // numbers are weighed before the first page is placed.
 
+#![tactic(auto)]
+
 ghost use Rattle.std.specs.Prelude.{◌≡◌, length};
 ghost use Rattle.spec.specs.Tests.{sum};
 ghost use Rattle.spec.specs.Frames.{store};

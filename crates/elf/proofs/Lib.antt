@@ -4,4 +4,3 @@ pub mod Errors
 pub mod Checked
 pub mod HeaderAt
 pub mod Tables
-pub mod FlagTable

@@ -2,11 +2,12 @@
 // its reader, `Elf`, which `parse` alone makes. Where segments may go in memory is the loader's business. Fields and headers are read
 // by the crate elf_header.
 //
-// The borrow checker covers no function over a struct that holds a slice, so that the few here are thin, each is proved by hand, and
-// functions on plain slices and numbers do the work. Callers use those at the end of this file, which take an image: `number_of`
-// parses it, and the others ask that it is accepted, so that it is parsed once.
+// The functions over the reader are thin: functions on plain slices and numbers do the work. Callers use those at the end of this file,
+// which take an image: `number_of` parses it, and the others ask that it is accepted, so that it is parsed once.
 //
 // The flag table says what a segment's flags stand for. A function that needs it takes it first, as `flags`, and asks nothing of it.
+
+#![tactic(auto)]
 
 ghost use Rattle.std.specs.Prelude.{◌≡◌, false, List, ℕ, ◌+◌, ◌*◌, ◌≤◌, ◌<◌, length, take, drop};
 ghost use Rattle.spec.specs.Elf.{phoff, phnum, entry, phdr_at, elf_error};
@@ -19,7 +20,7 @@ use spec::ElfError;
 
 // A checked image: the image, its program headers, where it is entered, the number that it is refused with, or 0, and the flag table that
 // it was checked under. A refused one has no header and the entry 0. The fields are private: no other crate makes one, or changes one.
-#[derive(Drop)]
+#[derive(Clone, Copy)]
 pub struct Elf<'a> {
     image: &'a [u8],
     table: &'a [u8],
@@ -29,7 +30,7 @@ pub struct Elf<'a> {
 }
 
 // A loadable segment: `memsz` bytes at `vaddr`, the first of which are the image's `filesz` bytes at `offset`, and the rest zero.
-#[derive(Drop)]
+#[derive(Clone, Copy)]
 pub struct Segment {
     pub vaddr: u64,
     pub memsz: u64,
@@ -39,21 +40,21 @@ pub struct Segment {
 }
 
 // What a program header describes: for Option<Segment>.
-#[derive(Drop)]
+#[derive(Clone, Copy)]
 pub enum Load {
     Skip,
     Segment(Segment),
 }
 
 // What the program headers so far have shown: where the last segment ends its page, and whether the entry point was found in a text segment.
-#[derive(Drop)]
+#[derive(Clone, Copy)]
 pub struct Seen {
     pub end: u64,
     pub found: bool,
 }
 
 // What one more program header comes to.
-#[derive(Drop)]
+#[derive(Clone, Copy)]
 pub enum Step {
     Stop(ElfError),
     Next(Seen),

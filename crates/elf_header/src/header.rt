@@ -21,7 +21,7 @@ pub const ET_EXEC: u16 = 2;
 pub const EM_AARCH64: u16 = 183;
 
 // The fields of the ELF header that are read.
-#[derive(Drop)]
+#[derive(Clone, Copy)]
 pub struct Ehdr {
     pub class: u8,
     pub encoding: u8,
@@ -36,7 +36,7 @@ pub struct Ehdr {
 }
 
 // What a check comes to: for Result<(), ElfError>.
-#[derive(Drop)]
+#[derive(Clone, Copy)]
 pub enum Verdict {
     Fine,
     Refused(ElfError),

@@ -1,5 +1,7 @@
 // Fields and headers of an image, one at a time, as r9's elf.rs reads and judges them.
 
+#![tactic(auto)]
+
 mod field;
 mod header;
 mod phdr;

@@ -16,7 +16,7 @@ pub const PT_LOAD: u32 = 1;
 pub const LAST_PAGE: u64 = 18446744073709547520;
 
 // The fields of a program header that are read.
-#[derive(Drop)]
+#[derive(Clone, Copy)]
 pub struct Phdr {
     pub kind: u32,
     pub flags: u32,

@@ -11,14 +11,14 @@ use elf::{Load, Segment};
 use spec::{Form, Setup, VirtRange};
 
 // What the segments so far come to: whether the last is data, after which nothing may follow, and the bss behind it.
-#[derive(Drop)]
+#[derive(Clone, Copy)]
 pub struct Laid {
     pub closed: bool,
     pub bss: VirtRange,
 }
 
 // What a layout comes to: for Result<VirtRange>.
-#[derive(Drop)]
+#[derive(Clone, Copy)]
 pub enum Fit {
     Fits(Laid),
     Refused,

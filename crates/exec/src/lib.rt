@@ -1,6 +1,8 @@
 // The plan of a program, as r9's exec.rs: its layout (module layout), its record's segments (module recorded), and how many pages a start
 // takes. Nothing here touches memory: a call maps what is planned here.
 
+#![tactic(auto)]
+
 mod layout;
 mod recorded;
 
@@ -17,7 +19,7 @@ use spec::{Form, Setup, UserSegment, VirtRange};
 // All that a start needs of an image but its bytes: its refusal, or its entry point, its record's segments (`count` of the image, then the
 // stack, then zeros), its bss, and how many pages it takes with the stack. `own` is the number that the reader of its form refuses it
 // with.
-#[derive(Drop)]
+#[derive(Clone, Copy)]
 pub struct Plan {
     pub number: u64,
     pub own: u64,

@@ -12,7 +12,7 @@ use elf::{Load, Segment};
 use spec::{Form, Setup, UserSegment, VirtRange};
 
 // The segments that an image's pages make, up to fifteen of them, and how many there are.
-#[derive(Drop)]
+#[derive(Clone, Copy)]
 pub struct Recorded {
     pub segments: [UserSegment; 16],
     pub count: usize,

@@ -14,7 +14,7 @@ const MAX: u64 = 0xffff_ffff_ffff_ffff;
 const MAX_WORDS: u64 = 0x1fff_ffff_ffff_ffff;
 
 // What args_size comes to: the number of a refusal, or 0 with the size of the strings, NULs included.
-#[derive(Drop)]
+#[derive(Clone, Copy)]
 pub struct ArgsSize {
     pub error: u64,
     pub strings: u64,

@@ -1,5 +1,7 @@
 // The arguments of a program, as r9's exec.rs checks and pushes them.
 
+#![tactic(auto)]
+
 mod args;
 mod buffer;
 

@@ -14,7 +14,7 @@ use spec::{Checked, Setup};
 use uaccess::Str;
 
 // What one more string comes to: a bad address, 35; over the limit with the others, 33; or its length.
-#[derive(Drop)]
+#[derive(Clone, Copy)]
 pub enum More {
     Bad(u64),
     Over,

@@ -2,6 +2,8 @@
 // a user address (module pointers), in reading order: pointer, string, limit, next (module copy_arg). They are strings with their NULs, one
 // behind the other, where the Rust has `Vec<Vec<u8>>`.
 
+#![tactic(auto)]
+
 mod copy_arg;
 mod pointers;
 
@@ -18,14 +20,14 @@ use crate::pointers::Pointer;
 use spec::Setup;
 
 // Strings with their NULs, one behind the other: `count` of them in the first `used` bytes of a lent buffer.
-#[derive(Drop)]
+#[derive(Clone, Copy)]
 pub struct Strings {
     pub used: usize,
     pub count: usize,
 }
 
 // What copy_argv comes to, for Option<Result<Vec<Vec<u8>>>>: a bad address, 35; arguments over the limit, 33; or the arguments.
-#[derive(Drop)]
+#[derive(Clone, Copy)]
 pub enum Argv {
     Bad(u64),
     Over,

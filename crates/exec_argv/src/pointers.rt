@@ -16,7 +16,7 @@ const MAX: u64 = 0xffff_ffff_ffff_ffff;
 
 // A place of the array of pointers: one that can't be read, with the bad address, the null behind the last pointer, or the address of a
 // string.
-#[derive(Drop)]
+#[derive(Clone, Copy)]
 pub enum Pointer {
     Bad(u64),
     Null,

@@ -1,5 +1,7 @@
 // An accepted image into frames, as r9's exec.rs loads it.
 
+#![tactic(auto)]
+
 mod installer;
 mod loader;
 

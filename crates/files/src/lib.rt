@@ -1,9 +1,12 @@
 // A file's bytes, read to its end. A read that fails is told from the end of the file, so that no program takes the bytes before it for
 // all. No contract can say which bytes a read gives or whether it fails: tests/streams tries that.
+
+#![tactic(auto)]
+
 ghost use Rattle.io.specs.Counts.{IsPrefixLen};
 
 // How many bytes were read, and whether a read failed behind them.
-#[derive(Drop)]
+#[derive(Clone, Copy)]
 pub struct Got {
     pub count: usize,
     pub failed: bool,

@@ -1,5 +1,8 @@
 // Prints the flag table whose lines stand on standard input, a row a line, or the number that it is refused with. The text is proved in
 // crate setup_flags; here bytes are read and written. If that fails, a line on standard error says so, and no number is printed.
+
+#![tactic(auto)]
+
 use libc::{STDIN_FILENO, STDOUT_FILENO};
 
 fn main() {

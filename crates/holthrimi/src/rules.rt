@@ -24,7 +24,7 @@ use spec::{Form, Procs, Setup, UserSegment, VirtRange};
 
 // What the break's rule comes to: the number that it refuses with, or 0; its value; and the bss, zeros for none.
 #[repr(C)]
-#[derive(Drop)]
+#[derive(Clone, Copy)]
 pub struct Rule {
     pub error: u64,
     pub value: u64,
@@ -35,7 +35,7 @@ pub struct Rule {
 // its form's reader, 11 to 28 for an ELF, 42, 43, 19 or 27 for an a.out, or 0 for the layout; its entry point; its record's segments,
 // `count` of the image, then the stack; its bss; and the pages that it takes with the stack. A refused image's are zeros.
 #[repr(C)]
-#[derive(Drop)]
+#[derive(Clone, Copy)]
 pub struct Planned {
     pub number: u64,
     pub own: u64,

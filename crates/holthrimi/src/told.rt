@@ -10,7 +10,7 @@ use spec::{Answer, UserRegs};
 // What a call tells: its kind, 0 for accepted, 1 for refused, 2 for ended and 3 for a range that can't be accessed; if refused or ended,
 // the table's number; and its value and registers, zeros where the call has none. A bad address is told as the value.
 #[repr(C)]
-#[derive(Drop)]
+#[derive(Clone, Copy)]
 pub struct Told {
     pub kind: u64,
     pub number: u64,

@@ -14,7 +14,7 @@ use spec::{ElfError, Setup};
 pub const EXEC_SIZE: usize = 32;
 
 // The words of the header that are read: not syms, spsz and pcsz.
-#[derive(Drop)]
+#[derive(Clone, Copy)]
 pub struct Exec {
     pub magic: u32,
     pub text: u32,

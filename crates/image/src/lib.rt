@@ -3,6 +3,8 @@
 // an ELF's program headers, and two in an a.out. `number_of` reads an image; the others ask that it is accepted, so that it is checked
 // once.
 
+#![tactic(auto)]
+
 mod aout;
 
 ghost use Rattle.std.specs.Prelude.{◌≡◌, ◌+◌, ◌≤◌, ◌<◌, length, take, drop};

@@ -1,6 +1,8 @@
 // Names that the kernel holds in fixed arrays, as r9's str.rs. A name is any bytes, where the Rust's are UTF-8; it is cut at the
 // same place. Module nul has the search of a NUL.
 
+#![tactic(auto)]
+
 mod nul;
 
 ghost use Rattle.std.specs.Prelude.{◌≡◌, ◌+◌, ◌≤◌, ◌<◌, length, drop};

@@ -1,6 +1,9 @@
 // Lists the image on standard input: its entry point, segments, bss and pages, or the number that it is refused with. The text is
 // proved in crate listing_lines; here bytes are read and written. If that fails, a line on standard error says so, and no number is
 // printed.
+
+#![tactic(auto)]
+
 use libc::{STDIN_FILENO, STDOUT_FILENO};
 
 fn main() {

@@ -1,5 +1,8 @@
 // Lists the images in the file `cases`, each after its name. An image stands there as the length of its name in 1 byte, its own length in
 // 3 bytes, little-endian, its name, and its bytes.
+
+#![tactic(auto)]
+
 ghost use Rattle.std.specs.Prelude.{◌≡◌, min, ◌≤◌, ◌<◌, length};
 ghost use Rattle.io.specs.Counts.{IsPrefixLen};
 

@@ -1,6 +1,8 @@
 // The whole listing of an image, as the listing program prints it, in a buffer that the caller lends. The bytes are proved equal to
 // the definition's, so that the program has only to read and write.
 
+#![tactic(auto)]
+
 mod segment_lines;
 
 ghost use Rattle.std.specs.Prelude.{◌≡◌, ◌≤◌, length, take};

@@ -1,6 +1,8 @@
 // Pages and addresses, as r9's mem.rs has them. User addresses are plain numbers; a frame's place in the frame bytes is a
 // `PhysAddr`, so that neither can be passed for the other.
 
+#![tactic(auto)]
+
 ghost use Rattle.std.specs.Prelude.{◌≡◌, ◌+◌, ◌-◌, ◌*◌, ◌/◌, ◌^◌, ◌≤◌, ◌<◌, take};
 ghost use Rattle.spec.specs.Numbers.{page_down, page_up};
 ghost use Rattle.spec.specs.Book.{range, page_count};
@@ -10,7 +12,7 @@ ghost use Rattle.mem.specs.Rounding.{rounded_up};
 const LAST_PAGE: u64 = 0xffff_ffff_ffff_f000;
 
 // A frame's offset in the frame bytes that are lent, never a user address.
-#[derive(Drop)]
+#[derive(Clone, Copy)]
 pub struct PhysAddr(pub u64);
 
 impl PhysAddr {
@@ -30,7 +32,7 @@ impl PhysAddr {
 }
 
 // What rounding up comes to: an address, or a multiple of a page that 64 bits don't hold.
-#[derive(Drop)]
+#[derive(Clone, Copy)]
 pub enum Rounded {
     To(u64),
     Past,

@@ -1,6 +1,9 @@
 // Prints the machine numbers of the file on standard input, with the limit and the argument limit, or the number that it is refused with.
 // The text is proved in crate setup; here bytes are read and written. If that fails, a line on standard error says so, and no number is
 // printed.
+
+#![tactic(auto)]
+
 use libc::{STDIN_FILENO, STDOUT_FILENO};
 
 fn main() {

@@ -2,6 +2,8 @@
 // frame, its places and its count of holders. A frame whose count is 0 is free; a page placed is its frame's only mapping. Callers
 // have checked sizes, numbers and ranges: what these functions ask of them stands in their `requires`.
 
+#![tactic(auto)]
+
 // The bytes of frames.
 pub mod frames;
 

@@ -8,7 +8,7 @@ ghost use Rattle.spec.specs.Frames.{put};
 ghost use Rattle.pagealloc.specs.Contents.{file_at, file_part, copied, cleared};
 
 // The part of a page that is the file's: its places from `from` up to `to` hold the file bytes from place `skip` on.
-#[derive(Drop)]
+#[derive(Clone, Copy)]
 pub struct Part {
     pub from: usize,
     pub to: usize,

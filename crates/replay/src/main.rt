@@ -1,5 +1,8 @@
 // Replays a script of calls from standard input, one call a line, and answers each line: docs/REPLAY.md has the form. A line is read
 // into what it asks (crate replay_script), that is run (crate replay_session), and its answer is written (crate replay_replies).
+
+#![tactic(auto)]
+
 mod input;
 
 use replay_buffers::room;

@@ -4,7 +4,7 @@ ghost use Rattle.std.specs.Prelude.{◌≤◌};
 use crate::room::least;
 
 // Why a line is no call: it is none of those that there are, its file cannot be read, or one of the two is too long.
-#[derive(Drop)]
+#[derive(Clone, Copy)]
 pub enum Why {
     Bad,
     Missing,
@@ -13,7 +13,7 @@ pub enum Why {
 }
 
 // How many bytes were taken, or why there are none.
-#[derive(Drop)]
+#[derive(Clone, Copy)]
 pub enum Taken {
     Size(usize),
     Not(Why),

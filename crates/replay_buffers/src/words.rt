@@ -5,7 +5,7 @@ ghost use Rattle.replay_buffers.specs.Words.{end_of, word_at, next_of, place_of,
 use crate::room::part;
 
 // What a word is as a number: decimal, and at most 2^64 − 1.
-#[derive(Drop)]
+#[derive(Clone, Copy)]
 pub enum Number {
     Is(u64),
     Bad,

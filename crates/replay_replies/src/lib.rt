@@ -1,4 +1,7 @@
 // The answers that the replay program writes. No contract can say what is written: each function is proved safe and ends.
+
+#![tactic(auto)]
+
 mod answers;
 mod map;
 mod reply;

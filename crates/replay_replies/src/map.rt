@@ -6,7 +6,7 @@ use crate::texts::{put, put_named};
 use spec::VirtRange;
 
 // How many pages the lines that were written show, or that one could not be written.
-#[derive(Drop)]
+#[derive(Clone, Copy)]
 enum Shown {
     Pages(u64),
     Not,

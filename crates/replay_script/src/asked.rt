@@ -10,7 +10,7 @@ pub const FILE_MAX: usize = 2097152;
 pub const LINE_MAX: usize = 65536;
 
 // The kinds of lines. `Refused` is a line that is refused before any call, with its number.
-#[derive(Drop)]
+#[derive(Clone, Copy)]
 pub enum Kind {
     Nothing,
     Wrong(Why),
@@ -42,7 +42,7 @@ pub enum Kind {
 
 // A line's numbers, in order; its flag table; whether its image is an a.out, of which magic, and not ELF; where in the space name,
 // arguments and other bytes end (taken.rt); the list's length.
-#[derive(Drop)]
+#[derive(Clone, Copy)]
 pub struct Asked {
     pub kind: Kind,
     pub number: u64,

@@ -1,4 +1,7 @@
 // What the program replay holds by value: records, setup and sizes, and how far its input is taken; and the calls that lines ask for.
+
+#![tactic(auto)]
+
 mod listed;
 pub mod run;
 
@@ -16,7 +19,7 @@ pub const BOOK_SIZE: usize = FRAMES_MAX * BOOK_WORDS;
 
 // How many bytes the frames have, and how many words their book; and how many of these a call is lent. The input's bytes from `at` to
 // `end` aren't taken yet, and if it has ended, there are no more. If reading or writing has failed, no further line is run.
-#[derive(Drop)]
+#[derive(Clone, Copy)]
 pub struct Session {
     pub procs: Procs,
     pub setup: Setup,

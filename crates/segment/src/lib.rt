@@ -1,6 +1,8 @@
 // User memory, as r9's segment.rs, which follows Plan 9's port/segment.c: the break's rule. It is over numbers alone, so that it can
 // be called and proved without frames; crate call_break carries it out.
 
+#![tactic(auto)]
+
 ghost use Rattle.std.specs.Prelude.{◌≡◌};
 ghost use Rattle.std.proofs.Math.Option.{some};
 ghost use Rattle.spec.specs.Segment.{ibrk};
@@ -9,14 +11,14 @@ ghost use Rattle.segment.specs.Rule.{opt_of, break_of};
 use spec::{Setup, VirtRange};
 
 // A process's bss, or none until it's set: `Option<VirtRange>`.
-#[derive(Drop)]
+#[derive(Clone, Copy)]
 pub enum Bss {
     Unset,
     Set(VirtRange),
 }
 
 // What a break comes to: the number it is refused with, or 0; its value; and the bss handed back.
-#[derive(Drop)]
+#[derive(Clone, Copy)]
 pub struct Break {
     pub error: u64,
     pub value: u64,

@@ -1,6 +1,8 @@
 // The machine's numbers and the flag table: the deposit's, what follows from a setup's, and refusals 38 and 39. A setup that meets no
 // condition may be handed over, so that none of this asks for one that does.
 
+#![tactic(auto)]
+
 mod setup_put;
 mod setup_read;
 

@@ -9,7 +9,7 @@ use spec::Setup;
 use text::begins;
 
 // A line's number and the place behind it, or bytes that are not as described.
-#[derive(Drop)]
+#[derive(Clone, Copy)]
 pub enum Line {
     Is { number: u64, next: usize },
     Bad,
@@ -17,7 +17,7 @@ pub enum Line {
 
 // What reading comes to: 37, 38, or 0 with the setup, whose flag table is the built-in one; a refusal has zeros.
 #[repr(C)]
-#[derive(Drop)]
+#[derive(Clone, Copy)]
 pub struct SetupRead {
     pub number: u64,
     pub setup: Setup,

@@ -5,7 +5,7 @@ ghost use Rattle.spec.specs.FlagsText.{code_at, unread_flags, read_flags};
 ghost use Rattle.setup_flags.specs.Rows.{line_in, code_of, end_of, line_end, told, judged_as};
 
 // A row's code and the place behind its line, or bytes that are not as described.
-#[derive(Drop)]
+#[derive(Clone, Copy)]
 pub enum Row {
     Is { code: u8, next: usize },
     Bad,
@@ -13,7 +13,7 @@ pub enum Row {
 
 // What reading comes to: 39, or 0 with the table; a refusal has zeros.
 #[repr(C)]
-#[derive(Drop)]
+#[derive(Clone, Copy)]
 pub struct FlagsRead {
     pub number: u64,
     pub flags: [u8; 8],

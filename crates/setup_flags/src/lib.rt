@@ -1,5 +1,7 @@
 // The lines of a flag table (request 7), read and written, and what the flags program prints of a file.
 
+#![tactic(auto)]
+
 mod flags_put;
 mod flags_read;
 

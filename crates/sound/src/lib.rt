@@ -3,6 +3,8 @@
 // sound_plan), and the pass leaves a table by which the rest of a call finds the frame of a page of the process that makes it, without
 // the book (module lookup).
 
+#![tactic(auto)]
+
 mod lookup;
 
 ghost use Rattle.std.specs.Prelude.{◌≡◌, true, ◌≤◌, length};

@@ -2,6 +2,8 @@
 // (its tag) and how many pages the parts before it have (its base). It is laid from the records, and then says of a book's word which
 // part's page it is of.
 
+#![tactic(auto)]
+
 ghost use Rattle.std.specs.Prelude.{◌≡◌, ℕ, ◌+◌, ◌*◌, ◌<◌, ◌≤◌, length};
 ghost use Rattle.spec.specs.Book.{proc_at};
 ghost use Rattle.sound_plan.specs.Plan.{seat as seatOf, max_pages, SmallParts, Laid, LaidAll, Rising, hits as hitsOf, later as laterOf, Ascending, Span, PartOf, Plan};

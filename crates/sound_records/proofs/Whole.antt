@@ -35,20 +35,20 @@ within-array (x ∷ l) (suc i) d e h = within-array l i d e (le_of_suc-le-suc h)
 pub proc-is : (ps : Procs) (n : ℕ) → n < length ps.all → get_or ps.all n no_proc ≡ proc_at ps (n + 1)
 proc-is ps n h = let e : n ≡ n + 1 - 1 = omega arith in within-array ps.all n no_proc zero_proc h ∙ ap (λ (k : ℕ). get_or ps.all k zero_proc) e
 
-each-whole : (l : List Proc) (us : List Val) → shadow (each (P.the_field).row.Denot (P.the_field).row.own_val (map (P.the_field).into l) us)
+each-whole : (l : List Proc) (us : List Val) → shadow (each (P.the_row).Denot (P.the_row).own_val l us)
     → (i : ℕ) → i < length l → WholeProc (get_or l i zero_proc)
 each-whole [] us s i h = absurd (not-suc-le-zero h)
 each-whole (p ∷ l) [] s i h = absurd s
 each-whole (p ∷ l) (u ∷ us) s zero h = record {
-  segments = length-mapped UserSegment (S.the_field).row.Denot (S.the_field).into p.segments 16 s.0.1.1.0.1.0.1;
-  text = length_unmapped ℕ p.text 28 s.0.1.1.1.0.1.0.1;
+  segments = s.0.1.1.0.1.0.1;
+  text = s.0.1.1.1.0.1.0.1;
 }
 each-whole (p ∷ l) (u ∷ us) s (suc i) h = each-whole l us s.1 i (le_of_suc-le-suc h)
 
-pub whole-procs : (ps : Procs) (us : List Val) → shadow (each (P.the_field).row.Denot (P.the_field).row.own_val (map (P.the_field).into ps.all) us)
-    → length (map (P.the_field).into ps.all) ≡ 16 → Whole ps
+pub whole-procs : (ps : Procs) (us : List Val) → shadow (each (P.the_row).Denot (P.the_row).own_val ps.all us)
+    → length ps.all ≡ 16 → Whole ps
 whole-procs ps us s l = record {
-  records = length-mapped Proc (P.the_field).row.Denot (P.the_field).into ps.all 16 l;
+  records = l;
   each = λ i. split (ltb i (length ps.all))
       (λ q. each-whole ps.all us s i (ltb-true _ _ q))
       (λ q. rw (get_or-eq_default ps.all zero_proc (ltb-false _ _ q)) zero-whole);

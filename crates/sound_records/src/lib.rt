@@ -1,6 +1,8 @@
 // One process's record, and all of them: their own rules, without the book. Refusal 2 begins with them, so that the pass over the
 // book rests on records that are in order.
 
+#![tactic(auto)]
+
 ghost use Rattle.std.specs.Prelude.{◌≡◌, ◌≤◌, drop};
 ghost use Rattle.spec.specs.Tests.{◌is◌, all};
 ghost use Rattle.spec.specs.Book.{same_segment, unused, lives as livesOf, stack};

@@ -2,6 +2,8 @@
 // makes the call the frame is entered in a table. Frames with one mapping or none are found beforehand (module rows), and only the others
 // are gone through place by place. Added: r9 keeps its pages in page tables of its own making.
 
+#![tactic(auto)]
+
 mod rows;
 
 ghost use Rattle.std.specs.Prelude.{◌≡◌, true, ◌+◌, ◌-◌, ◌*◌, ◌/◌, ◌%◌, ◌^◌, ◌<◌, ◌≤◌, length};

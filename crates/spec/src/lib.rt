@@ -1,6 +1,8 @@
 // The types that calls take and give back, as r9's dat.rs and mem.rs declare them, and the types of their answers.
 // Every definition that a contract cites is over these; the definitions stand in specs/.
 
+#![tactic(auto)]
+
 // A page is mem.rs's.
 pub const PAGE_SIZE_4K: u64 = 4096;
 
@@ -13,7 +15,7 @@ pub const MAX_ARGS: u64 = 16384;
 // What is fixed before the first start and handed to every call: the machine's numbers, as fake.rs has them for its own, and the flag
 // table, which r9 has in its code.
 #[repr(C)]
-#[derive(Drop)]
+#[derive(Clone, Copy)]
 pub struct Setup {
     // Where user text may begin.
     pub utzero: u64,
@@ -70,7 +72,7 @@ pub const TOP: u64 = 36;
 
 // A range of user addresses, from `start` up to, but not including, `end`.
 #[repr(C)]
-#[derive(Drop)]
+#[derive(Clone, Copy)]
 pub struct VirtRange {
     pub start: u64,
     pub end: u64,
@@ -78,7 +80,7 @@ pub struct VirtRange {
 
 // A segment of a process's memory: whole pages, all mapped with `perm`: 1 text, 2 rodata, 3 data, and 0 in an unused place.
 #[repr(C)]
-#[derive(Drop)]
+#[derive(Clone, Copy)]
 pub struct UserSegment {
     pub range: VirtRange,
     pub perm: u64,
@@ -87,7 +89,7 @@ pub struct UserSegment {
 // What a process's record holds: its text, rodata, data and stack, its name, and the bss, which the break grows and shrinks.
 // All zero: no process.
 #[repr(C)]
-#[derive(Drop)]
+#[derive(Clone, Copy)]
 pub struct Proc {
     pub segments: [UserSegment; 16],
     pub text: [u8; 28],
@@ -96,14 +98,14 @@ pub struct Proc {
 
 // The records of processes 1 to 16.
 #[repr(C)]
-#[derive(Drop)]
+#[derive(Clone, Copy)]
 pub struct Procs {
     pub all: [Proc; 16],
 }
 
 // What a program starts with: its pc and stack pointer, and argc and argv.
 #[repr(C)]
-#[derive(Drop)]
+#[derive(Clone, Copy)]
 pub struct UserRegs {
     pub pc: u64,
     pub sp: u64,
@@ -112,7 +114,7 @@ pub struct UserRegs {
 }
 
 // What a call answers.
-#[derive(Drop)]
+#[derive(Clone, Copy)]
 pub enum Answer {
     // Accepted, with the registers to enter a program with: start, replace, push.
     Regs(UserRegs),
@@ -133,35 +135,35 @@ pub enum Answer {
 }
 
 // What a check of user memory comes to: every byte can be accessed, or the address of one that can't.
-#[derive(Drop)]
+#[derive(Clone, Copy)]
 pub enum Checked {
     Fine,
     Bad(u64),
 }
 
 // The records after a call, and its answer.
-#[derive(Drop)]
+#[derive(Clone, Copy)]
 pub struct Left {
     pub procs: Procs,
     pub answer: Answer,
 }
 
 // What a search for a frame comes to.
-#[derive(Drop)]
+#[derive(Clone, Copy)]
 pub enum Found {
     At(usize),
     Nothing,
 }
 
 // The form that an image is read in: ELF, or Plan 9's a.out, with the magic that is expected.
-#[derive(Drop)]
+#[derive(Clone, Copy)]
 pub enum Form {
     Elf,
     Aout(u32),
 }
 
 // Why an ELF image isn't a loadable executable, in the order of the checks: numbers 11 to 27, with 28 after 23.
-#[derive(Drop)]
+#[derive(Clone, Copy)]
 pub enum ElfError {
     // Shorter than an ELF header.
     Truncated,

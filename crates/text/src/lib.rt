@@ -1,6 +1,8 @@
 // Text in a buffer that the caller lends: bytes, numbers in decimal, and a named number's line. Each function that puts text puts it from
 // a place on and answers the place behind it; the last says what text begins with.
 
+#![tactic(auto)]
+
 ghost use Rattle.std.specs.Prelude.{◌+◌, ◌≤◌, ◌≡◌, length, take};
 ghost use Rattle.spec.specs.Tests.{◌is◌, same};
 ghost use Rattle.text.specs.Text.{Puts, number_text, field_text};

@@ -4,6 +4,8 @@
 // Each page is checked, then its frame is read or written: where r9 uses a user address directly, here a page's frame is found by
 // the table that the check of the book has left (`sound::prepare`). A bad range ends no process here: the calls above do that.
 
+#![tactic(auto)]
+
 mod copies;
 mod ranges;
 mod strings;
@@ -21,7 +23,7 @@ pub use ranges::{frame_at, user_range_ok};
 use spec::{Checked, Setup};
 
 // What a string copy answers: whether every byte that it needed could be read, and the length.
-#[derive(Drop)]
+#[derive(Clone, Copy)]
 pub struct Str {
     pub access: Checked,
     pub size: usize,

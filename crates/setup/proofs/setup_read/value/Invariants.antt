@@ -1,0 +1,13 @@
+-- `setup_read::value` meets its contract. The invariant: the number of the first `i` bytes, and what it is below.
+-- Assumes nothing.
+use mathlib.Core.Path.{◌≡◌}
+use Prim.Native.Nat.{◌+◌, ◌-◌, ◌*◌, ◌^◌, ◌≤◌}
+use lib.ListN.{length, drop}
+use Rattle.spec.specs.SetupText.{decimal_from}
+use Rattle.setup.proofs.setup_read.value.Given as goal
+
+abbrev pub invariant-loop-i : goal.invariant-loop-i
+invariant-loop-i l = (l.i ≤ length l.s) × (l.n + 23 ≤ 23 * 10 ^ l.i) × (decimal_from 0 l.s ≡ decimal_from l.n (drop l.i l.s))
+
+abbrev pub decreases-loop-i : goal.decreases-loop-i
+decreases-loop-i l = length l.s - l.i
