@@ -1,10 +1,10 @@
 -- `put_listing` meets its contract: each text is the listing's, by the plan's numbers.
 -- Assumes nothing.
-use mathlib.Core.Path.{◌≡◌, sym, ap, ◌∙◌}
+use mathlib.Core.Path.{◌≡◌, sym, subst, ap, ◌∙◌}
 use native.Mathlib.Omega.{arith}
 use borrow.Author.Rules.{rules}
 use Rattle.spec.specs.Flags.{built_in}
-use Rattle.spec.specs.Numbers.{deposit}
+use Rattle.spec.specs.Numbers.{SetupOk, deposit}
 use Rattle.spec.specs.Elf.{elf_error}
 use Rattle.spec.specs.Exec.{image_error}
 use Rattle.spec.specs.declared.Setup.{Setup}

@@ -1,0 +1,69 @@
+-- `copies::read_user` meets its contract. The loop's invariant: the first `i` bytes are read, and the others as they were.
+use Prim.Native.Nat.{◌+◌, ◌-◌, ◌≤◌}
+use native.Mathlib.Omega.{arith}
+use mathlib.Core.Path.{◌≡◌, refl, sym, ap, ◌∙◌}
+use mathlib.Core.Bool.{false}
+use lib.ListN.{length}
+use borrow.Rule.Slice.PartMut.{mid_len}
+use Rattle.spec.specs.Numbers.{max_top}
+use Rattle.spec.specs.Frames.{Mem, mem_of, store}
+use Rattle.spec.specs.Access.{byte_of}
+use Rattle.spec_laws.proofs.Contents.{length-bytes}
+use Rattle.uaccess.proofs.InRange.{range-cell, range-end}
+use Rattle.uaccess.proofs.CopyParts.{read-turn}
+use Rattle.spec_laws.proofs.Overwrite.{mix-none, mix_all}
+use Rattle.uaccess.proofs.copies.read_user.Goals as goal
+use Rattle.uaccess.proofs.copies.read_user.Goals.{Start}
+
+-- the range that has been checked
+module _ (c : Start) where
+  abbrev memory : Mem
+  memory = mem_of (store c.args.frames.now c.args.book.now) c.args.number
+
+  top : c.args.addr + length c.args.buf.now ≤ max_top
+  top = omega (arith, c.requires.setup_ok.1, range-end c.requires.setup_ok.0 memory false c.args.addr (length c.args.buf.now) c.requires.setup_ok.2)
+
+pub loop-i-init : goal.loop-i-init
+loop-i-init c = (omega arith, refl, mix-none _ _)
+
+pub overflow_add-va : goal.overflow_add-va
+overflow_add-va c = omega (arith, top (goal.at.overflow_add-va c).Start)
+
+pub overflow_add-e : goal.overflow_add-e
+overflow_add-e c = omega (arith, c.in_page-n.ensures)
+
+pub user_bytes-s-requires : goal.user_bytes-s-requires
+user_bytes-s-requires c =
+    let a = c.args in
+    let i = c.loop-i.i in
+    record { frames_len = c.requires.frames_len; n_bound = (omega (arith, c.in_page-n.ensures), range-cell c.requires.setup_ok.0 a.frames.now a.frames.now a.book.now a.number false a.addr (length a.buf.now) (a.addr + i) c.requires.setup_ok.2 (omega arith) (omega arith)) }
+
+pub slice_bounds-copy-end : goal.slice_bounds-copy-end
+slice_bounds-copy-end c = omega (arith, c.in_page-n.ensures)
+
+pub copy-requires : goal.copy-requires
+copy-requires c =
+    let l = c.loop-i in
+    let n = c.in_page-n.result in
+    let q : l.i + n - l.i ≡ n = omega arith in
+    mid_len l.i (l.i + n) l.buf (omega (arith, c.in_page-n.ensures)) ∙ q
+    ∙ sym (ap length c.user_bytes-s.ensures ∙ length-bytes (λ b. byte_of (memory (goal.at.copy-requires c).Start b)) (c.args.addr + l.i) n)
+
+pub loop-i-smaller : goal.loop-i-smaller
+loop-i-smaller c = omega (arith, c.in_page-n.ensures)
+
+pub loop-i-preserved : goal.loop-i-preserved
+loop-i-preserved c =
+    let a = c.args in
+    let l = c.loop-i in
+    let n = c.in_page-n in (
+      omega (arith, n.ensures),
+      omega arith,
+      rw l.invariant.2 (read-turn (memory (goal.at.loop-i-preserved c).Start) a.addr l.i n.result a.buf.now _ (omega (arith, n.ensures)) (c.copy.ensures ∙ c.user_bytes-s.ensures)),
+    )
+
+pub returns : goal.returns
+returns c =
+    let a = c.args in
+    let w = length-bytes (λ b. byte_of (memory (goal.at.returns c).Start b)) a.addr (length a.buf.now) in
+    c.loop-i.invariant.2 ∙ mix_all _ _ _ (omega arith) (omega arith)
