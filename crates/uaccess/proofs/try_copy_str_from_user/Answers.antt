@@ -107,7 +107,7 @@ copy_to_nul-k-requires c =
     ∙ sym (ap length c.user_bytes-s.ensures ∙ length-bytes (λ a. byte_of (memory (goal.at.copy_to_nul-k-requires c).Start a)) (c.args.src + n (goal.at.copy_to_nul-k-requires c).In_default) (chunk (goal.at.copy_to_nul-k-requires c).After-in_page-chunk))
 
 pub overflow_add-n : goal.overflow_add-n
-overflow_add-n c = omega (arith, most (goal.at.overflow_add-n c).After-copy_to_nul-k, page (goal.at.overflow_add-n c).After-in_page-chunk, top c.before)
+overflow_add-n c = omega (arith, most (goal.at.overflow_add-n c).After-copy_to_nul-k, page (goal.at.overflow_add-n c).After-in_page-chunk, top (goal.at.overflow_add-n c).In_default)
 
 pub returns-then-k-chunk : goal.returns-then-k-chunk
 returns-then-k-chunk c =

@@ -1,7 +1,7 @@
 -- `copies::write_user` meets its contract. The loop's invariant: the first `i` bytes are written.
 use Prim.Native.Nat.{◌+◌, ◌-◌, ◌≤◌}
 use native.Mathlib.Omega.{arith}
-use mathlib.Core.Path.{◌≡◌, ap, ◌∙◌}
+use mathlib.Core.Path.{◌≡◌, refl, ap, ◌∙◌}
 use mathlib.Core.Bool.{true}
 use lib.ListN.{length}
 use lib.Seq.{take_all}
@@ -16,6 +16,10 @@ use Rattle.uaccess.proofs.copies.write_user.Goals.{Start}
 -- the range that has been checked
 top : (c : Start) → c.args.addr + length c.args.bytes.now ≤ max_top
 top c = omega (arith, c.requires.setup_ok.1, range-end c.requires.setup_ok.0 (mem_of (store c.args.frames.now c.args.book.now) c.args.number) true c.args.addr (length c.args.bytes.now) c.requires.setup_ok.2)
+
+pub loop-i-init : goal.loop-i-init
+unfolding pokes
+loop-i-init c = (omega arith, refl, refl)
 
 pub overflow_add-va : goal.overflow_add-va
 overflow_add-va c = omega (arith, top (goal.at.overflow_add-va c).Start)

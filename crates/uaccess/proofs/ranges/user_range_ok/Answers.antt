@@ -2,7 +2,6 @@
 use Prim.Native.Nat.{ℕ, ◌+◌, ◌-◌, ◌≤◌, ◌<◌}
 use native.Mathlib.Omega.{arith}
 use mathlib.Core.Path.{◌≡◌, sym, ◌∙◌}
-use mathlib.Core.Logic.{⊎_elim}
 use mathlib.Core.List.{List}
 use Rattle.spec.specs.Numbers.{page_down}
 use Rattle.spec.specs.Frames.{Mem, store}
@@ -14,7 +13,7 @@ use Rattle.spec_laws.proofs.Allowed.{cell-page}
 use Rattle.uaccess.proofs.InRange.{Paged, checked-page, page-bad}
 use Rattle.uaccess.proofs.ranges.user_range_ok.Goals as goal
 use Rattle.uaccess.proofs.ranges.user_range_ok.Invariants.{memory}
-use Rattle.uaccess.proofs.ranges.user_range_ok.Goals.{Joined-len-room, Start, Then-not-user_page_ok}
+use Rattle.uaccess.proofs.ranges.user_range_ok.Goals.{then-len-room, else-len-room, Joined-len-room, Start, Then-not-user_page_ok}
 
 -- the memory that is checked
 module _ (c : Start) (frames : List ℕ) where
@@ -31,10 +30,10 @@ module _ (c : Joined-len-room) where
 
   ends : (end ≤ c.args.setup.uaddrtop) × (end ≤ c.args.addr + c.args.len) × (c.args.addr < c.args.setup.uaddrtop → c.args.addr < end)
   ends =
-      ⊎_elim
-      (λ t. (omega (arith, t.0.taken, t.1), omega (arith, t.0.taken, t.1), λ l. omega (arith, t.1)))
-      (λ e. (omega (arith, e.0.left, e.1), omega (arith, e.0.left, e.1), λ l. omega (arith, e.1)))
-      c.if-len-room.branch
+      elim c.if-len-room.branch [
+        then-len-room w ↦ (omega arith, omega arith, λ l. omega arith)
+      | else-len-room w ↦ (omega arith, omega arith, λ l. omega arith)
+      ]
 
 -- a page of it that isn't allowed
 module _ (c : Then-not-user_page_ok) where
@@ -80,14 +79,14 @@ loop-va-preserved c = (
 
 pub returns-then-len-room-2 : goal.returns-then-len-room-2
 returns-then-len-room-2 c frames =
-    ⊎_elim
-    (λ t. sym (bad-top c.args.setup (mem (goal.at.returns-then-len-room-2 c).Start frames) c.args.write c.args.addr c.args.len (omega arith) (omega (arith, t.0.taken)) (λ b x y. c.loop-va.invariant.2 frames b (omega arith) (omega (arith, t.1)))))
-    (λ e. absurd (omega (arith, e.0.left)))
-    c.if-len-room.branch
+    elim c.if-len-room.branch [
+      then-len-room w ↦ sym (bad-top c.args.setup (mem (goal.at.returns-then-len-room-2 c).Start frames) c.args.write c.args.addr c.args.len (omega arith) (omega arith) (λ b x y. c.loop-va.invariant.2 frames b (omega arith) (omega arith)))
+    | else-len-room w ↦ absurd (omega arith)
+    ]
 
 pub returns : goal.returns
 returns c frames =
-    ⊎_elim
-    (λ t. absurd (omega (arith, t.0.taken)))
-    (λ e. sym (fine-all c.args.setup (mem (goal.at.returns c).Start frames) c.args.write c.args.addr c.args.len (omega (arith, e.0.left)) (λ b x y. c.loop-va.invariant.2 frames b (omega arith) (omega (arith, e.1)))))
-    c.if-len-room.branch
+    elim c.if-len-room.branch [
+      then-len-room w ↦ absurd (omega arith)
+    | else-len-room w ↦ sym (fine-all c.args.setup (mem (goal.at.returns c).Start frames) c.args.write c.args.addr c.args.len (omega arith) (λ b x y. c.loop-va.invariant.2 frames b (omega arith) (omega arith)))
+    ]
