@@ -1,0 +1,15 @@
+-- `copy_argv` meets its contract. The loop's invariant: the strings of the first `count` arguments stand over the first `used` bytes of
+-- the buffer, within the limit, and the definition goes on from them.
+use Prim.Native.Nat.{◌-◌}
+use Rattle.spec.specs.Numbers.{arg_limit}
+use Rattle.spec.specs.Frames.{mem_of, store}
+use Rattle.exec_argv.specs.declared.copy_arg.More.TheVariants as more
+use Rattle.exec_argv.proofs.SoFar.{SoFar}
+use Rattle.exec_argv.proofs.copy_argv.Given as goal
+
+abbrev pub invariant-loop-address : goal.invariant-loop-address
+invariant-loop-address l =
+    SoFar l.setup (mem_of (store l.frames l.book) l.number) l.argv l.initial.buf l.buf l.used l.count
+
+abbrev pub decreases-loop-address : goal.decreases-loop-address
+decreases-loop-address l = arg_limit l.setup - l.count
