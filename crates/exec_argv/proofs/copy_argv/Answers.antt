@@ -51,7 +51,7 @@ module _ (c : After-copy_arg-r) where
 -- where there is one more
 module _ (c : In-Size) where
   goes : SoFar c.args.setup (memory (goal.at.In-Size c).Start) c.args.argv c.args.buf.now (left (goal.at.In-Size c).After-copy_arg-r) (c.loop-address.used + (c.in-Size.size + 1)) (c.loop-address.count + 1)
-  goes = further c.in-Size.size c.in-Size.is
+  goes = further (goal.at.In-Size c).After-copy_arg-r c.in-Size.size c.in-Size.is
 
 pub loop-address-init : goal.loop-address-init
 loop-address-init c =
