@@ -1,12 +1,8 @@
-pub mod Again
 pub mod Answered
-pub mod Called
 pub mod Copies
 pub mod Finished
 pub mod Judged
 pub mod SameList
-pub mod Loans
 pub mod Noted
-pub mod Rows
 pub mod Told
 pub mod Forked

@@ -46,7 +46,7 @@ returns-in_default c =
     let l = c.loop-page in
     let f = c.frame_at in
     let p = there (goal.at.returns-in_default c).In-loop-page in
-    let p = not-missing _ p.0 p.1 (sym c.in_default.is ∙ told_is l.book _ _ _ c.args.parent l.page f.result l.invariant.2 f.ensures) in record { book_after = p.0; passed_2 = p.1; kept = p.2 }
+    absurd (not-missing _ p.0 p.1 (sym c.in_default.is ∙ told_is l.book _ _ _ c.args.parent l.page f.result l.invariant.2 f.ensures))
 
 pub returns-in_default-free_below : goal.returns-in_default-free_below
 returns-in_default-free_below c =
