@@ -24,7 +24,7 @@ pub extern "C" fn measured_zero(d: &mut [u8])
 // `d` becomes `s` if they are equally long, and stays otherwise.
 #[unsafe(no_mangle)]
 pub extern "C" fn measured_copy(d: &mut [u8], s: &[u8])
-    ensures { d.new ≡ (length d.old is length s.now ⇒ s.now else (λ x. x.now) d.entry) }
+    ensures { d.new ≡ (length d.old is length s.now ⇒ s.now else d.old) }
 {
     if d.len() == s.len() {
         pagealloc::frames::copy(d, s);

@@ -1,7 +1,5 @@
 // Fork with its list: the parent's recorded segments are lent as a slice of records, as r9's `copy_segments` takes them, and a list
-// unlike the record is refused with 2. `fork` is the version by value. The borrow checker covers no function that takes a
-// slice of structs, so `same_list`, `copy_segments`, `forked` and `fork_list` are proved by hand; the work in them is done by
-// functions that take one record by value.
+// unlike the record is refused with 2. `fork` is the version by value.
 
 ghost use Rattle.std.specs.Prelude.{◌≡◌, true, [], ◌∷◌, ◌*◌, ◌^◌, ◌≤◌, ◌<◌, length};
 ghost use Rattle.spec.specs.Tests.{same};

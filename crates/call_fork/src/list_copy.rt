@@ -1,5 +1,5 @@
-// Fork's page copy, over a lent list. The page table that the check of the book leaves is not handed on to functions that are proved
-// by hand: the frames of a segment's pages are noted by a pass over the book before they are copied.
+// Fork's page copy, over a lent list. The page table that the check of the book leaves is not handed on: the frames of a segment's pages
+// are noted by a pass over the book before they are copied.
 
 ghost use Rattle.std.specs.Prelude.{◌≡◌, [], ◌∷◌, ℕ, ◌+◌, ◌*◌, ◌%◌, ◌≤◌, ◌<◌, length, get_or};
 ghost use Rattle.std.proofs.Math.Option.{some};

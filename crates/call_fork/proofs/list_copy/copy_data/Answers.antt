@@ -46,10 +46,10 @@ loop-page-init c =
     (ran-start (pages m a.number) g.perm a.child g.range.end g.range.start m a.top c.requires.bounded.0.copyable.start c.requires.bounded.3, kept_self _ _, c.requires.bounded.2, omega arith)
 
 pub offset_bounds-own-i : goal.offset_bounds-own-i
-offset_bounds-own-i c = omega (arith, at_most c)
+offset_bounds-own-i c = omega (arith, c.loop-page.invariant.3, c.requires.bounded.0.few c.requires.bounded.1, c.loop-page-test.true)
 
 pub bounds-own-i : goal.bounds-own-i
-bounds-own-i c = omega (arith, at_most c)
+bounds-own-i c = omega (arith, c.loop-page.invariant.3, c.requires.bounded.0.few c.requires.bounded.1, c.loop-page-test.true)
 
 pub overflow_cast-from : goal.overflow_cast-from
 overflow_cast-from c = omega (arith, (from_is (goal.at.overflow_cast-from c).In-loop-page).there, c.requires.frames_len.6, c.loop-page.invariant.0.book)
