@@ -1,9 +1,2 @@
--- How the exported calls are walked.
+-- What a run of exported functions is.
 pub mod Linked
-pub mod Locals
-pub mod Params
-pub mod Telling
-pub mod Opening
-pub mod Kept
-pub mod Formed
-pub mod Looked
