@@ -3,34 +3,48 @@
 
 #![tactic(auto)]
 
-ghost use Rattle.io.specs.Counts.{IsPrefixLen};
+ghost use Rattle.std.specs.Prelude.{◌≤◌, length};
 
-// How many bytes were read, and whether a read failed behind them.
+use std::io::{Eprint, Error, Read};
+
+// How many bytes were read, and why a read failed behind them, if one did.
 #[derive(Clone, Copy)]
 pub struct Got {
     pub count: usize,
-    pub failed: bool,
+    pub failed: Option<Error>,
 }
 
 // Reads to the end of the file, or until `dst` is full.
-pub fn read(fd: i32, dst: &mut [u8]) -> Got
-    ensures { IsPrefixLen result.count dst.new }
+pub fn read<R: Read>(file: &mut R, dst: &mut [u8]) -> Got
+    ensures { result.count ≤ length dst.new }
 {
     let mut n = 0;
     while n < dst.len() {
         let rest = &mut dst[n..];
-        let got = libc::read(fd, rest);
-        let more = io::count(got, rest);
+        let more = match file.read(rest) {
+            Ok(more) => more,
+            Err(e) => {
+                return Got {
+                    count: n,
+                    failed: Some(e),
+                };
+            }
+        };
         if more == 0 {
             return Got {
                 count: n,
-                failed: got < 0,
+                failed: None,
             };
         }
         n += more;
     }
     Got {
         count: n,
-        failed: false,
+        failed: None,
     }
+}
+
+// Says on standard error which reading or writing failed, and why.
+pub fn tell(rt: &impl Eprint, what: &str, why: Error) {
+    let _ = eprintln!(rt; "{what}: {why}");
 }

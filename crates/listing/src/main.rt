@@ -4,20 +4,23 @@
 
 #![tactic(auto)]
 
-use libc::{STDIN_FILENO, STDOUT_FILENO};
+use std::io::Print;
+use std::process::ExitCode;
 
-fn main() {
+fn main(rt: HostRuntime) -> ExitCode {
     // One byte more than is listed, so that a longer image is seen to be one.
     let mut image = [0u8; 32769];
-    let got = files::read(STDIN_FILENO, &mut image);
-    if got.failed {
-        os::fail(b"listing: standard input");
-        return;
+    let got = files::read(&mut rt.stdin(), &mut image);
+    if let Some(why) = got.failed {
+        files::tell(&rt, "listing: standard input", why);
+        return ExitCode::FAILURE;
     }
     let n = got.count;
     let mut out = [0u8; 1024];
     let k = listing_lines::list_into(&image[..n], &mut out);
-    if !io::write_all(STDOUT_FILENO, &out[..k]) {
-        os::fail(b"listing: standard output");
+    if let Err(why) = rt.write_all(&out[..k]) {
+        files::tell(&rt, "listing: standard output", why);
+        return ExitCode::FAILURE;
     }
+    ExitCode::SUCCESS
 }

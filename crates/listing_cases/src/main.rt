@@ -4,10 +4,19 @@
 #![tactic(auto)]
 
 ghost use Rattle.std.specs.Prelude.{◌≡◌, min, ◌≤◌, ◌<◌, length};
-ghost use Rattle.io.specs.Counts.{IsPrefixLen};
 
 use files::Got;
-use libc::{STDERR_FILENO, STDOUT_FILENO};
+use std::fs;
+use std::io::{Eprint, Print, Read};
+use std::process::ExitCode;
+
+// What is behind an image: there may be another, there is none, or reading or writing failed.
+#[derive(Clone, Copy)]
+enum Behind {
+    More,
+    End,
+    Failed,
+}
 
 // One byte more than is listed: of a longer image the rest is dropped.
 const MOST: usize = 32769;
@@ -28,36 +37,34 @@ fn least(a: usize, b: usize) -> usize
 }
 
 // Reads n bytes to the start of `buf`, or those that there are.
-fn read(fd: i32, buf: &mut [u8], n: usize) -> Got
+fn read<R: Read>(file: &mut R, buf: &mut [u8], n: usize) -> Got
     requires { n ≤ length buf.old }
-    ensures { IsPrefixLen result.count buf.new }
+    ensures { result.count ≤ length buf.new }
 {
-    files::read(fd, &mut buf[..n])
+    files::read(file, &mut buf[..n])
 }
 
 // Whether n bytes could not be read; then a line on standard error says why.
-fn lacks(got: Got, n: usize) -> bool {
-    if got.failed {
-        os::fail(b"listing_cases: cases");
+fn lacks(rt: &impl Eprint, got: Got, n: usize) -> bool {
+    if let Some(why) = got.failed {
+        files::tell(rt, "listing_cases: cases", why);
         return true;
     }
     if got.count < n {
-        io::write_all(
-            STDERR_FILENO,
-            b"listing_cases: cases: it ends within an image\n",
-        );
+        let _ = eprintln!(rt; "listing_cases: cases: it ends within an image");
         return true;
     }
     false
 }
 
 // Reads n bytes and drops them, and answers whether they were there.
-fn skip(fd: i32, n: usize) -> bool {
+fn skip<R: Read>(rt: &impl Eprint, file: &mut R, n: usize) -> bool {
     let mut left = n;
     while left > 0 {
-        let mut page = io::buffer();
+        let mut page = [0u8; 4096];
         let k = least(left, 4096);
-        if lacks(read(fd, &mut page, k), k) {
+        let got = read(file, &mut page, k);
+        if lacks(rt, got, k) {
             return false;
         }
         left -= k;
@@ -66,63 +73,72 @@ fn skip(fd: i32, n: usize) -> bool {
 }
 
 // Writes text, and answers whether it was written; if not, a line on standard error says why.
-fn put(text: &[u8]) -> bool {
-    if io::write_all(STDOUT_FILENO, text) {
-        return true;
+fn put(rt: &(impl Print + Eprint), text: &[u8]) -> bool {
+    if let Err(why) = rt.write_all(text) {
+        files::tell(rt, "listing_cases: standard output", why);
+        return false;
     }
-    os::fail(b"listing_cases: standard output");
-    false
+    true
 }
 
 // Lists an image after its name, and answers whether that was written.
-fn list(name: &[u8], image: &[u8]) -> bool {
+fn list(rt: &(impl Print + Eprint), name: &[u8], image: &[u8]) -> bool {
     let mut out = [0u8; 1024];
     let k = listing_lines::list_into(image, &mut out);
-    put(name) && put(b"\n") && put(&out[..k])
+    put(rt, name) && put(rt, b"\n") && put(rt, &out[..k])
 }
 
-// Lists the next image of the file, and answers whether there may be another: not behind the last, nor where reading or writing failed.
-fn list_next(fd: i32) -> bool {
+// Lists the next image of the file, and answers what is behind it.
+fn list_next<R: Read>(rt: &(impl Print + Eprint), file: &mut R) -> Behind {
     let mut head = [0u8; 4];
-    let first = files::read(fd, &mut head);
-    let ended = first.count == 0;
-    if ended & !first.failed {
-        return false;
+    let first = files::read(file, &mut head);
+    if first.count == 0 && first.failed.is_none() {
+        return Behind::End;
     }
-    if lacks(first, 4) {
-        return false;
+    if lacks(rt, first, 4) {
+        return Behind::Failed;
     }
     let letters = wide(head[0]);
     let size = wide(head[1]) + wide(head[2]) * 256 + wide(head[3]) * 65536;
     let mut name = [0u8; 256];
-    let named = read(fd, &mut name, letters);
-    if lacks(named, letters) {
-        return false;
+    let named = read(file, &mut name, letters);
+    if lacks(rt, named, letters) {
+        return Behind::Failed;
     }
     let mut image = [0u8; 32769];
     let kept = least(size, MOST);
-    let imaged = read(fd, &mut image, kept);
-    if lacks(imaged, kept) {
-        return false;
+    let imaged = read(file, &mut image, kept);
+    if lacks(rt, imaged, kept) {
+        return Behind::Failed;
     }
-    if !skip(fd, size - kept) {
-        return false;
+    if !skip(rt, file, size - kept) {
+        return Behind::Failed;
     }
     let n = named.count;
     let m = imaged.count;
-    list(&name[..n], &image[..m])
+    if list(rt, &name[..n], &image[..m]) {
+        Behind::More
+    } else {
+        Behind::Failed
+    }
 }
 
-fn main() {
-    let fd = os::open_read(b"cases");
-    if fd < 0 {
-        os::fail(b"listing_cases: cases");
-        return;
-    }
+fn main(rt: HostRuntime) -> ExitCode {
+    let mut file = match fs::open(&rt, "cases") {
+        Ok(file) => file,
+        Err(why) => {
+            files::tell(&rt, "listing_cases: cases", why);
+            return ExitCode::FAILURE;
+        }
+    };
     // A proved loop has to end, and nothing says that a file does: there are fewer images than turns.
     let mut turns: usize = 1000000;
-    while turns > 0 && list_next(fd) {
-        turns -= 1;
+    while turns > 0 {
+        match list_next(&rt, &mut file) {
+            Behind::More => turns -= 1,
+            Behind::End => return ExitCode::SUCCESS,
+            Behind::Failed => return ExitCode::FAILURE,
+        }
     }
-    libc::close(fd);
+    ExitCode::SUCCESS
 }

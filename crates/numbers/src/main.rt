@@ -4,20 +4,23 @@
 
 #![tactic(auto)]
 
-use libc::{STDIN_FILENO, STDOUT_FILENO};
+use std::io::Print;
+use std::process::ExitCode;
 
-fn main() {
+fn main(rt: HostRuntime) -> ExitCode {
     // One byte more than is read, so that a longer file is seen to be one.
     let mut bytes = [0u8; 4097];
-    let got = files::read(STDIN_FILENO, &mut bytes);
-    if got.failed {
-        os::fail(b"numbers: standard input");
-        return;
+    let got = files::read(&mut rt.stdin(), &mut bytes);
+    if let Some(why) = got.failed {
+        files::tell(&rt, "numbers: standard input", why);
+        return ExitCode::FAILURE;
     }
     let n = got.count;
     let mut out = [0u8; 174];
     let k = setup::numbers_into(&bytes[..n], &mut out);
-    if !io::write_all(STDOUT_FILENO, &out[..k]) {
-        os::fail(b"numbers: standard output");
+    if let Err(why) = rt.write_all(&out[..k]) {
+        files::tell(&rt, "numbers: standard output", why);
+        return ExitCode::FAILURE;
     }
+    ExitCode::SUCCESS
 }

@@ -2,6 +2,8 @@
 ghost use Rattle.std.specs.Prelude.{◌≤◌};
 
 use crate::room::least;
+use std::fs;
+use std::rt::Files;
 
 // Why a line is no call: it is none of those that there are, its file cannot be read, or one of the two is too long.
 #[derive(Clone, Copy)]
@@ -68,14 +70,16 @@ fn put(dst: &mut [u8], bytes: &[u8]) -> Taken {
 }
 
 // Puts the bytes of the file at `path`. It must be shorter than `dst`.
-fn file(dst: &mut [u8], path: &[u8]) -> Taken {
-    let fd = os::open_read(path);
-    if fd < 0 {
+fn file(rt: &impl Files, dst: &mut [u8], path: &[u8]) -> Taken {
+    // The library opens no file whose name is not UTF-8.
+    let Ok(name) = std::str::from_utf8(path) else {
         return Taken::Not(Why::Missing);
-    }
-    let got = files::read(fd, dst);
-    libc::close(fd);
-    if got.failed {
+    };
+    let Ok(mut file) = fs::open(rt, name) else {
+        return Taken::Not(Why::Missing);
+    };
+    let got = files::read(&mut file, dst);
+    if got.failed.is_some() {
         return Taken::Not(Why::Missing);
     }
     if dst.len() <= got.count {
@@ -85,7 +89,7 @@ fn file(dst: &mut [u8], path: &[u8]) -> Taken {
 }
 
 // Puts the bytes that a word gives at the start of `dst`.
-pub fn take(dst: &mut [u8], word: &[u8]) -> Taken {
+pub fn take(rt: &impl Files, dst: &mut [u8], word: &[u8]) -> Taken {
     if word.len() == 0 {
         return Taken::Not(Why::Bad);
     }
@@ -96,7 +100,7 @@ pub fn take(dst: &mut [u8], word: &[u8]) -> Taken {
     }
     match first {
         b'\'' => put(dst, behind),
-        b'@' => file(dst, behind),
+        b'@' => file(rt, dst, behind),
         _ => pairs(dst, word),
     }
 }
