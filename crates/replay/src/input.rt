@@ -2,6 +2,7 @@
 use replay_buffers::room;
 use replay_script::asked::LINE_MAX;
 use replay_session::Session;
+use std::io::{Eprint, Read};
 
 // The input's bytes: those of a line, with one more, by which a longer line is seen to be one, and those that are read at once.
 pub const INPUT_SIZE: usize = LINE_MAX + 1 + 65536;
@@ -21,18 +22,27 @@ pub(crate) fn behind(s: Session, end: usize) -> Session {
 
 // Reads more of a line, behind what there is of it. Of one that is too long no more is kept than shows it. If that fails, a line on
 // standard error says so.
-pub(crate) fn read(input: &mut [u8], s: Session) -> Session {
+pub(crate) fn read<R: Read>(
+    rt: &impl Eprint,
+    from: &mut R,
+    input: &mut [u8],
+    s: Session,
+) -> Session {
     let kept = room::least(room::shift(input, s.at, s.end), LINE_MAX + 1);
     let rest = room::lent(input, kept, INPUT_SIZE);
-    let got = libc::read(libc::STDIN_FILENO, rest);
-    if got < 0 {
-        os::fail(b"replay: standard input");
-    }
-    let end = std::num::wrapping_add_usize(kept, io::count(got, rest));
     let mut next = s;
     next.at = 0;
-    next.end = end;
-    next.ended = end == kept;
-    next.failed = got < 0;
+    match from.read(rest) {
+        Ok(more) => {
+            next.end = std::num::wrapping_add_usize(kept, more);
+            next.ended = more == 0;
+        }
+        Err(why) => {
+            files::tell(rt, "replay: standard input", why);
+            next.end = kept;
+            next.ended = true;
+            next.failed = true;
+        }
+    }
     next
 }

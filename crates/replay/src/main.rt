@@ -9,6 +9,9 @@ use replay_buffers::room;
 use replay_script::asked::{Asked, Kind};
 use replay_script::taken;
 use replay_session::Session;
+use std::io::{Eprint, Read, Write};
+use std::process::ExitCode;
+use std::rt::Files;
 
 // So many frames and no process, under the deposit machine's numbers and the built-in flag table.
 fn fresh(frames: u64, at: usize, end: usize, ended: bool) -> Session {
@@ -60,7 +63,10 @@ fn after(s: Session, a: Asked) -> Session {
 
 // Takes a turn: runs and answers the next line, or reads more of it if it isn't whole. The last line may lack its line feed. If its
 // answer can't be written, a line on standard error says so.
-fn turn(
+fn turn<R: Read, W: Write>(
+    rt: &(impl Files + Eprint),
+    from: &mut R,
+    out: &mut W,
     frames: &mut [u8; replay_session::FRAMES_SIZE],
     book: &mut [u64; replay_session::BOOK_SIZE],
     space: &mut [u8; taken::SPACE_MAX],
@@ -70,10 +76,10 @@ fn turn(
 ) -> Session {
     let end = input::line_end(input, s);
     if (end == s.end) & !s.ended {
-        return input::read(input, s);
+        return input::read(rt, from, input, s);
     }
     let line = room::part(input, s.at, end);
-    let a = taken::read(space, list, line, s.bytes, s.words);
+    let a = taken::read(rt, space, list, line, s.bytes, s.words);
     let mut next = after(input::behind(s, end), a);
     replay_session::run::set(book, a);
     let left = replay_session::run::run(frames, book, space, list, next, a);
@@ -81,6 +87,7 @@ fn turn(
     let answer = left.answer;
     next.procs = procs;
     let written = replay_replies::put_reply(
+        out,
         next.setup,
         room::part(frames, 0, next.bytes),
         room::first_words(book, next.words),
@@ -89,27 +96,42 @@ fn turn(
         a,
         answer,
     );
-    if !written {
-        os::fail(b"replay: standard output");
+    if let Err(why) = written {
+        files::tell(rt, "replay: standard output", why);
         next.failed = true;
     }
     next
 }
 
-fn main() {
+fn main(rt: HostRuntime) -> ExitCode {
     let mut frames = [0u8; replay_session::FRAMES_SIZE];
     let mut book = [0u64; replay_session::BOOK_SIZE];
     let mut space = [0u8; taken::SPACE_MAX];
     let mut list = [0u64; taken::ARGS];
     let mut input = [0u8; input::INPUT_SIZE];
+    let (mut from, mut out) = (rt.stdin(), rt.stdout());
     let mut s = fresh(0, 0, 0, false);
     // A proved loop has to end, and nothing says that the input does: it has fewer bytes than this.
     let mut left: u64 = u64::MAX;
     while 0 < left {
-        if s.failed | (s.ended & (s.end <= s.at)) {
-            return;
+        if s.failed {
+            return ExitCode::FAILURE;
         }
-        s = turn(&mut frames, &mut book, &mut space, &mut list, &mut input, s);
+        if s.ended & (s.end <= s.at) {
+            return ExitCode::SUCCESS;
+        }
+        s = turn(
+            &rt,
+            &mut from,
+            &mut out,
+            &mut frames,
+            &mut book,
+            &mut space,
+            &mut list,
+            &mut input,
+            s,
+        );
         left -= 1;
     }
+    ExitCode::SUCCESS
 }

@@ -1,4 +1,4 @@
-// The answers that the replay program writes. No contract can say what is written: each function is proved safe and ends.
+// The answers that the replay program writes. No contract says what is written: each function is proved safe and ends.
 
 #![tactic(auto)]
 

@@ -4,16 +4,11 @@ ghost use Rattle.std.specs.Prelude.{◌+◌, ◌*◌, ◌<◌, length};
 
 use crate::texts::{put, put_named};
 use spec::VirtRange;
-
-// How many pages the lines that were written show, or that one could not be written.
-#[derive(Clone, Copy)]
-enum Shown {
-    Pages(u64),
-    Not,
-}
+use std::io;
+use std::io::Write;
 
 // Writes a space and a name without the zeros at its end, with dots for what is no sign; nothing for no name.
-fn put_name(name: [u8; 28]) -> bool {
+fn put_name<W: Write>(out: &mut W, name: [u8; 28]) -> io::Result<()> {
     let mut text = [0u8; 28];
     let mut end = 0;
     let mut i = 0;
@@ -26,121 +21,125 @@ fn put_name(name: [u8; 28]) -> bool {
         }
     }
     if end == 0 {
-        return true;
+        return Ok(());
     }
-    put(b" ") && put(replay_buffers::room::part(&text, 0, end))
+    put(out, b" ")?;
+    put(out, replay_buffers::room::part(&text, 0, end))
 }
 
 // Writes the holders of frame `k`: the numbers of its places that are not 0.
-fn put_holders(book: &[u64], k: usize) -> bool
+fn put_holders<W: Write>(out: &mut W, book: &[u64], k: usize) -> io::Result<()>
     requires { 17 * k + 16 < length book.now }
 {
-    let mut written = put(b" holders");
+    put(out, b" holders")?;
     let mut i: usize = 0;
     while i < 16 {
         let w = book[17 * k + i];
         i += 1;
         if w != 0 {
-            written = written && put_named(b" ", i as u64);
+            put_named(out, b" ", i as u64)?;
         }
     }
-    written
+    Ok(())
 }
 
 // Writes the line of a page: its address, and the first frame that has it in its process's place, with the frame's holders.
-fn put_page(book: &[u64], number: u64, page: u64) -> bool {
+fn put_page<W: Write>(out: &mut W, book: &[u64], number: u64, page: u64) -> io::Result<()> {
     let place = (std::num::wrapping_sub_u64(number, 1) % 16) as usize;
     let frames = book.len() / 17;
-    if !put_named(b"\n    page ", page) {
-        return false;
-    }
+    put_named(out, b"\n    page ", page)?;
     let mut k = 0;
     while k < frames {
         let w = book[17 * k + place];
         if (book::page_of(w) == page) & (book::owner_of(w) == number) {
-            return put_named(b" frame ", k as u64) && put_holders(book, k);
+            put_named(out, b" frame ", k as u64)?;
+            return put_holders(out, book, k);
         }
         k += 1;
     }
-    put(b" frame none")
+    put(out, b" frame none")
 }
 
-// Writes the lines of a range's pages.
-fn put_pages(book: &[u64], number: u64, r: VirtRange) -> Shown {
+// Writes the lines of a range's pages, and answers how many these are.
+fn put_pages<W: Write>(out: &mut W, book: &[u64], number: u64, r: VirtRange) -> io::Result<u64> {
     let mem::Rounded::To(start) = mem::checked_page_up(r.start) else {
-        return Shown::Pages(0);
+        return Ok(0);
     };
     let end = r.end;
     if spec::MAX_TOP < end {
-        return Shown::Pages(0);
+        return Ok(0);
     }
     let mut pages: u64 = 0;
     let mut page = start;
     while page < end {
-        if !put_page(book, number, page) {
-            return Shown::Not;
-        }
+        put_page(out, book, number, page)?;
         page += spec::PAGE_SIZE_4K;
         pages += 1;
     }
-    Shown::Pages(pages)
+    Ok(pages)
 }
 
-// Writes the line of a segment or the bss, and those of its pages. A range that ends before it starts has no bytes.
-fn put_part(kind: &[u8], book: &[u64], number: u64, r: VirtRange) -> Shown {
+// Writes the line of a segment or the bss, and those of its pages, and answers how many pages these are. A range that ends before it
+// starts has no bytes.
+fn put_part<W: Write>(
+    out: &mut W,
+    kind: &[u8],
+    book: &[u64],
+    number: u64,
+    r: VirtRange,
+) -> io::Result<u64> {
     let size = if r.end < r.start { 0 } else { r.end - r.start };
-    if put(kind)
-        && put_named(b" ", r.start)
-        && put_named(b" ", r.end)
-        && put_named(b" size ", size)
-    {
-        return put_pages(book, number, r);
-    }
-    Shown::Not
+    put(out, kind)?;
+    put_named(out, b" ", r.start)?;
+    put_named(out, b" ", r.end)?;
+    put_named(out, b" size ", size)?;
+    put_pages(out, book, number, r)
 }
 
-// Writes the lines of a segment, if the record uses its place.
-fn put_segment(book: &[u64], number: u64, segment: spec::UserSegment) -> Shown {
+// Writes the lines of a segment, if the record uses its place, and answers how many pages these show.
+fn put_segment<W: Write>(
+    out: &mut W,
+    book: &[u64],
+    number: u64,
+    segment: spec::UserSegment,
+) -> io::Result<u64> {
     let r = segment.range;
     let perm = segment.perm;
     match perm {
-        spec::TEXT => put_part(b"\n  text", book, number, r),
-        spec::RODATA => put_part(b"\n  rodata", book, number, r),
-        spec::DATA => put_part(b"\n  data", book, number, r),
-        _ => Shown::Pages(0),
+        spec::TEXT => put_part(out, b"\n  text", book, number, r),
+        spec::RODATA => put_part(out, b"\n  rodata", book, number, r),
+        spec::DATA => put_part(out, b"\n  data", book, number, r),
+        _ => Ok(0),
     }
 }
 
 // Writes the table of a living process.
-pub(crate) fn put_map(book: &[u64], procs: spec::Procs, number: u64) -> bool {
+pub(crate) fn put_map<W: Write>(
+    out: &mut W,
+    book: &[u64],
+    procs: spec::Procs,
+    number: u64,
+) -> io::Result<()> {
     if !call_front::is_number(number) {
-        return crate::answers::put_answer(spec::Answer::Refused(spec::NUMBER));
+        return crate::answers::put_answer(out, spec::Answer::Refused(spec::NUMBER));
     }
     if !call_front::lives(procs, number) {
-        return crate::answers::put_answer(spec::Answer::Refused(spec::DEAD));
+        return crate::answers::put_answer(out, spec::Answer::Refused(spec::DEAD));
     }
     let at = (std::num::wrapping_sub_u64(number, 1) % 16) as usize;
     let p = procs.all[at];
     let name = p.text;
     let segments = p.segments;
-    if !put_named(b"process ", number) {
-        return false;
-    }
-    if !put_name(name) {
-        return false;
-    }
+    put_named(out, b"process ", number)?;
+    put_name(out, name)?;
     let mut pages: u64 = 0;
     let mut i = 0;
     while i < 16 {
         let segment = segments[i];
-        let Shown::Pages(shown) = put_segment(book, number, segment) else {
-            return false;
-        };
+        let shown = put_segment(out, book, number, segment)?;
         pages = std::num::wrapping_add_u64(pages, shown);
         i += 1;
     }
-    let Shown::Pages(more) = put_part(b"\n  bss", book, number, p.bss) else {
-        return false;
-    };
-    put_named(b"\n  pages ", std::num::wrapping_add_u64(pages, more))
+    let more = put_part(out, b"\n  bss", book, number, p.bss)?;
+    put_named(out, b"\n  pages ", std::num::wrapping_add_u64(pages, more))
 }

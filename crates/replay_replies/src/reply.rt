@@ -3,24 +3,28 @@ use crate::texts::{put, put_named};
 use crate::{answers, map, sums};
 use replay_buffers::bytes::Why;
 use replay_script::asked::{Asked, Kind};
+use std::io;
+use std::io::Write;
 
 // Writes that a line or a file has more bytes than it may have.
-fn put_large(most: usize) -> bool {
-    put_named(b"too large: at most ", most as u64) && put(b" bytes")
+fn put_large<W: Write>(out: &mut W, most: usize) -> io::Result<()> {
+    put_named(out, b"too large: at most ", most as u64)?;
+    put(out, b" bytes")
 }
 
 // Writes why a line is no call.
-fn put_why(why: Why) -> bool {
+fn put_why<W: Write>(out: &mut W, why: Why) -> io::Result<()> {
     match why {
-        Why::Bad => put(b"bad line"),
-        Why::Missing => put(b"no such file"),
-        Why::LargeFile => put_large(replay_script::asked::FILE_MAX),
-        Why::LargeLine => put_large(replay_script::asked::LINE_MAX),
+        Why::Bad => put(out, b"bad line"),
+        Why::Missing => put(out, b"no such file"),
+        Why::LargeFile => put_large(out, replay_script::asked::FILE_MAX),
+        Why::LargeLine => put_large(out, replay_script::asked::LINE_MAX),
     }
 }
 
-// Writes the answer of a line, given what the program holds behind it, and answers whether all of it was written.
-pub fn put_reply(
+// Writes the answer of a line, given what the program holds behind it. An error says that not all of it was written.
+pub fn put_reply<W: Write>(
+    out: &mut W,
     setup: spec::Setup,
     frames: &[u8],
     book: &[u64],
@@ -28,21 +32,21 @@ pub fn put_reply(
     procs: spec::Procs,
     a: Asked,
     answer: spec::Answer,
-) -> bool {
+) -> io::Result<()> {
     let bss = segment::Bss::Set(mem::range(a.number, a.second));
     let kind = a.kind;
-    let written = match kind {
-        Kind::Nothing => return true,
-        Kind::Wrong(why) => put_why(why),
-        Kind::Sum => sums::put_sums(procs, book, frames),
-        Kind::Map => map::put_map(book, procs, a.number),
-        Kind::Rule => answers::put_rule(setup, bss, a.third, a.fourth),
-        Kind::RuleNone => answers::put_rule(setup, segment::Bss::Unset, a.number, a.second),
-        Kind::Range => answers::put_yes(answer),
-        Kind::From => answers::put_copied(answer, bytes),
-        Kind::Text => answers::put_string(answer, bytes),
-        Kind::Name => answers::put_kept(bytes),
-        _ => answers::put_answer(answer),
-    };
-    written && put(b"\n")
+    match kind {
+        Kind::Nothing => return Ok(()),
+        Kind::Wrong(why) => put_why(out, why)?,
+        Kind::Sum => sums::put_sums(out, procs, book, frames)?,
+        Kind::Map => map::put_map(out, book, procs, a.number)?,
+        Kind::Rule => answers::put_rule(out, setup, bss, a.third, a.fourth)?,
+        Kind::RuleNone => answers::put_rule(out, setup, segment::Bss::Unset, a.number, a.second)?,
+        Kind::Range => answers::put_yes(out, answer)?,
+        Kind::From => answers::put_copied(out, answer, bytes)?,
+        Kind::Text => answers::put_string(out, answer, bytes)?,
+        Kind::Name => answers::put_kept(out, bytes)?,
+        _ => answers::put_answer(out, answer)?,
+    }
+    put(out, b"\n")
 }

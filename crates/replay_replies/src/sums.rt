@@ -1,6 +1,8 @@
 // CRC-32, as in gzip, of records, book and frames, summed in parts: from all ones, with all ones added to the last sum. Two programs
 // whose sums agree after each call hold the same memory.
 use crate::texts::put;
+use std::io;
+use std::io::Write;
 
 // The sum of nothing, and what is added to a sum at its end; and the polynomial.
 const ONES: u32 = 0xffff_ffff;
@@ -81,15 +83,19 @@ fn records_sum(sum: u32, procs: spec::Procs) -> u32 {
 }
 
 // Writes a name and a sum in eight hex digits.
-fn put_sum(name: &[u8], sum: u32) -> bool {
-    let mut digits = [0u8; 16];
-    let count = io::hex(sum as u64, 8, &mut digits);
-    put(name) && put(&digits[..count])
+fn put_sum<W: Write>(out: &mut W, name: &[u8], sum: u32) -> io::Result<()> {
+    put(out, name)?;
+    write!(out, "{sum:08x}")
 }
 
 // Writes the sums of all records, of book words and of the bytes of frames.
-pub(crate) fn put_sums(procs: spec::Procs, book: &[u64], frames: &[u8]) -> bool {
-    put_sum(b"records=", records_sum(ONES, procs) ^ ONES)
-        && put_sum(b" book=", words_sum(ONES, book) ^ ONES)
-        && put_sum(b" frames=", bytes_sum(ONES, frames) ^ ONES)
+pub(crate) fn put_sums<W: Write>(
+    out: &mut W,
+    procs: spec::Procs,
+    book: &[u64],
+    frames: &[u8],
+) -> io::Result<()> {
+    put_sum(out, b"records=", records_sum(ONES, procs) ^ ONES)?;
+    put_sum(out, b" book=", words_sum(ONES, book) ^ ONES)?;
+    put_sum(out, b" frames=", bytes_sum(ONES, frames) ^ ONES)
 }

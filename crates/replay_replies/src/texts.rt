@@ -1,16 +1,17 @@
-// Text on standard output: numbers and bytes. Each function that writes answers whether all of it was written; behind what was not,
-// nothing more is.
+// Text that is written: numbers and bytes. Each function that writes answers the error of a write that failed; behind that nothing more
+// is written.
+use std::io;
+use std::io::Write;
 
 // Writes text.
-pub(crate) fn put(text: &[u8]) -> bool {
-    io::write_all(libc::STDOUT_FILENO, text)
+pub(crate) fn put<W: Write>(out: &mut W, text: &[u8]) -> io::Result<()> {
+    out.write_all(text)
 }
 
 // Writes a name and a number in decimal.
-pub(crate) fn put_named(name: &[u8], n: u64) -> bool {
-    let mut digits = [0u8; 20];
-    let count = io::decimal(n, &mut digits);
-    put(name) && put(&digits[..count])
+pub(crate) fn put_named<W: Write>(out: &mut W, name: &[u8], n: u64) -> io::Result<()> {
+    put(out, name)?;
+    write!(out, "{n}")
 }
 
 // The last hex digit of a byte, in lower case.
@@ -21,12 +22,10 @@ fn glyph(b: u8) -> u8 {
 }
 
 // Writes a space and bytes: two hex digits each, or `-` for none.
-pub(crate) fn put_bytes(bytes: &[u8]) -> bool {
-    if !put(b" ") {
-        return false;
-    }
+pub(crate) fn put_bytes<W: Write>(out: &mut W, bytes: &[u8]) -> io::Result<()> {
+    put(out, b" ")?;
     if bytes.len() == 0 {
-        return put(b"-");
+        return put(out, b"-");
     }
     let mut text = [0u8; 4096];
     let mut n = 0;
@@ -38,11 +37,9 @@ pub(crate) fn put_bytes(bytes: &[u8]) -> bool {
         n += 1;
         i += 1;
         if n == 2048 {
-            if !put(&text) {
-                return false;
-            }
+            put(out, &text)?;
             n = 0;
         }
     }
-    put(replay_buffers::room::part(&text, 0, 2 * n))
+    put(out, replay_buffers::room::part(&text, 0, 2 * n))
 }

@@ -11,7 +11,7 @@ const BUFFER_MAX: u64 = 65536;
 
 // What a line asks for if its first word is `key` with so many words behind it, the first n of them numbers; or else `a`.
 fn form(a: Asked, line: &[u8], key: &[u8], min: usize, max: usize, kind: Kind, n: usize) -> Asked {
-    if check::same(words::word(line, 0), key) {
+    if words::word(line, 0) == key {
         let count = words::spaces(line);
         if (min <= count) & (count <= max) {
             return asked::plain(line, kind, n);
@@ -25,7 +25,7 @@ pub(crate) fn image(line: &[u8]) -> usize
     ensures { result ≤ 4 }
 {
     let front = room::part(words::word(line, 3), 0, 5);
-    if check::same(front, b"aout=") { 4 } else { 3 }
+    if front == b"aout=".as_slice() { 4 } else { 3 }
 }
 
 // The lines of a script: calls, rules by themselves, and what calls are handed and lent.
@@ -78,7 +78,7 @@ fn within(a: Asked, bytes: usize, words: usize) -> Asked {
 
 // What a line asks for by its first word and its numbers, of so many bytes of frames and words of book.
 pub(crate) fn asks(line: &[u8], bytes: usize, words: usize) -> Asked {
-    if (line.len() == 0) | check::same(room::part(line, 0, 1), b"#") {
+    if (line.len() == 0) | (room::part(line, 0, 1) == b"#".as_slice()) {
         return asked::with(Kind::Nothing, [0; 4]);
     }
     if asked::LINE_MAX < line.len() {

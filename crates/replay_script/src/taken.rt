@@ -3,6 +3,7 @@
 use crate::asked::{Asked, Kind};
 use crate::{asked, lines};
 use replay_buffers::{bytes, room, words};
+use std::rt::Files;
 
 // The space has places for a name, as much of it as a record keeps; for the bytes of arguments, as many as are over the limit of a
 // start or push; and for other bytes, with one more than a file may have, by which a longer one is seen to be one.
@@ -20,12 +21,12 @@ pub const ARGS: usize = ARG_BYTES / 8;
 pub type List = [u64; ARGS];
 
 // With the bytes that a word gives, put to place `at` of the space.
-fn take_at(space: &mut [u8], at: usize, word: &[u8], a: Asked) -> Asked {
+fn take_at(rt: &impl Files, space: &mut [u8], at: usize, word: &[u8], a: Asked) -> Asked {
     if asked::fails(a) {
         return a;
     }
     let end = std::num::wrapping_add_usize(at, asked::FILE_MAX + 1);
-    match bytes::take(room::lent(space, at, end), word) {
+    match bytes::take(rt, room::lent(space, at, end), word) {
         bytes::Taken::Not(why) => asked::wrong(why),
         bytes::Taken::Size(n) => {
             let mut next = a;
@@ -36,8 +37,8 @@ fn take_at(space: &mut [u8], at: usize, word: &[u8], a: Asked) -> Asked {
 }
 
 // With the name that word 2 gives: what follows its last `/`.
-fn name(space: &mut [u8], line: &[u8], a: Asked) -> Asked {
-    let mut next = take_at(space, 0, words::word(line, 2), a);
+fn name(rt: &impl Files, space: &mut [u8], line: &[u8], a: Asked) -> Asked {
+    let mut next = take_at(rt, space, 0, words::word(line, 2), a);
     let size = kstr::elem(room::part(space, 0, next.bytes)).len();
     let at = std::num::wrapping_sub_usize(next.bytes, size);
     next.name = room::least(room::shift(space, at, next.bytes), ARGS_AT);
@@ -45,17 +46,17 @@ fn name(space: &mut [u8], line: &[u8], a: Asked) -> Asked {
 }
 
 // Makes the first byte of arguments a NUL if the last has one. The answer then is that of a NUL, though what is cut off may have it.
-fn mark(space: &mut [u8], at: usize, end: usize) {
+fn mark(rt: &impl Files, space: &mut [u8], at: usize, end: usize) {
     if exec_args::has_nul(room::part(space, at, end)) {
-        bytes::take(room::lent(space, ARGS_AT, BYTES_AT), b"00");
+        bytes::take(rt, room::lent(space, ARGS_AT, BYTES_AT), b"00");
     }
 }
 
 // Adds an argument. One that there is no room for is cut, and those behind the last place belong to the last: there are too many or
 // too long ones then, and stay so.
-fn add(space: &mut [u8], list: &mut List, a: Asked, word: &[u8]) -> Asked {
-    let mut next = take_at(space, a.args, word, a);
-    mark(space, a.args, next.bytes);
+fn add(rt: &impl Files, space: &mut [u8], list: &mut List, a: Asked, word: &[u8]) -> Asked {
+    let mut next = take_at(rt, space, a.args, word, a);
+    mark(rt, space, a.args, next.bytes);
     let end = room::least(next.bytes, BYTES_AT);
     let size = std::num::wrapping_sub_usize(end, a.args) as u64;
     let i = room::least(a.count, ARGS - 1);
@@ -66,14 +67,21 @@ fn add(space: &mut [u8], list: &mut List, a: Asked, word: &[u8]) -> Asked {
 }
 
 // With the words behind word `last` as arguments.
-fn args(space: &mut [u8], list: &mut List, line: &[u8], last: usize, a: Asked) -> Asked {
+fn args(
+    rt: &impl Files,
+    space: &mut [u8],
+    list: &mut List,
+    line: &[u8],
+    last: usize,
+    a: Asked,
+) -> Asked {
     *list = [0u64; ARGS];
     let mut next = a;
     next.args = ARGS_AT;
     let mut at = words::next(line, words::place(line, last));
     let mut left = words::spaces(line);
     while last < left {
-        next = add(space, list, next, words::word_at(line, at));
+        next = add(rt, space, list, next, words::word_at(line, at));
         at = words::next(line, at);
         left -= 1;
     }
@@ -99,18 +107,18 @@ fn form(line: &[u8], a: Asked) -> Asked {
 }
 
 // start NUMBER NAME [aout=MAGIC] IMAGE [ARG ..]
-fn start(space: &mut [u8], list: &mut List, line: &[u8], a: Asked) -> Asked {
+fn start(rt: &impl Files, space: &mut [u8], list: &mut List, line: &[u8], a: Asked) -> Asked {
     let image = lines::image(line);
-    let named = form(line, name(space, line, a));
-    let b = args(space, list, line, image, named);
-    take_at(space, BYTES_AT, words::word(line, image), b)
+    let named = form(line, name(rt, space, line, a));
+    let b = args(rt, space, list, line, image, named);
+    take_at(rt, space, BYTES_AT, words::word(line, image), b)
 }
 
 // replace NUMBER NAME [aout=MAGIC] IMAGE ARGV
-fn replace(space: &mut [u8], line: &[u8], a: Asked) -> Asked {
+fn replace(rt: &impl Files, space: &mut [u8], line: &[u8], a: Asked) -> Asked {
     let image = lines::image(line);
-    let named = form(line, name(space, line, a));
-    let mut next = take_at(space, BYTES_AT, words::word(line, image), named);
+    let named = form(line, name(rt, space, line, a));
+    let mut next = take_at(rt, space, BYTES_AT, words::word(line, image), named);
     if asked::fails(next) {
         return next;
     }
@@ -141,8 +149,8 @@ fn triples(list: &mut List, line: &[u8], a: Asked) -> Asked {
 }
 
 // numbers BYTES: the lines of a file.
-fn numbers(space: &mut [u8], line: &[u8], a: Asked) -> Asked {
-    let b = take_at(space, BYTES_AT, words::word(line, 1), a);
+fn numbers(rt: &impl Files, space: &mut [u8], line: &[u8], a: Asked) -> Asked {
+    let b = take_at(rt, space, BYTES_AT, words::word(line, 1), a);
     if asked::fails(b) {
         return b;
     }
@@ -172,8 +180,8 @@ fn codes(line: &[u8], a: Asked) -> Asked {
 }
 
 // flags BYTES: the lines of a file.
-fn flags(space: &mut [u8], line: &[u8], a: Asked) -> Asked {
-    let mut b = take_at(space, BYTES_AT, words::word(line, 1), a);
+fn flags(rt: &impl Files, space: &mut [u8], line: &[u8], a: Asked) -> Asked {
+    let mut b = take_at(rt, space, BYTES_AT, words::word(line, 1), a);
     if asked::fails(b) {
         return b;
     }
@@ -188,15 +196,15 @@ fn flags(space: &mut [u8], line: &[u8], a: Asked) -> Asked {
 
 // range NUMBER ADDRESS LENGTH r|w: the fourth number is 1 for w.
 fn range(line: &[u8], a: Asked) -> Asked {
-    let write = check::same(words::word(line, 4), b"w");
+    let write = words::word(line, 4) == b"w".as_slice();
     let mut next = a;
     next.fourth = write as u64;
-    asked::limited(next, write | check::same(words::word(line, 4), b"r"))
+    asked::limited(next, write | (words::word(line, 4) == b"r".as_slice()))
 }
 
 // rule START END FREE ADDRESS, or rule none none FREE ADDRESS
 fn rule(line: &[u8]) -> Asked {
-    if check::same(words::word(line, 1), b"none") & check::same(words::word(line, 2), b"none") {
+    if (words::word(line, 1) == b"none".as_slice()) & (words::word(line, 2) == b"none".as_slice()) {
         let rest = room::part(line, words::place(line, 2), line.len());
         return asked::plain(rest, Kind::RuleNone, 2);
     }
@@ -204,19 +212,26 @@ fn rule(line: &[u8]) -> Asked {
 }
 
 // What a line asks for, of so many bytes of frames and words of book. Space and list get the bytes and lists that its words give.
-pub fn read(space: &mut [u8], list: &mut List, line: &[u8], bytes: usize, words: usize) -> Asked {
+pub fn read(
+    rt: &impl Files,
+    space: &mut [u8],
+    list: &mut List,
+    line: &[u8],
+    bytes: usize,
+    words: usize,
+) -> Asked {
     let a = lines::asks(line, bytes, words);
     let kind = a.kind;
     match kind {
-        Kind::Start => start(space, list, line, a),
-        Kind::Replace => replace(space, line, a),
-        Kind::Push => args(space, list, line, 3, a),
+        Kind::Start => start(rt, space, list, line, a),
+        Kind::Replace => replace(rt, space, line, a),
+        Kind::Push => args(rt, space, list, line, 3, a),
         Kind::ForkList => triples(list, line, a),
-        Kind::To => take_at(space, BYTES_AT, words::word(line, 3), a),
-        Kind::Name => take_at(space, BYTES_AT, words::word(line, 1), a),
-        Kind::NumbersFile => numbers(space, line, a),
+        Kind::To => take_at(rt, space, BYTES_AT, words::word(line, 3), a),
+        Kind::Name => take_at(rt, space, BYTES_AT, words::word(line, 1), a),
+        Kind::NumbersFile => numbers(rt, space, line, a),
         Kind::Flags => codes(line, a),
-        Kind::FlagsFile => flags(space, line, a),
+        Kind::FlagsFile => flags(rt, space, line, a),
         Kind::Range => range(line, a),
         Kind::Rule => rule(line),
         _ => a,
