@@ -4,8 +4,8 @@
   against.py DIR     as against.py ../../target/bin
 
 Where reading fails, a program writes nothing for what it had not read whole, and where writing fails, nothing behind that; one line on
-standard error says which of the two it was, and why. An input that fails half-way has a beginning that would be accepted by itself. No
-contract can say any of this, since a contract knows nothing of what the C library's read and write do.
+standard error says which of the two it was, and why, and the status is 1. An input that fails half-way has a beginning that would be
+accepted by itself. No contract can say any of this, since a contract knows nothing of what the C library's read and write do.
 """
 import contextlib
 import os
@@ -72,7 +72,8 @@ def hung_up(data):
 
 
 def run(command, read, write, folder=None, files=None):
-    """Standard error of a run with these descriptors, None for a closed one; with at most `files` bytes in a file that it writes."""
+    """Status and standard error of a run with these descriptors, None for a closed one; with at most `files` bytes in a file that it
+    writes."""
     def prepare():
         signal.signal(signal.SIGPIPE, signal.SIG_IGN)
         signal.signal(signal.SIGXFSZ, signal.SIG_IGN)
@@ -82,7 +83,7 @@ def run(command, read, write, folder=None, files=None):
             if given is None:
                 os.close(fd)
     done = subprocess.run(command, stdin=read, stdout=write, stderr=subprocess.PIPE, cwd=folder, preexec_fn=prepare, timeout=60)
-    return done.stderr
+    return done.returncode, done.stderr
 
 
 # ---- outputs; each gives a descriptor, or None, how many bytes a file may have, and what was written
@@ -120,10 +121,11 @@ def half_full():
     return into_file(5)
 
 
-FAILING_INPUTS = [(directory, b'Is a directory'), (closed, b'Bad file descriptor'), (for_writing, b'Bad file descriptor'),
-                  (silent_pipe, b'Resource temporarily unavailable'), (hung_up, b'Input/output error')]
-FAILING_OUTPUTS = [(full, b'No space left on device'), (unread_pipe, b'Broken pipe'), (shut, b'Bad file descriptor'),
-                   (half_full, b'File too large')]
+FAILING_INPUTS = [(directory, b'Is a directory (os error 21)'), (closed, b'Bad file descriptor (os error 9)'),
+                  (for_writing, b'Bad file descriptor (os error 9)'),
+                  (silent_pipe, b'Resource temporarily unavailable (os error 11)'), (hung_up, b'Input/output error (os error 5)')]
+FAILING_OUTPUTS = [(full, b'No space left on device (os error 28)'), (unread_pipe, b'Broken pipe (os error 32)'),
+                   (shut, b'Bad file descriptor (os error 9)'), (half_full, b'File too large (os error 27)')]
 
 
 def there(ways, *data):
@@ -149,8 +151,12 @@ class Tally:
             self.bad += 1
 
 
+NOTHING_SAID = 0, b''
+
+
 def line(name, part, why):
-    return b'%s: %s: %s\n' % (name.encode(), part, why)
+    """The status of a run that fails, and its line."""
+    return 1, b'%s: %s: %s\n' % (name.encode(), part, why)
 
 
 def failing_reads(tally, name, program, ways):
@@ -178,7 +184,7 @@ def whole_runs(tally, name, program):
         file.write(INPUTS[name])
         file.seek(0)
         said = run([program], file.fileno(), write)
-        tally.told(f'{name}: nothing fails', (bool(written()), said), (True, b''))
+        tally.told(f'{name}: nothing fails', (bool(written()), said), (True, NOTHING_SAID))
         return written()
 
 
@@ -194,9 +200,9 @@ def failing_cases(tally, program, ways):
             with into_file() as (write, _, written):
                 tally.told(f'{name}: {what}', (run([program], None, write, folder), written()), (said, lines))
         cases = pathlib.Path(folder, 'cases')
-        tried('no file', line(name, b'cases', b'No such file or directory'), b'')
+        tried('no file', line(name, b'cases', b'No such file or directory (os error 2)'), b'')
         cases.mkdir()
-        tried('a directory', line(name, b'cases', b'Is a directory'), b'')
+        tried('a directory', line(name, b'cases', b'Is a directory (os error 21)'), b'')
         cases.rmdir()
         for what, n in ('head', 3), ('name', 4 + whole[0] - 1), ('image', first - 1):
             cases.write_bytes(whole[:n])
@@ -204,7 +210,7 @@ def failing_cases(tally, program, ways):
         cases.write_bytes(whole[:first])
         with into_file() as (write, _, written):
             said, only = run([program], None, write, folder), written()
-        tally.told(f'{name}: one image', (said, listed.startswith(only) and len(only) > 0), (b'', True))
+        tally.told(f'{name}: one image', (said, listed.startswith(only) and len(only) > 0), (NOTHING_SAID, True))
         cases.write_bytes(whole[:first + 2])
         tried('cut in the second head', cut, only)
         long = bytes([1]) + (40000).to_bytes(3, 'little') + b'x'
