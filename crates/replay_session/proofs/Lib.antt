@@ -1,4 +1,3 @@
--- Laws of the list that numbers give, and the loan of its first segments.
+-- Laws of the list that numbers give.
 pub mod Filled
-pub mod Front
 pub mod Longer

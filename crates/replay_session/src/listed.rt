@@ -1,5 +1,4 @@
-// Fork with the list of segments that numbers give. The list is filled by value. The borrow checker covers no function that makes a
-// slice of structs, so `lend` does that and nothing else, and is proved by hand.
+// Fork with the list of segments that numbers give. The list is filled by value, and `lend` lends the first of its segments.
 ghost use Rattle.std.specs.Prelude.{◌≡◌, ◌++◌, ◌+◌, ◌*◌, ◌≤◌, ◌<◌, length, take, drop};
 ghost use Rattle.spec.specs.Machine.{fork, plainly, call};
 ghost use Rattle.spec.specs.World.{Does, state_of};
