@@ -5,7 +5,7 @@
 
 ghost use Rattle.std.specs.Prelude.{◌≤◌, length};
 
-use std::io::{Eprint, Error, Read};
+use std::io::{Error, Read};
 
 // How many bytes were read, and why a read failed behind them, if one did.
 #[derive(Clone, Copy)]
@@ -42,9 +42,4 @@ pub fn read<R: Read>(file: &mut R, dst: &mut [u8]) -> Got
         count: n,
         failed: None,
     }
-}
-
-// Says on standard error which reading or writing failed, and why.
-pub fn tell(rt: &impl Eprint, what: &str, why: Error) {
-    let _ = eprintln!(rt; "{what}: {why}");
 }

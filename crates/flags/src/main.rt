@@ -11,14 +11,14 @@ fn main(rt: HostRuntime) -> ExitCode {
     let mut bytes = [0u8; 4097];
     let got = files::read(&mut rt.stdin(), &mut bytes);
     if let Some(why) = got.failed {
-        files::tell(&rt, "flags: standard input", why);
+        let _ = eprintln!(rt; "flags: standard input: {why}");
         return ExitCode::FAILURE;
     }
     let n = got.count;
     let mut out = [0u8; 96];
     let k = setup_flags::table_into(&bytes[..n], &mut out);
     if let Err(why) = rt.write_all(&out[..k]) {
-        files::tell(&rt, "flags: standard output", why);
+        let _ = eprintln!(rt; "flags: standard output: {why}");
         return ExitCode::FAILURE;
     }
     ExitCode::SUCCESS

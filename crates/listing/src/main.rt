@@ -12,14 +12,14 @@ fn main(rt: HostRuntime) -> ExitCode {
     let mut image = [0u8; 32769];
     let got = files::read(&mut rt.stdin(), &mut image);
     if let Some(why) = got.failed {
-        files::tell(&rt, "listing: standard input", why);
+        let _ = eprintln!(rt; "listing: standard input: {why}");
         return ExitCode::FAILURE;
     }
     let n = got.count;
     let mut out = [0u8; 1024];
     let k = listing_lines::list_into(&image[..n], &mut out);
     if let Err(why) = rt.write_all(&out[..k]) {
-        files::tell(&rt, "listing: standard output", why);
+        let _ = eprintln!(rt; "listing: standard output: {why}");
         return ExitCode::FAILURE;
     }
     ExitCode::SUCCESS

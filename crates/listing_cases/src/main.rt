@@ -47,7 +47,7 @@ fn read<R: Read>(file: &mut R, buf: &mut [u8], n: usize) -> Got
 // Whether n bytes could not be read; then a line on standard error says why.
 fn lacks(rt: &impl Eprint, got: Got, n: usize) -> bool {
     if let Some(why) = got.failed {
-        files::tell(rt, "listing_cases: cases", why);
+        let _ = eprintln!(rt; "listing_cases: cases: {why}");
         return true;
     }
     if got.count < n {
@@ -75,7 +75,7 @@ fn skip<R: Read>(rt: &impl Eprint, file: &mut R, n: usize) -> bool {
 // Writes text, and answers whether it was written; if not, a line on standard error says why.
 fn put(rt: &(impl Print + Eprint), text: &[u8]) -> bool {
     if let Err(why) = rt.write_all(text) {
-        files::tell(rt, "listing_cases: standard output", why);
+        let _ = eprintln!(rt; "listing_cases: standard output: {why}");
         return false;
     }
     true
@@ -127,7 +127,7 @@ fn main(rt: HostRuntime) -> ExitCode {
     let mut file = match fs::open(&rt, "cases") {
         Ok(file) => file,
         Err(why) => {
-            files::tell(&rt, "listing_cases: cases", why);
+            let _ = eprintln!(rt; "listing_cases: cases: {why}");
             return ExitCode::FAILURE;
         }
     };

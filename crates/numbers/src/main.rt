@@ -12,14 +12,14 @@ fn main(rt: HostRuntime) -> ExitCode {
     let mut bytes = [0u8; 4097];
     let got = files::read(&mut rt.stdin(), &mut bytes);
     if let Some(why) = got.failed {
-        files::tell(&rt, "numbers: standard input", why);
+        let _ = eprintln!(rt; "numbers: standard input: {why}");
         return ExitCode::FAILURE;
     }
     let n = got.count;
     let mut out = [0u8; 174];
     let k = setup::numbers_into(&bytes[..n], &mut out);
     if let Err(why) = rt.write_all(&out[..k]) {
-        files::tell(&rt, "numbers: standard output", why);
+        let _ = eprintln!(rt; "numbers: standard output: {why}");
         return ExitCode::FAILURE;
     }
     ExitCode::SUCCESS

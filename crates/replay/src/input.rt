@@ -38,7 +38,7 @@ pub(crate) fn read<R: Read>(
             next.ended = more == 0;
         }
         Err(why) => {
-            files::tell(rt, "replay: standard input", why);
+            let _ = eprintln!(rt; "replay: standard input: {why}");
             next.end = kept;
             next.ended = true;
             next.failed = true;

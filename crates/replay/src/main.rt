@@ -97,7 +97,7 @@ fn turn<R: Read, W: Write>(
         answer,
     );
     if let Err(why) = written {
-        files::tell(rt, "replay: standard output", why);
+        let _ = eprintln!(rt; "replay: standard output: {why}");
         next.failed = true;
     }
     next
