@@ -2,7 +2,7 @@
  * Holthrimi, the exec layer of the r9 kernel, as a C library: it checks an executable, a static aarch64 ELF or a Plan 9 a.out, loads it
  * into lent frames with a page book, starts, replaces, forks and ends processes, moves their break, and copies to and from their memory.
  *
- *     rt staticlib holthrimi        proves and writes target/staticlib/libholthrimi.a (x86-64)
+ *     tools/build holthrimi         proves and writes target/staticlib/libholthrimi.a (x86-64)
  *     cc program.c -Iinclude target/staticlib/libholthrimi.a
  *
  * Every function here is proved: what it leaves and tells is what the definitions in crates/spec/specs say, refusals too, whatever
