@@ -11,7 +11,7 @@ use native.Mathlib.Omega.{arith}
 use lib.ListN.{length, get_or, length-append}
 use lib.Seq.{drop-append-add, get_or-append_seam}
 use borrow.Author.Tests.{ltb-true, ltb-false, lt-ltb, ne_eqb}
-use Rattle.spec.specs.Tests.{◌is◌, ◌below◌, within, all, ascii}
+use Rattle.spec.specs.Tests.{◌below◌, within, all, ascii}
 use Rattle.spec.specs.Listing.{decimal_of, decimal}
 use Rattle.spec.specs.Flags.{built_in}
 use Rattle.spec.specs.Numbers.{setup_ok, setup_error}

@@ -8,7 +8,7 @@ use mathlib.Core.List.{List, [], ◌∷◌}
 use lib.Dec.{leb}
 use lib.ListN.{length, get_or}
 use borrow.Author.Tests.{leb-true, leb-false, ne_eqb}
-use Rattle.spec.specs.Tests.{◌is◌, all}
+use Rattle.spec.specs.Tests.{all}
 use Rattle.spec.specs.Numbers.{max_top, SetupOk}
 use Rattle.spec.specs.Book.{same_segment, zero_segment, unused, lives, stack}
 use Rattle.spec.specs.Sound.{bss_ok}

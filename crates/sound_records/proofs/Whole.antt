@@ -3,23 +3,19 @@ use Prim.Native.Nat.{ℕ, zero, suc, ◌+◌, ◌-◌, ◌<◌}
 use native.Mathlib.Omega.{arith}
 use native.Mathlib.Nat.{not-suc-le-zero, le_of_suc-le-suc}
 use mathlib.Core.Path.{◌≡◌, refl, ap, ◌∙◌}
-use mathlib.Core.List.{List, [], ◌∷◌, map}
+use mathlib.Core.List.{List, [], ◌∷◌}
 use lib.ListN.{length, get_or, get_or-eq_default}
 use lib.Dec.{ltb}
-use borrow.Author.Rules.{length_unmapped}
 use borrow.Author.Tests.{ltb-true, ltb-false}
 use mir.Val.{Val}
 use denote.Array.{each}
 use denote.Shadow.{shadow}
 use Rattle.spec.specs.Book.{range, zero_proc, proc_at}
-use Rattle.spec.specs.declared.UserSegment.{UserSegment}
 use Rattle.spec.specs.declared.Proc.{Proc}
 use Rattle.spec.specs.declared.Procs.{Procs}
 use Rattle.spec.proofs.Bools.{split}
 use Rattle.spec.specs.contracts.Proc as P
-use Rattle.spec.specs.contracts.UserSegment as S
 use Rattle.spec_laws.proofs.Record.{WholeProc, Whole, zero-whole}
-use Rattle.sound_records.proofs.Walk.{length-mapped}
 
 -- what stands past the end of an array of records, as the logic has it
 abbrev pub no_proc : Proc

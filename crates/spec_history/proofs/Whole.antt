@@ -6,7 +6,7 @@ use mathlib.Core.List.{List, [], ◌∷◌, map}
 use lib.Dec.{eqb}
 use lib.ListN.{length}
 use borrow.Author.Tests.{eqb-true, eqb-false}
-use Rattle.spec.specs.Tests.{◌is◌, ◌⇒◌else◌, same}
+use Rattle.spec.specs.Tests.{◌is◌, ◌⇒◌else◌}
 use Rattle.spec.specs.Numbers.{page_up}
 use Rattle.spec.specs.Book.{valid, free, pieces, perm_at, proc_at}
 use Rattle.spec.specs.Machine.{Ask, start, replace, push, break, fork, end, user-range-ok, copy-from-user, copy-to-user, try-copy-str-from-user, Call, Kind, begins, forks, plain, kind, Outcome, accepted, refused, ended, Reply, outcome, Machine, off, moved_to, run, feed, judge, lengths_fit, living}

@@ -10,7 +10,7 @@ use borrow.Author.Tests.{eqb-true, ltb-true, eq-eqb, lt-ltb, le-ltb}
 use Rattle.spec.proofs.Bools.{split, clash, both, not-below, living-ok, dead-ok}
 use Rattle.spec.specs.Tests.{◌is◌, ◌below◌, ◌above◌, all}
 use Rattle.spec.specs.Numbers.{limit, page_up}
-use Rattle.spec.specs.Book.{range, same_segment, zero_segment, unused, used, stack}
+use Rattle.spec.specs.Book.{same_segment, zero_segment, unused, used, stack}
 use Rattle.spec.specs.Sound.{bss_ok, segments_ok, ImageSegment, Shape}
 use Rattle.spec.specs.declared.VirtRange.{VirtRange}
 use Rattle.spec.specs.declared.UserSegment.{UserSegment}

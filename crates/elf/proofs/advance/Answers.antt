@@ -4,7 +4,6 @@ use mathlib.Core.Path.{sym, ap, ◌∙◌}
 use mathlib.Core.List.{[]}
 use native.Mathlib.Omega.{arith}
 use lib.ListN.{length}
-use borrow.Author.Tests.{not-true, not-false}
 use Rattle.spec.specs.Elf.{error_number}
 use Rattle.elf_header.specs.Header.{verdict_number}
 use Rattle.elf_header.specs.Phdr.{phdr_of}
@@ -25,7 +24,7 @@ passed c =
 pub returns-then-not-is_load : goal.returns-then-not-is_load
 returns-then-not-is_load c ps =
     let a = c.args in
-    skips a.flags a.image.now a.entry a.seen.end a.seen.found (phdr_of a.p) ps (sym c.is_load.ensures ∙ not-true _ c.if-not-is_load.true-raw)
+    skips a.flags a.image.now a.entry a.seen.end a.seen.found (phdr_of a.p) ps (sym c.is_load.ensures ∙ c.if-not-is_load.true)
 
 pub overflow_add-p : goal.overflow_add-p
 overflow_add-p c = let f = passed (goal.at.overflow_add-p c).In-Fine in omega arith
@@ -40,7 +39,7 @@ pub returns-in-Refused : goal.returns-in-Refused
 returns-in-Refused c ps =
     let a = c.args in
     refuses a.flags a.image.now a.entry a.seen.end a.seen.found (phdr_of a.p) ps (error_number c.in-Refused.e)
-    (sym c.is_load.ensures ∙ not-false _ c.if-not-is_load.false-raw)
+    (sym c.is_load.ensures ∙ c.if-not-is_load.false)
     (sym c.judge_phdr-v.ensures ∙ ap verdict_number c.in-Refused.is)
     (not-zero c.in-Refused.e)
 
@@ -49,5 +48,5 @@ returns-in-Fine c ps =
     let a = c.args in
     rw (c.in_text.ensures, c.page_up.ensures)
     (goes_on a.flags a.image.now a.entry a.seen.end a.seen.found (phdr_of a.p) ps
-    (sym c.is_load.ensures ∙ not-false _ c.if-not-is_load.false-raw)
+    (sym c.is_load.ensures ∙ c.if-not-is_load.false)
     (sym c.judge_phdr-v.ensures ∙ ap verdict_number c.in-Fine.is))

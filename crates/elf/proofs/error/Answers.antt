@@ -1,7 +1,6 @@
 -- `elf::error` meets its contract: it says what the checks of the whole image come to.
 -- Assumes nothing.
 use mathlib.Core.Path.{◌≡◌, sym, ap, ◌∙◌}
-use borrow.Author.Tests.{not-true, not-false}
 use Rattle.spec.specs.Elf.{elf_error}
 use Rattle.elf_header.specs.Header.{verdict_number}
 use Rattle.elf.specs.Reader.{image_error}
@@ -14,7 +13,7 @@ number : (c : After-judge-v) → let a = c.args in verdict_number c.judge-v.resu
 number c =
     let a = c.args in
     c.judge-v.ensures ∙ ap (image_error a.flags a.image.now) c.read_ehdr.ensures
-    ∙ by-fields a.flags a.image.now c.if-image-lt-EHDR_SIZE.false (sym c.has_magic.ensures ∙ not-false _ c.if-not-has_magic.false-raw)
+    ∙ by-fields a.flags a.image.now c.if-image-lt-EHDR_SIZE.false (sym c.has_magic.ensures ∙ c.if-not-has_magic.false)
 
 pub returns-then-image-lt-EHDR_SIZE : goal.returns-then-image-lt-EHDR_SIZE
 returns-then-image-lt-EHDR_SIZE c = let a = c.args in c.error_number.ensures ∙ truncated a.flags a.image.now c.if-image-lt-EHDR_SIZE.true
@@ -22,7 +21,7 @@ returns-then-image-lt-EHDR_SIZE c = let a = c.args in c.error_number.ensures ∙
 pub returns-then-not-has_magic : goal.returns-then-not-has_magic
 returns-then-not-has_magic c =
     let a = c.args in
-    c.error_number-then-not-has_magic.ensures ∙ bad-magic a.flags a.image.now c.if-image-lt-EHDR_SIZE.false (sym c.has_magic.ensures ∙ not-true _ c.if-not-has_magic.true-raw)
+    c.error_number-then-not-has_magic.ensures ∙ bad-magic a.flags a.image.now c.if-image-lt-EHDR_SIZE.false (sym c.has_magic.ensures ∙ c.if-not-has_magic.true)
 
 pub returns-in-Refused : goal.returns-in-Refused
 returns-in-Refused c = c.error_number-in-Refused.ensures ∙ sym (ap verdict_number c.in-Refused.is) ∙ number (goal.at.returns-in-Refused c).After-judge-v

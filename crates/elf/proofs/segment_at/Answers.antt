@@ -4,7 +4,6 @@ use mathlib.Core.Path.{◌≡◌, sym, ap, ◌∙◌}
 use mathlib.Core.Bool.{true, false}
 use mathlib.Core.List.{List}
 use Prim.Native.Nat.{ℕ}
-use borrow.Author.Tests.{not-true, not-false}
 use Rattle.spec.specs.Elf.{Phdr, loads, flag_perm}
 use Rattle.elf_header.specs.Phdr.{phdr_of}
 use Rattle.elf.specs.Reader.{load_of}
@@ -22,10 +21,10 @@ pub returns-then-not-is_load : goal.returns-then-not-is_load
 returns-then-not-is_load c =
     let flags = c.args.flags in
     let p = phdr_of c.read_phdr-p.result in
-    skipped flags p (sym c.is_load.ensures ∙ not-true _ c.if-not-is_load.true-raw) ∙ ap (load_of flags) c.read_phdr-p.ensures
+    skipped flags p (sym c.is_load.ensures ∙ c.if-not-is_load.true) ∙ ap (load_of flags) c.read_phdr-p.ensures
 
 pub returns : goal.returns
 returns c =
     let flags = c.args.flags in
     let p = phdr_of c.read_phdr-p.result in
-    taken flags p c.perm-perm.result (sym c.is_load.ensures ∙ not-false _ c.if-not-is_load.false-raw) c.perm-perm.ensures ∙ ap (load_of flags) c.read_phdr-p.ensures
+    taken flags p c.perm-perm.result (sym c.is_load.ensures ∙ c.if-not-is_load.false) c.perm-perm.ensures ∙ ap (load_of flags) c.read_phdr-p.ensures

@@ -1,6 +1,5 @@
 -- `kstr::after_slash` meets its contract. The loop's invariant: no `/` stands at `i` or after it.
 use mathlib.Core.Path.{◌≡◌}
-use mathlib.Core.Bool.{false}
 use native.Mathlib.Omega.{arith}
 use Rattle.kstr.proofs.Names.{elem-whole, elem-after, has-none, has-less}
 use Rattle.kstr.proofs.after_slash.Goals as goal

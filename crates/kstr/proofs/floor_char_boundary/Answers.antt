@@ -2,20 +2,19 @@
 use mathlib.Core.Path.{◌≡◌, sym, ap, ◌∙◌}
 use native.Mathlib.Omega.{arith}
 use Rattle.spec.specs.Name.{cut}
-use Rattle.spec.proofs.Bools.{not-true, un_not}
 use Rattle.kstr.proofs.Names.{cut-here, cut-less}
 use Rattle.kstr.proofs.floor_char_boundary.Goals as goal
 
 pub returns-then-not-continues : goal.returns-then-not-continues
 returns-then-not-continues c =
     let s = c.args.s.now in
-    let l = c.loop-n in record { value = cut-here s l.n (omega arith) (sym c.continues.ensures ∙ not-true c.continues.result c.if-not-continues.true-raw) ∙ sym l.invariant.1; upper_bound = omega arith }
+    let l = c.loop-n in record { value = cut-here s l.n (omega arith) (sym c.continues.ensures ∙ c.if-not-continues.true) ∙ sym l.invariant.1; upper_bound = omega arith }
 
 pub loop-n-preserved : goal.loop-n-preserved
 loop-n-preserved c =
     let s = c.args.s.now in
     let l = c.loop-n in
-    (omega arith, l.invariant.1 ∙ cut-less s l.n (omega arith) (sym c.continues.ensures ∙ un_not c.continues.result c.if-not-continues.false-raw))
+    (omega arith, l.invariant.1 ∙ cut-less s l.n (omega arith) (sym c.continues.ensures ∙ c.if-not-continues.false))
 
 pub returns : goal.returns
 returns c =

@@ -1,6 +1,5 @@
 -- `kstr::put` meets its contract. The loop's invariant: the first `i` bytes of `s` are in place.
 use mathlib.Core.Path.{◌≡◌, ◌∙◌}
-use Prim.Native.Nat.{◌-◌}
 use native.Mathlib.Omega.{arith}
 use native.Mathlib.Numerals.{add-one}
 use lib.ListN.{length, length-set}

@@ -3,7 +3,6 @@ use Prim.Native.Nat.{◌+◌, ◌-◌, ◌≤◌}
 use native.Mathlib.Omega.{arith}
 use mathlib.Core.Path.{◌≡◌, sym, ◌∙◌}
 use mathlib.Core.Bool.{true, false≢true}
-use borrow.Author.Tests.{not-true, not-false}
 use Rattle.spec.specs.Tests.{all}
 use Rattle.spec.specs.Book.{zero_proc, proc_at}
 use Rattle.spec.proofs.Bools.{all-at}
@@ -22,11 +21,11 @@ whole c = let g = c.well_formed.1.1.0.1.1.0 in whole-procs c.args.procs g.0 g.1.
 
 -- past the first test the records pass
 pass : (c : Else-not-records_ok) → all (passes c.args.setup) c.args.procs.all ≡ true
-pass c = sym c.records_ok.ensures ∙ not-false _ c.if-not-records_ok.false-raw
+pass c = sym c.records_ok.ensures ∙ c.if-not-records_ok.false
 
 pub returns-then-not-records_ok : goal.returns-then-not-records_ok
 returns-then-not-records_ok c =
-    record { value = sound-exact c.args.setup c.requires.setup_ok _ _ (whole (goal.at.returns-then-not-records_ok c).Start) _ (λ e. absurd (false≢true e), λ s. sym (not-true _ c.if-not-records_ok.true-raw) ∙ c.records_ok.ensures ∙ records-of _ _ (whole (goal.at.returns-then-not-records_ok c).Start) s); filled = λ e. absurd (false≢true e) }
+    record { value = sound-exact c.args.setup c.requires.setup_ok _ _ (whole (goal.at.returns-then-not-records_ok c).Start) _ (λ e. absurd (false≢true e), λ s. sym c.if-not-records_ok.true ∙ c.records_ok.ensures ∙ records-of _ _ (whole (goal.at.returns-then-not-records_ok c).Start) s); filled = λ e. absurd (false≢true e) }
 
 pub lay_all-total-requires : goal.lay_all-total-requires
 lay_all-total-requires c =

@@ -3,7 +3,7 @@ use Prim.Native.Nat.{ℕ}
 use native.Mathlib.Omega.{arith}
 use mathlib.Core.Path.{◌≡◌, refl, sym, ◌∙◌}
 use mathlib.Core.Bool.{false}
-use borrow.Author.Tests.{not-false, le-ltb}
+use borrow.Author.Tests.{le-ltb}
 use Rattle.spec.proofs.Chain.{here, past, not-holds, not-fails, number-first, number-next}
 use Rattle.spec.proofs.Setups.{setup-means, setup-numbers}
 use Rattle.spec.specs.Numbers.{setup_error}
@@ -30,4 +30,4 @@ returns-then-not-is_sound c =
 
 pub returns : goal.returns
 returns c =
-    record { value = number-next _ _ _ 0 c.setup_error-e.ensures c.if-e-ne0.false (past _ 2 0 0 (not-fails _ _ c.is_sound.ensures.value c.if-not-is_sound.false-raw) refl); leaves = left-filled 0 refl (c.is_sound.ensures.filled (not-false _ c.if-not-is_sound.false-raw)) }
+    record { value = number-next _ _ _ 0 c.setup_error-e.ensures c.if-e-ne0.false (past _ 2 0 0 (not-fails _ _ c.is_sound.ensures.value c.if-not-is_sound.false-raw) refl); leaves = left-filled 0 refl (c.is_sound.ensures.filled c.if-not-is_sound.false) }

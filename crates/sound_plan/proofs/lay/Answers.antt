@@ -1,5 +1,4 @@
 -- `lay` meets its contract: the first j parts are laid.
-use Prim.Native.Nat.{◌-◌}
 use native.Mathlib.Omega.{arith}
 use mathlib.Core.Path.{◌∙◌}
 use Rattle.sound_plan.specs.Plan.{Small}

@@ -1,5 +1,5 @@
 -- `lay_all` meets its contract: the parts of the first n processes are laid.
-use Prim.Native.Nat.{◌-◌, ◌<◌}
+use Prim.Native.Nat.{◌<◌}
 use native.Mathlib.Omega.{arith}
 use lib.ListN.{length}
 use Rattle.sound_records.proofs.Whole.{proc-is, whole-procs}

@@ -1,9 +1,7 @@
 -- `is_shaped` meets its contract: what is left to test is the places from i on, with `low` where the place before ended.
-use Prim.Native.Nat.{◌-◌}
 use native.Mathlib.Omega.{arith}
 use mathlib.Core.Path.{refl, sym, ◌∙◌}
 use borrow.Author.Rules.{rules}
-use borrow.Author.Tests.{not-true, not-false}
 use Rattle.sound_records.proofs.Walk.{shaped-stack, shaped-stop, shaped-go, shaped-end, length-mapped}
 use Rattle.sound_records.proofs.is_shaped.Goals as goal
 
@@ -22,7 +20,7 @@ returns-then-not-image_ok c =
     let p = c.args.p in
     let setup = c.args.setup in
     sym (c.loop-i.invariant.2 ∙ shaped-stop setup c.loop-i.low p.bss p.segments c.loop-i.i (omega arith) (sym c.is_stack.ensures ∙ c.if-is_stack.false)
-    (sym c.image_ok.ensures ∙ not-true _ c.if-not-image_ok.true-raw))
+    (sym c.image_ok.ensures ∙ c.if-not-image_ok.true))
 
 pub loop-i-preserved : goal.loop-i-preserved
 loop-i-preserved c =
@@ -30,7 +28,7 @@ loop-i-preserved c =
       search rules,
       search rules,
       c.loop-i.invariant.2 ∙ shaped-go c.args.setup c.loop-i.low p.bss p.segments c.loop-i.i (omega arith) (sym c.is_stack.ensures ∙ c.if-is_stack.false)
-          (sym c.image_ok.ensures ∙ not-false _ c.if-not-image_ok.false-raw),
+          (sym c.image_ok.ensures ∙ c.if-not-image_ok.false),
     )
 
 pub returns : goal.returns

@@ -1,5 +1,4 @@
 -- `no_name` meets its contract: what is left to test is the bytes from i on.
-use Prim.Native.Nat.{◌-◌}
 use native.Mathlib.Omega.{arith}
 use mathlib.Core.Path.{sym, ◌∙◌}
 use borrow.Author.Rules.{rules}

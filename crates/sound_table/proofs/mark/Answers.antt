@@ -3,7 +3,6 @@ use Prim.Native.Nat.{ℕ, ◌+◌, ◌≤◌}
 use native.Mathlib.Omega.{arith}
 use mathlib.Core.Path.{sym, ap₂, subst}
 use lib.ListN.{get_or, length-replicate}
-use borrow.Author.Tests.{not-true, not-false}
 use Rattle.sound_table.proofs.Bits.{bits_none}
 use Rattle.sound_table.proofs.Pass.{noted-none}
 use Rattle.sound_table.proofs.Counting.{inside, few-all}
@@ -28,14 +27,14 @@ mark_all-requires c =
     (c.requires.0, c.requires.1, noted-none _ _ _ _ _ _ _ bits_none c.requires.2 in-plan (omega arith) (length-replicate {A = ℕ} 256 0) c.requires.3)
 
 pub returns-then-not-mark_all : goal.returns-then-not-mark_all
-returns-then-not-mark_all c = marked-no _ _ _ _ _ (λ p all full. c.mark_all.ensures.no (not-true _ c.if-not-mark_all.true-raw) p all)
+returns-then-not-mark_all c = marked-no _ _ _ _ _ (λ p all full. c.mark_all.ensures.no c.if-not-mark_all.true p all)
 
 pub all_marked-requires : goal.all_marked-requires
 all_marked-requires c = c.requires.1.most
 
 pub returns : goal.returns
 returns c =
-    let y = c.mark_all.ensures.yes (not-false _ c.if-not-mark_all.false-raw) in
+    let y = c.mark_all.ensures.yes c.if-not-mark_all.false in
     let own = c.first_of-own in
     let pages = c.count_of-pages in
     marked_all _ _ _ _ _ _ y.0 (noted_of _ _ _ _ _ _ _ _ _ own.ensures pages.ensures y.1) y.2 _ c.all_marked.ensures

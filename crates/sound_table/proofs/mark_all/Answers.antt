@@ -5,7 +5,6 @@ use mathlib.Core.Path.{◌≡◌, refl, sym}
 use lib.ListN.{length-replicate}
 use mathlib.Core.Bool.{false≢true}
 use Rattle.spec.specs.Book.{frame_count}
-use Rattle.spec.proofs.Bools.{not-true, un_not}
 use Rattle.sound_table.proofs.Pass.{planned-none}
 use Rattle.sound_table.proofs.Words.{hints-none}
 use Rattle.sound_table.proofs.mark_all.Goals as goal
@@ -40,7 +39,7 @@ mark_block-requires c =
     record { count_bound = (b.ensures.0, few _ _ _ _ l.invariant.0 b.ensures.1 (frames-few _ c.requires.0), within _ _ _ l.invariant.0 b.ensures.1, c.requires.1, l.invariant.5, c.singles-last.ensures.2); planned = (l.invariant.2, l.invariant.3, l.invariant.4) }
 
 pub returns-then-not-mark_block : goal.returns-then-not-mark_block
-returns-then-not-mark_block c = record { yes = λ e. absurd (false≢true e); no = λ e p all. c.mark_block.ensures.passed.no (not-true _ c.if-not-mark_block.true-raw) p all }
+returns-then-not-mark_block c = record { yes = λ e. absurd (false≢true e); no = λ e p all. c.mark_block.ensures.passed.no c.if-not-mark_block.true p all }
 
 pub loop-k-smaller : goal.loop-k-smaller
 loop-k-smaller c =
@@ -53,7 +52,7 @@ loop-k-preserved c =
     let s = c.singles-last in
     let b = c.block-count in
     let l = c.loop-k in
-    let r = un_not _ c.if-not-mark_block.false-raw in
+    let r = c.if-not-mark_block.false in
     let y = m.ensures.passed.yes r in
     (within _ _ _ l.invariant.0 b.ensures.1, refl, y.0, y.1, y.2, m.ensures.hints, s.ensures.1, s.ensures.0)
 

@@ -1,10 +1,9 @@
 -- `mark_block` meets its contract.
-use Prim.Native.Nat.{ℕ, ◌+◌, ◌*◌, ◌-◌, ◌≤◌, ◌<◌}
+use Prim.Native.Nat.{ℕ, ◌+◌, ◌*◌, ◌≤◌, ◌<◌}
 use native.Mathlib.Omega.{arith}
 use mathlib.Core.Path.{◌≡◌, sym}
 use borrow.Author.Count.{below_more}
 use mathlib.Core.Bool.{false≢true}
-use Rattle.spec.proofs.Bools.{not-true, un_not}
 use Rattle.sound_table.specs.Table.{Framed}
 use Rattle.sound_table.proofs.mark_block.Goals as goal
 
@@ -33,13 +32,13 @@ mark_row-requires c =
 pub returns-then-not-mark_row : goal.returns-then-not-mark_row
 returns-then-not-mark_row c =
     let m = c.mark_row in
-    record { passed = record { yes = λ e. absurd (false≢true e); no = λ e p all. m.ensures.passes.no (not-true _ c.if-not-mark_row.true-raw) p all }; hints = m.ensures.hints }
+    record { passed = record { yes = λ e. absurd (false≢true e); no = λ e p all. m.ensures.passes.no c.if-not-mark_row.true p all }; hints = m.ensures.hints }
 
 pub loop-i-preserved : goal.loop-i-preserved
 loop-i-preserved c =
     let m = c.mark_row in
     let l = c.loop-i in
-    let r = un_not _ c.if-not-mark_row.false-raw in
+    let r = c.if-not-mark_row.false in
     let y = m.ensures.passes.yes r in
     let z = turn c.args.from l.i in
     let n = next c.args.from l.i in

@@ -3,7 +3,6 @@ use Prim.Native.Nat.{ℕ, ◌+◌, ◌*◌, ◌-◌}
 use native.Mathlib.Omega.{arith}
 use mathlib.Core.Path.{◌≡◌, refl, sym, ap, ◌∙◌}
 use lib.ListN.{get_or}
-use borrow.Author.Tests.{not-true, not-false}
 use Rattle.spec.specs.Book.{owner_of, perm_of}
 use Rattle.sound_table.proofs.RowPass.{row-start, word-is, pass-free, pass-more, pass-whole, fail-owner, fail-base, fail-data, fail-entered}
 use Rattle.sound_table.proofs.mark_frame.Goals as goal
@@ -58,7 +57,7 @@ returns-then-not-mark_word c =
     let l = c.loop-i in
     let b = c.args.book.now in
     let k = c.args.k in
-    record { passes = fail-entered b _ _ c.args.own c.args.pages k c.requires.k_bound.2 l.bits l.table l.i l.base l.seen (omega arith) l.invariant.2 _ (word-is b k l.i) (omega arith) c.if-w-ne0.true _ _ _ (not-true _ c.if-not-mark_word.true-raw) c.mark_word.ensures.entered; hints = c.mark_word.ensures.hints }
+    record { passes = fail-entered b _ _ c.args.own c.args.pages k c.requires.k_bound.2 l.bits l.table l.i l.base l.seen (omega arith) l.invariant.2 _ (word-is b k l.i) (omega arith) c.if-w-ne0.true _ _ _ c.if-not-mark_word.true c.mark_word.ensures.entered; hints = c.mark_word.ensures.hints }
 
 pub loop-i-preserved-else-not-mark_word : goal.loop-i-preserved-else-not-mark_word
 loop-i-preserved-else-not-mark_word c =
@@ -69,7 +68,7 @@ loop-i-preserved-else-not-mark_word c =
       refl,
       rw (base-is (goal.at.loop-i-preserved-else-not-mark_word c).After-unowned-b) (pass-more b _ _ c.args.own c.args.pages k c.requires.k_bound.2 l.bits l.table l.i l.base l.seen (omega arith) l.invariant.2 _ (word-is b k l.i) c.if-w-ne0.true (owner-is (goal.at.loop-i-preserved-else-not-mark_word c).After-unowned-b)
           (λ ne. elim c.if-seen-ne0.branch [ then-seen-ne0+else-b-base+else-perm_of-eq-DATA w ↦ (sym (base-is (goal.at.loop-i-preserved-else-not-mark_word c).After-unowned-b) ∙ w.if-b-base.false, λ z. w.if-perm_of-eq-DATA.false (w.perm_of.ensures ∙ ap perm_of w.if-b-base.false ∙ z)) | else-seen-ne0 w ↦ absurd (ne w.if-seen-ne0.false) ])
-          _ _ _ (not-false _ c.if-not-mark_word.false-raw) c.mark_word.ensures.entered),
+          _ _ _ c.if-not-mark_word.false c.mark_word.ensures.entered),
       c.mark_word.ensures.hints,
     )
 

@@ -1,7 +1,6 @@
 -- `text::begins` meets its contract. The invariant: the bytes begin with the others if they do from `i` on.
 -- Assumes nothing.
 use mathlib.Core.Path.{refl, sym, ◌∙◌}
-use Prim.Native.Nat.{◌-◌}
 use native.Mathlib.Omega.{arith}
 use Rattle.text.proofs.Starts.{starts-short, starts_more, starts_other, starts-end}
 use Rattle.text.proofs.begins.Goals as goal

@@ -119,15 +119,14 @@ pub loop-n-smaller : goal.loop-n-smaller
 loop-n-smaller c = omega (arith, most (goal.at.loop-n-smaller c).After-copy_to_nul-k, c.in_page-chunk.ensures)
 
 pub loop-n-preserved : goal.loop-n-preserved
-loop-n-preserved c =
-    (
-      omega (arith, most (goal.at.loop-n-preserved c).After-copy_to_nul-k, room (goal.at.loop-n-preserved c).After-in_page-chunk),
-      omega (arith, c.loop-n.invariant.1),
-      omega (arith, most (goal.at.loop-n-preserved c).After-copy_to_nul-k, page (goal.at.loop-n-preserved c).After-in_page-chunk, top (goal.at.loop-n-preserved c).In_default),
-      left (goal.at.loop-n-preserved c).After-copy_to_nul-k,
-      c.loop-n.invariant.4
-          ∙ str-whole c.args.setup c.requires.setup_ok (memory (goal.at.loop-n-preserved c).Start) (pages (goal.at.loop-n-preserved c).Start) c.args.dst.now c.args.src (n (goal.at.loop-n-preserved c).In_default) (chunk (goal.at.loop-n-preserved c).After-in_page-chunk) (room (goal.at.loop-n-preserved c).After-in_page-chunk) (ok (goal.at.loop-n-preserved c).In_default) (page (goal.at.loop-n-preserved c).After-in_page-chunk) (k (goal.at.loop-n-preserved c).After-copy_to_nul-k) (count (goal.at.loop-n-preserved c).After-copy_to_nul-k) c.if-k-chunk.false,
-    )
+loop-n-preserved c = (
+  omega (arith, most (goal.at.loop-n-preserved c).After-copy_to_nul-k, room (goal.at.loop-n-preserved c).After-in_page-chunk),
+  omega (arith, c.loop-n.invariant.1),
+  omega (arith, most (goal.at.loop-n-preserved c).After-copy_to_nul-k, page (goal.at.loop-n-preserved c).After-in_page-chunk, top (goal.at.loop-n-preserved c).In_default),
+  left (goal.at.loop-n-preserved c).After-copy_to_nul-k,
+  c.loop-n.invariant.4
+      ∙ str-whole c.args.setup c.requires.setup_ok (memory (goal.at.loop-n-preserved c).Start) (pages (goal.at.loop-n-preserved c).Start) c.args.dst.now c.args.src (n (goal.at.loop-n-preserved c).In_default) (chunk (goal.at.loop-n-preserved c).After-in_page-chunk) (room (goal.at.loop-n-preserved c).After-in_page-chunk) (ok (goal.at.loop-n-preserved c).In_default) (page (goal.at.loop-n-preserved c).After-in_page-chunk) (k (goal.at.loop-n-preserved c).After-copy_to_nul-k) (count (goal.at.loop-n-preserved c).After-copy_to_nul-k) c.if-k-chunk.false,
+)
 
 pub returns : goal.returns
 returns c =

@@ -1,5 +1,4 @@
 -- `book::release::unmap_and_free` meets its contract.
-use Prim.Native.Nat.{◌-◌}
 use native.Mathlib.Omega.{arith}
 use mathlib.Core.Path.{refl, sym, ◌∙◌}
 use Rattle.spec.specs.Tests.{within}

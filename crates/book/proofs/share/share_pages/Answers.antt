@@ -1,5 +1,5 @@
 -- `share_pages` meets its contract. The loop's invariant: the frames before i are shared, and the others as they were.
-use Prim.Native.Nat.{ℕ, ◌+◌, ◌-◌}
+use Prim.Native.Nat.{ℕ, ◌+◌}
 use native.Mathlib.Omega.{arith}
 use mathlib.Core.Path.{refl, sym, ap, ◌∙◌}
 use Rattle.spec.specs.Book.{holders}

@@ -9,7 +9,7 @@ returns-then-not-is_number c = let a = c.args in c.zero_proc.ensures ∙ record-
 
 -- src/lib.rt:41:5
 pub proc_at-requires : goal.proc_at-requires
-proc_at-requires c = sym c.is_number.ensures ∙ un_not _ c.if-not-is_number.false-raw
+proc_at-requires c = sym c.is_number.ensures ∙ c.if-not-is_number.false
 
 -- src/lib.rt:35:1
 pub returns : goal.returns

@@ -2,7 +2,6 @@
 use native.Mathlib.Omega.{arith}
 use mathlib.Core.Path.{◌≡◌, refl, sym, ap, ◌∙◌}
 use mathlib.Core.Bool.{Bool, ◌&&◌}
-use borrow.Author.Tests.{not-false}
 use Rattle.spec.specs.Frames.{sized, store}
 use Rattle.spec.specs.World.{State, state_of}
 use Rattle.spec.proofs.Bools.{both}
@@ -28,7 +27,7 @@ returns-then-not-ok c =
 
 pub prepare-e-requires : goal.prepare-e-requires
 prepare-e-requires c =
-    let s = sym c.sizes_ok.ensures ∙ (both c.sizes_ok.result c.args.fits (not-false _ c.if-not-ok.false-raw)).0 in
+    let s = sym c.sizes_ok.ensures ∙ (both c.sizes_ok.result c.args.fits c.if-not-ok.false).0 in
     let z = sizes-words c.args.frames.now c.args.book.now s in
     (omega (arith, z.2, z.3), c.requires)
 
@@ -40,11 +39,17 @@ returns-then-e-ne0 c =
 pub returns-then-not-is_number : goal.returns-then-not-is_number
 unfolding number_error
 returns-then-not-is_number c =
-    record { value = further _ _ 1 _ 3 (sizes-is (goal.at.returns-then-not-is_number c).After-sizes_ok) c.if-not-ok.false-raw
-          (sound-further (state (goal.at.returns-then-not-is_number c).Start) _ _ c.prepare-e.ensures.value 3 c.if-e-ne0.false (given _ _ 3 0 c.is_number.ensures c.if-not-is_number.true-raw)); leaves = left-filled 3 refl (filled_of c.prepare-e.ensures.leaves c.if-e-ne0.false) }
+    record {
+      value = further _ _ 1 _ 3 (sizes-is (goal.at.returns-then-not-is_number c).After-sizes_ok) c.if-not-ok.false-raw
+          (sound-further (state (goal.at.returns-then-not-is_number c).Start) _ _ c.prepare-e.ensures.value 3 c.if-e-ne0.false (given _ _ 3 0 c.is_number.ensures c.if-not-is_number.true-raw));
+      leaves = left-filled 3 refl (filled_of c.prepare-e.ensures.leaves c.if-e-ne0.false);
+    }
 
 pub returns : goal.returns
 unfolding number_error
 returns c =
-    record { value = further _ _ 1 _ 0 (sizes-is (goal.at.returns c).After-sizes_ok) c.if-not-ok.false-raw
-          (sound-further (state (goal.at.returns c).Start) _ _ c.prepare-e.ensures.value 0 c.if-e-ne0.false (further _ _ 3 0 0 c.is_number.ensures c.if-not-is_number.false-raw refl)); leaves = left-filled 0 refl (filled_of c.prepare-e.ensures.leaves c.if-e-ne0.false) }
+    record {
+      value = further _ _ 1 _ 0 (sizes-is (goal.at.returns c).After-sizes_ok) c.if-not-ok.false-raw
+          (sound-further (state (goal.at.returns c).Start) _ _ c.prepare-e.ensures.value 0 c.if-e-ne0.false (further _ _ 3 0 0 c.is_number.ensures c.if-not-is_number.false-raw refl));
+      leaves = left-filled 0 refl (filled_of c.prepare-e.ensures.leaves c.if-e-ne0.false);
+    }

@@ -1,7 +1,7 @@
 -- `layout::layout` meets its contract. The invariant: the layout comes to what it comes to over the places that are left.
 -- Assumes nothing.
 use mathlib.Core.Path.{◌≡◌, sym, ap, ◌∙◌}
-use Prim.Native.Nat.{◌+◌, ◌-◌, ◌<◌}
+use Prim.Native.Nat.{◌+◌, ◌<◌}
 use native.Mathlib.Omega.{arith}
 use Rattle.spec.specs.Image.{program_of}
 use Rattle.image.specs.Places.{places}

@@ -1,6 +1,5 @@
 -- `args::has_nul` meets its contract. The loop's invariant: a NUL stands in the bytes if it stands from `i` on.
 use mathlib.Core.Path.{sym, ◌∙◌}
-use Prim.Native.Nat.{◌-◌}
 use native.Mathlib.Omega.{arith}
 use Rattle.exec_args.proofs.Scan.{has_here, has-turn, has_end}
 use Rattle.exec_args.proofs.args.has_nul.Goals as goal

@@ -1,6 +1,5 @@
 -- `args::lengths_fit` meets its contract. The loop's invariant: the lengths from `i` on would have to sum to what is left.
 use mathlib.Core.Path.{sym, ◌∙◌}
-use Prim.Native.Nat.{◌-◌}
 use native.Mathlib.Omega.{arith}
 use Rattle.exec_args.proofs.Scan.{sum-turn, sum_past, sum-end}
 use Rattle.exec_args.proofs.args.lengths_fit.Goals as goal

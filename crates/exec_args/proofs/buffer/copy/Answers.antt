@@ -1,6 +1,5 @@
 -- `buffer::copy` meets its contract. The loop's invariant: the first `i` bytes of `s` are in place.
 use mathlib.Core.Path.{refl, ◌∙◌}
-use Prim.Native.Nat.{◌-◌}
 use native.Mathlib.Omega.{arith}
 use lib.ListN.{length-set}
 use Rattle.spec_laws.proofs.Overwrite.{mix-none, mix-turn, mix_all}

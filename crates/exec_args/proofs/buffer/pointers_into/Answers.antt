@@ -1,6 +1,6 @@
 -- `buffer::pointers_into` meets its contract. The loop's invariant: the pointers from `i` on, laid at their place, would complete the buffer.
 use mathlib.Core.Path.{sym, ap, ◌∙◌}
-use Prim.Native.Nat.{ℕ, ◌+◌, ◌*◌, ◌-◌}
+use Prim.Native.Nat.{ℕ, ◌+◌, ◌*◌}
 use native.Mathlib.Omega.{arith}
 use mathlib.Core.List.{List}
 use lib.ListN.{get_or, drop}

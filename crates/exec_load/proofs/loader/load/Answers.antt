@@ -1,6 +1,6 @@
 -- `loader::load` meets its contract: segments, bss and stack are placed one after the other.
 use mathlib.Core.Path.{ap, ◌∙◌}
-use Prim.Native.Nat.{ℕ, ◌-◌}
+use Prim.Native.Nat.{ℕ}
 use native.Mathlib.Omega.{arith}
 use Rattle.spec_laws.proofs.Accepted.{image-passes, accepted-means}
 use Rattle.spec.specs.Frames.{place, pages_of, store}

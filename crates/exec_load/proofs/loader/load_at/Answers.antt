@@ -1,7 +1,7 @@
 -- `loader::load_at` meets its contract: a place without a segment places nothing, and any other its segment's pages.
 use mathlib.Core.Path.{refl, sym, ap, ◌∙◌}
 use mathlib.Core.List.{List, [], ◌∷◌}
-use Prim.Native.Nat.{ℕ, ◌+◌, ◌-◌, ◌≤◌}
+use Prim.Native.Nat.{ℕ, ◌+◌, ◌≤◌}
 use native.Mathlib.Omega.{arith}
 use lib.ListN.{length, drop, length-take}
 use Rattle.spec.specs.Numbers.{max_top, page_bytes}
@@ -52,6 +52,9 @@ returns-in-Segment c =
     let a = c.args in
     let g = c.in-Segment.g in
     let m : Store = store a.frames.now a.book.now in
-    record { book_after = s.ensures.book_after
+    record {
+      book_after = s.ensures.book_after
           ∙ ap (λ (xs : List ℕ). place m a.owner (pages_of (page_bytes (file_at g.vaddr xs)) (u.result ∷ []))) f.ensures
-          ∙ load-taken m a.owner a.image.now a.bss _ g u.result g.filesz (sym c.segment_of-l.ensures.0 ∙ c.in-Segment.is) u.ensures refl; passed_2 = s.ensures.passed_2 }
+          ∙ load-taken m a.owner a.image.now a.bss _ g u.result g.filesz (sym c.segment_of-l.ensures.0 ∙ c.in-Segment.is) u.ensures refl;
+      passed_2 = s.ensures.passed_2;
+    }

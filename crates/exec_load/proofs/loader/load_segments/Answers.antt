@@ -1,9 +1,8 @@
 -- `loader::load_segments` meets its contract. The invariant: placing the pages of the places that are left, after what is placed, is
 -- placing those of the whole program.
 use mathlib.Core.Path.{refl, sym, ap, ◌∙◌}
-use mathlib.Core.Bool.{true}
 use mathlib.Core.List.{List}
-use Prim.Native.Nat.{◌+◌, ◌-◌, ◌<◌}
+use Prim.Native.Nat.{◌+◌, ◌<◌}
 use native.Mathlib.Omega.{arith}
 use Rattle.spec.specs.Frames.{Store, place, store}
 use Rattle.spec.specs.Program.{Segment}

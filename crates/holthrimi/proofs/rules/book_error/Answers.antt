@@ -13,7 +13,7 @@ returns-then-not-sizes_ok c = given _ _ 1 _ c.sizes_ok.ensures c.if-not-sizes_ok
 pub sound_error-requires : goal.sound_error-requires
 sound_error-requires c =
     let a = c.args in
-    let z = sizes-words a.frames.now a.book.now (sym c.sizes_ok.ensures ∙ not-false _ c.if-not-sizes_ok.false-raw) in
+    let z = sizes-words a.frames.now a.book.now (sym c.sizes_ok.ensures ∙ c.if-not-sizes_ok.false) in
     omega (arith, z.2, z.3)
 
 pub returns : goal.returns

@@ -1,5 +1,5 @@
 -- `nul::no_nul` meets its contract: `ok` says it of the first `i` bytes.
-use Prim.Native.Nat.{ℕ, ◌-◌}
+use Prim.Native.Nat.{ℕ}
 use native.Mathlib.Omega.{arith}
 use mathlib.Core.Path.{ap, ◌∙◌}
 use mathlib.Core.Bool.{not}

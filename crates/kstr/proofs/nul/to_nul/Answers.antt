@@ -1,5 +1,4 @@
 -- `nul::to_nul` meets its contract. The loop's invariant: none of the first `i` bytes is a NUL.
-use Prim.Native.Nat.{◌-◌}
 use native.Mathlib.Omega.{arith}
 use Rattle.kstr.proofs.BeforeNul.{nul-here, nul-next, nul-end}
 use Rattle.kstr.proofs.Plain.{nul-behind}

@@ -1,7 +1,7 @@
 -- `segment_lines::put_lines` meets its contract. The invariant: the lines of the segments passed are put.
 -- Assumes nothing.
 use mathlib.Core.Path.{◌≡◌, sym, ap}
-use Prim.Native.Nat.{ℕ, ◌-◌}
+use Prim.Native.Nat.{ℕ}
 use native.Mathlib.Omega.{arith}
 use lib.ListN.{take}
 use borrow.Author.Rules.{rules}

@@ -1,6 +1,5 @@
 -- `pagealloc::frames::copy` meets its contract. The loop's invariant: the first `i` bytes are those of `s`, and the others as they were.
 use mathlib.Core.Path.{refl, ◌∙◌}
-use Prim.Native.Nat.{◌-◌}
 use native.Mathlib.Omega.{arith}
 use Rattle.pagealloc.proofs.Held.{part-copied}
 use Rattle.spec_laws.proofs.Overwrite.{mix-none, mix_all}

@@ -1,6 +1,5 @@
 -- `pagealloc::frames::give` meets its contract. The loop's invariant: the first `i` bytes are those of `page`, and the others as they were.
 use mathlib.Core.Path.{refl}
-use Prim.Native.Nat.{◌-◌}
 use native.Mathlib.Omega.{arith}
 use lib.ListN.{length-set}
 use Rattle.pagealloc.proofs.Held.{all-given}

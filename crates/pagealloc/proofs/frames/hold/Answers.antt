@@ -1,5 +1,4 @@
 -- `pagealloc::frames::hold` meets its contract. The loop's invariant: the first `i` bytes are those of `s`, and the others as they were.
-use Prim.Native.Nat.{◌-◌}
 use native.Mathlib.Omega.{arith}
 use lib.ListN.{length-set}
 use Rattle.pagealloc.proofs.Held.{all_held}

@@ -1,6 +1,5 @@
 -- `pagealloc::frames::zero` meets its contract. The loop's invariant: the first `i` bytes are 0, and the others as they were.
 use mathlib.Core.Path.{refl, ◌∙◌}
-use Prim.Native.Nat.{◌-◌}
 use native.Mathlib.Omega.{arith}
 use lib.ListN.{length-set}
 use Rattle.spec_laws.proofs.Overwrite.{mix-none, fill-turn, fill-all}

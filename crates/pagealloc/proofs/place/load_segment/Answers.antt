@@ -1,7 +1,6 @@
 -- `pagealloc::place::load_segment` meets its contract. The loop's invariant: the pages before `page` are placed, and no frame from
 -- `c` on is free.
 use mathlib.Core.Path.{sym, ◌∙◌}
-use Prim.Native.Nat.{◌-◌}
 use native.Mathlib.Omega.{arith}
 use Rattle.spec.specs.Numbers.{page_bytes}
 use Rattle.spec.specs.Frames.{store}

@@ -1,7 +1,6 @@
 -- `pagealloc::place::map_zeroed` meets its contract. The loop's invariant: the pages before `page` are placed, and no frame from
 -- `c` on is free.
 use mathlib.Core.Path.{sym, ◌∙◌}
-use Prim.Native.Nat.{◌-◌}
 use native.Mathlib.Omega.{arith}
 use Rattle.spec.specs.Numbers.{zero_page}
 use Rattle.spec.specs.Frames.{store}

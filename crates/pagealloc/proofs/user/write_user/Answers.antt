@@ -1,6 +1,6 @@
 -- `pagealloc::user::write_user` meets its contract. The loop's invariant: the first `i` bytes are written.
 use mathlib.Core.Path.{refl, sym, ◌∙◌}
-use Prim.Native.Nat.{◌+◌, ◌-◌}
+use Prim.Native.Nat.{◌+◌}
 use native.Mathlib.Omega.{arith}
 use lib.ListN.{length, length-take, length-drop}
 use Rattle.spec.specs.Numbers.{page_down}

@@ -1,6 +1,5 @@
 -- `setup_read::count` meets its contract. The invariant: `i` digits are passed.
 -- Assumes nothing.
-use Prim.Native.Nat.{◌-◌}
 use native.Mathlib.Omega.{arith}
 use Rattle.setup.proofs.Lines.{digits_more, digits-stop, digits-end}
 use Rattle.setup.proofs.setup_read.count.Goals as goal

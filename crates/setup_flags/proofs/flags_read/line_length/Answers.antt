@@ -5,7 +5,6 @@ use mathlib.Core.List.{List}
 use Prim.Native.Nat.{ℕ}
 use native.Mathlib.Omega.{arith}
 use lib.ListN.{length, take}
-use borrow.Author.Tests.{not-true, not-false}
 use Rattle.spec.specs.Tests.{◌is◌, same}
 use Rattle.spec.specs.FlagsText.{flag_line, begins}
 use Rattle.text.proofs.Behind.{counts, front}
@@ -26,12 +25,12 @@ slice_bounds-begins-end c = (counts c.put_line-n.ensures.puts).1.1
 pub returns-then-not-begins : goal.returns-then-not-begins
 returns-then-not-begins c =
     let a = c.args in
-    (omega arith, line_other a.s.now a.row a.code (sym (compared (goal.at.returns-then-not-begins c).After-begins) ∙ not-true _ c.if-not-begins.true-raw))
+    (omega arith, line_other a.s.now a.row a.code (sym (compared (goal.at.returns-then-not-begins c).After-begins) ∙ c.if-not-begins.true))
 
 pub returns : goal.returns
 returns c =
     let a = c.args in
     let put = c.put_line-n in
-    let q = sym (compared (goal.at.returns c).After-begins) ∙ not-false _ c.if-not-begins.false-raw in
+    let q = sym (compared (goal.at.returns c).After-begins) ∙ c.if-not-begins.false in
     let n : put.result ≡ length (flag_line a.row a.code) = omega (arith, put.ensures.puts.place) in
     (omega (arith, n, line-fits a.s.now a.row a.code q), line-is a.s.now a.row a.code put.result n q)

@@ -1,7 +1,6 @@
 -- `flags_read::read_flags` meets its contract. The invariant: the codes of the rows passed, and what the rest comes to after them.
 -- Assumes nothing.
 use mathlib.Core.Path.{ap, ◌∙◌}
-use Prim.Native.Nat.{◌-◌}
 use native.Mathlib.Omega.{arith}
 use lib.ListN.{drop, length-set}
 use borrow.Author.Rules.{rules}

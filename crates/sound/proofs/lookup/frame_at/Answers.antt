@@ -2,7 +2,6 @@
 use Prim.Native.Nat.{ℕ, ◌+◌, ◌-◌, ◌*◌, ◌%◌, ◌≤◌, ◌<◌}
 use native.Mathlib.Omega.{arith}
 use mathlib.Core.Path.{◌≡◌, sym, ap, ◌∙◌}
-use mathlib.Core.Bool.{false}
 use lib.ListN.{get_or}
 use borrow.Author.Count.{below_more}
 use Rattle.spec.specs.Book.{word_of, owner_of, page_of, frame_of}

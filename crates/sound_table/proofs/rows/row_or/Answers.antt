@@ -1,5 +1,5 @@
 -- `rows::row_or` meets its contract.
-use Prim.Native.Nat.{◌*◌, ◌-◌}
+use Prim.Native.Nat.{◌*◌}
 use native.Mathlib.Omega.{arith}
 use mathlib.Core.Path.{◌≡◌, refl}
 use Rattle.sound_table.proofs.Folds.{or-next}

@@ -1,6 +1,5 @@
 -- `single` meets its contract.
 use native.Mathlib.Omega.{arith}
-use Rattle.spec.proofs.Bools.{un_not}
 use Rattle.sound_table.proofs.Frames.{single-none, single-free, single-only, only-own}
 use Rattle.sound_table.proofs.rows.single.Goals as goal
 
@@ -25,4 +24,4 @@ returns-then-row_but-ne0 c = single-none _ _
 pub returns : goal.returns
 returns c =
     let n = c.place_of-n in
-    single-only _ c.args.k _ (only-own c.args.book.now c.args.k n.result (omega arith) (c.is_own.ensures (un_not _ c.if-not-is_own.false-raw)) (c.row_but.ensures c.if-row_but-ne0.false))
+    single-only _ c.args.k _ (only-own c.args.book.now c.args.k n.result (omega arith) (c.is_own.ensures c.if-not-is_own.false) (c.row_but.ensures c.if-row_but-ne0.false))

@@ -1,5 +1,4 @@
 -- `singles` meets its contract.
-use Prim.Native.Nat.{◌-◌}
 use native.Mathlib.Omega.{arith}
 use Rattle.sound_table.proofs.rows.singles.Goals as goal
 

@@ -37,10 +37,13 @@ write_part-requires c =
     let n = c.in_page-n in
     let q : l.i + n.result - l.i ≡ n.result = omega arith in
     let w = mid_len l.i (l.i + n.result) a.bytes.now (omega (arith, n.ensures)) in
-    record { frames_len = (l.invariant.1 ∙ c.requires.frames_len.0, c.requires.frames_len.1, c.requires.frames_len.2, c.requires.frames_len.3); bytes_bound = (
+    record {
+      frames_len = (l.invariant.1 ∙ c.requires.frames_len.0, c.requires.frames_len.1, c.requires.frames_len.2, c.requires.frames_len.3);
+      bytes_bound = (
         omega (arith, n.ensures, w, q),
         range-cell c.requires.setup_ok.0 a.frames.now l.frames a.book.now a.number true a.addr (length a.bytes.now) (a.addr + l.i) c.requires.setup_ok.2 (omega arith) (omega arith),
-      ) }
+      );
+    }
 
 pub loop-i-smaller : goal.loop-i-smaller
 loop-i-smaller c = omega (arith, c.in_page-n.ensures)

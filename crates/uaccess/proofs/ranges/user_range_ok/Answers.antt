@@ -1,5 +1,5 @@
 -- `ranges::user_range_ok` meets its contract. The loop's invariant: the addresses of the pages before `va` are allowed.
-use Prim.Native.Nat.{ℕ, ◌+◌, ◌-◌, ◌≤◌, ◌<◌}
+use Prim.Native.Nat.{ℕ, ◌+◌, ◌≤◌, ◌<◌}
 use native.Mathlib.Omega.{arith}
 use mathlib.Core.Path.{◌≡◌, sym, ◌∙◌}
 use mathlib.Core.List.{List}
@@ -7,7 +7,6 @@ use Rattle.spec.specs.Numbers.{page_down}
 use Rattle.spec.specs.Frames.{Mem, store}
 use Rattle.spec.specs.Access.{access}
 use Rattle.spec.specs.declared.Checked.TheVariants.{Bad}
-use Rattle.spec.proofs.Bools.{not-true, un_not}
 use Rattle.spec.proofs.Ranges.{bad-above, bad-at, bad-top, fine-all}
 use Rattle.spec_laws.proofs.Allowed.{cell-page}
 use Rattle.uaccess.proofs.InRange.{Paged, checked-page, page-bad}
@@ -31,8 +30,8 @@ module _ (c : Joined-len-room) where
   ends : (end ≤ c.args.setup.uaddrtop) × (end ≤ c.args.addr + c.args.len) × (c.args.addr < c.args.setup.uaddrtop → c.args.addr < end)
   ends =
       elim c.if-len-room.branch [
-        then-len-room w ↦ (omega arith, omega arith, λ l. omega arith)
-      | else-len-room w ↦ (omega arith, omega arith, λ l. omega arith)
+        | then-len-room w ↦ (omega arith, omega arith, λ l. omega arith)
+        | else-len-room w ↦ (omega arith, omega arith, λ l. omega arith)
       ]
 
 -- a page of it that isn't allowed
@@ -44,7 +43,7 @@ module _ (c : Then-not-user_page_ok) where
   bad : (frames : List ℕ) (a : ℕ) → page_down a ≡ va → c.args.addr ≤ a → a < end (goal.at.Then-not-user_page_ok c).Joined-len-room → ((b : ℕ) → c.args.addr ≤ b → b < a → b < va) → access c.args.setup (mem (goal.at.Then-not-user_page_ok c).Start frames) c.args.write c.args.addr c.args.len ≡ Bad a
   bad frames a p l u h =
       bad-at c.args.setup (mem (goal.at.Then-not-user_page_ok c).Start frames) c.args.write c.args.addr c.args.len a l (omega (arith, (ends (goal.at.Then-not-user_page_ok c).Joined-len-room).1)) (omega (arith, (ends (goal.at.Then-not-user_page_ok c).Joined-len-room).0))
-      (page-bad (mem (goal.at.Then-not-user_page_ok c).Start frames) (paged (goal.at.Then-not-user_page_ok c).Start frames) c.args.write va a p (sym (c.user_page_ok.ensures frames) ∙ not-true _ c.if-not-user_page_ok.true-raw))
+      (page-bad (mem (goal.at.Then-not-user_page_ok c).Start frames) (paged (goal.at.Then-not-user_page_ok c).Start frames) c.args.write va a p (sym (c.user_page_ok.ensures frames) ∙ c.if-not-user_page_ok.true))
       (λ b x y. c.loop-va.invariant.2 frames b (omega arith) (h b x y))
 
 pub returns-then-addr-top : goal.returns-then-addr-top
@@ -74,19 +73,19 @@ loop-va-preserved c = (
   omega arith,
   λ frames.
       let l = c.loop-va in
-      checked-page (mem (goal.at.loop-va-preserved c).Start frames) (paged (goal.at.loop-va-preserved c).Start frames) c.args.write (page_down c.args.addr) l.va l.invariant.0 (sym (c.user_page_ok.ensures frames) ∙ un_not _ c.if-not-user_page_ok.false-raw) (l.invariant.2 frames),
+      checked-page (mem (goal.at.loop-va-preserved c).Start frames) (paged (goal.at.loop-va-preserved c).Start frames) c.args.write (page_down c.args.addr) l.va l.invariant.0 (sym (c.user_page_ok.ensures frames) ∙ c.if-not-user_page_ok.false) (l.invariant.2 frames),
 )
 
 pub returns-then-len-room-2 : goal.returns-then-len-room-2
 returns-then-len-room-2 c frames =
     elim c.if-len-room.branch [
-      then-len-room w ↦ sym (bad-top c.args.setup (mem (goal.at.returns-then-len-room-2 c).Start frames) c.args.write c.args.addr c.args.len (omega arith) (omega arith) (λ b x y. c.loop-va.invariant.2 frames b (omega arith) (omega arith)))
-    | else-len-room w ↦ absurd (omega arith)
+      | then-len-room w ↦ sym (bad-top c.args.setup (mem (goal.at.returns-then-len-room-2 c).Start frames) c.args.write c.args.addr c.args.len (omega arith) (omega arith) (λ b x y. c.loop-va.invariant.2 frames b (omega arith) (omega arith)))
+      | else-len-room w ↦ absurd (omega arith)
     ]
 
 pub returns : goal.returns
 returns c frames =
     elim c.if-len-room.branch [
-      then-len-room w ↦ absurd (omega arith)
-    | else-len-room w ↦ sym (fine-all c.args.setup (mem (goal.at.returns c).Start frames) c.args.write c.args.addr c.args.len (omega arith) (λ b x y. c.loop-va.invariant.2 frames b (omega arith) (omega arith)))
+      | then-len-room w ↦ absurd (omega arith)
+      | else-len-room w ↦ sym (fine-all c.args.setup (mem (goal.at.returns c).Start frames) c.args.write c.args.addr c.args.len (omega arith) (λ b x y. c.loop-va.invariant.2 frames b (omega arith) (omega arith)))
     ]

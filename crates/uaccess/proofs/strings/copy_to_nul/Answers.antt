@@ -1,6 +1,5 @@
 -- `strings::copy_to_nul` meets its contract. The loop's invariant: the first `i` bytes are those of `s`, none of them NUL, and the
 -- others as they were: at first those of the blocks.
-use Prim.Native.Nat.{◌-◌}
 use native.Mathlib.Omega.{arith}
 use mathlib.Core.Path.{sym, ◌∙◌}
 use lib.ListN.{length-set}
