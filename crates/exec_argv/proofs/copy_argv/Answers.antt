@@ -1,6 +1,6 @@
 -- `copy_argv` meets its contract. The loop's invariant: the strings of the first `count` arguments stand over the first `used` bytes of
 -- the buffer, within the limit, and the definition goes on from them.
-use Prim.Native.Nat.{ℕ, ◌+◌, ◌*◌, ◌-◌}
+use Prim.Native.Nat.{ℕ, ◌+◌, ◌*◌}
 use native.Mathlib.Omega.{arith}
 use mathlib.Core.Path.{◌≡◌, ap, ◌∙◌}
 use mathlib.Core.List.{List}

@@ -3,7 +3,6 @@
 use Prim.Native.Nat.{◌-◌}
 use Rattle.spec.specs.Numbers.{arg_limit}
 use Rattle.spec.specs.Frames.{mem_of, store}
-use Rattle.exec_argv.specs.declared.copy_arg.More.TheVariants as more
 use Rattle.exec_argv.proofs.SoFar.{SoFar}
 use Rattle.exec_argv.proofs.copy_argv.Given as goal
 
