@@ -9,7 +9,7 @@ import re
 os.chdir(os.path.join(os.path.dirname(os.path.abspath(__file__)), '..'))
 
 # A folder is src, specs or proofs. The module of crates/fork/src/copy.rt is `copy`, of lib.rt and main.rt the empty text, of
-# crates/fork/proofs/copy/copy_segment/Proof.antt `copy.copy_segment.Proof`.
+# crates/fork/proofs/copy/copy_segment/Answers.antt `copy.copy_segment.Answers`.
 File = collections.namedtuple('File', 'crate folder module path')
 # `kind`: fn, const, struct, enum, mod, variant; record, data, constructor, field, name, local. `owner`: the type of a method, a
 # variant, a constructor or a field. `public`: pub, C (exported) or empty. `says`: what follows the name on its line.
@@ -40,6 +40,21 @@ def files():
 
 def crates():
     return {f.crate for f in files()}
+
+
+def listed():
+    """The crates of crates.txt, in its order, each with those that it uses: `NAME: DEP ..`, of a static library `NAME staticlib: DEP ..`."""
+    return {m.group(1): m.group(2).split() for m in re.finditer(r'^(\w+)[^:#\n]*:(.*)$', read('crates.txt'), re.M)}
+
+
+def answers(file):
+    """Whether a file of proofs/ is of a function's own proof: the goals that the check leaves, answered by their names."""
+    return file.folder == 'proofs' and file.module.split('.')[-1] in ('Answers', 'Invariants', 'Proof')
+
+
+def goal(item):
+    """Whether it answers a goal, which nothing has to cite: the check asks for it by its name."""
+    return answers(item.file) and re.match(r': goal\.', item.says)
 
 
 RUST = re.compile(r'^( *)(pub )?(?:pub\(crate\) )?(extern "C" )?(fn|const|struct|enum|mod) (\w+)(.*)')
@@ -126,15 +141,20 @@ def source(crate, module):
     return next((f for f in files() if (f.crate, f.folder, f.module) == (crate, 'src', module)), None)
 
 
+def use_lines(text):
+    """What the `use` lines of a text of src/ bring: (whether it is passed on, its path, its name here). `use a::{b, c};` is
+    `use a::b;` and `use a::c;`."""
+    for passed, path, group in re.findall(r'^(pub )?use ([\w:]+?)(?:::\{([^{}]*)\})?;', text, re.M):
+        for part in group.split(',') if group else ['']:
+            if part.strip() or not group:
+                there, _, here = ('%s::%s' % (path, part.strip()) if group else path).removesuffix('::self').partition(' as ')
+                yield bool(passed), there.split('::'), here or there.split('::')[-1]
+
+
 @functools.cache
 def uses(file):
     """The names that the `use` lines of a file of src/ bring, each with its path and whether it is passed on."""
-    found = {}
-    for line in lines(file.path):
-        m = re.match(r'(pub )?use ((?:\w+::)*(\w+));', line)
-        if m:
-            found[m.group(3)] = (m.group(2).split('::'), bool(m.group(1)))
-    return found
+    return {name: (path, passed) for passed, path, name in use_lines('\n'.join(lines(file.path)))}
 
 
 @functools.cache
@@ -171,7 +191,7 @@ def resolve(file, path, seen=()):
 # ---- what definitions and lemmas cite
 
 WORD = re.compile(r'[^\s(){};,."]+')
-IMPORT = re.compile(r'^\s*(?:ghost )?(pub )?use Rattle·(\w+)(?:·\w+)?\.(specs|proofs)\.([^\s{};]+?)(?:\.\{(.*)\}| as (\S+))?;?$')
+IMPORT = re.compile(r'^\s*(?:ghost )?(pub )?use Rattle\.(\w+)\.(specs|proofs)\.([^\s{};]+?)(?:\.\{(.*)\}| as ([^\s;]+))?;?$')
 
 
 @functools.cache
@@ -227,8 +247,8 @@ def follow(file, name):
 
 
 def parts(name):
-    """The words of a name, of `_is_` and the like those between the places."""
-    return [p for p in name.split('_') if p] if '_' in name else [name]
+    """The words of a name, of `◌is◌` and the like those between the places."""
+    return [p for p in name.split('◌') if p] if '◌' in name else [name]
 
 
 def blocks(file):
