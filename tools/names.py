@@ -1,5 +1,5 @@
-"""What crates/ declares, for tools/trace, tools/unused and tools/believed: files, their declarations and imports, where a path of src/
-leads, and what a definition cites."""
+"""What crates/ declares, for tools/trace, tools/promises, tools/unused and tools/believed: files, their declarations and imports, where
+a path of src/ leads, and what a definition cites."""
 import collections
 import functools
 import glob
