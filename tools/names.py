@@ -131,7 +131,7 @@ def items():
 @functools.cache
 def edits():
     """Each must-fail edit as (crate, label)."""
-    return {(p.split('/')[1], os.path.basename(p)[:-5]) for p in glob.glob('crates/*/must-fail/**/*.edit', recursive=True)}
+    return {(p.split('/')[1], os.path.basename(p)[:-5]) for p in glob.glob('crates/*/must-fail*/**/*.edit', recursive=True)}
 
 
 # ---- paths of src/
