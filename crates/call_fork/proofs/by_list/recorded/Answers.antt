@@ -1,5 +1,4 @@
 use mathlib.Core.Path.{sym, ◌∙◌}
-use Rattle.spec.proofs.Bools.{un_not}
 use Rattle.call_fork.proofs.Judged.{record-none, record-some}
 use Rattle.call_fork.proofs.by_list.recorded.Goals as goal
 

@@ -1,6 +1,5 @@
 -- `count::data_count` meets its contract. The invariant: the pages of the data segments passed.
 use mathlib.Core.Path.{sym, ap, ◌∙◌}
-use Prim.Native.Nat.{◌-◌}
 use native.Mathlib.Omega.{arith}
 use lib.Seq.{take_all}
 use Rattle.spec.specs.Book.{data_only, page_count}

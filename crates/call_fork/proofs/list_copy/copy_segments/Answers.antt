@@ -1,9 +1,7 @@
 -- `list_copy::copy_segments` meets its contract, by the laws of a walk over the list (`Copies`).
 use native.Mathlib.Omega.{arith}
 use mathlib.Core.Path.{refl}
-use Rattle.spec.specs.Frames.{store}
-use Rattle.call_fork.proofs.Forked.{copied_none}
-use Rattle.call_fork.proofs.Copies.{Here, numbers-still, piece-here, next, all-copied}
+use Rattle.call_fork.proofs.Copies.{Here, begins, numbers-still, piece-here, next, all-copied}
 use Rattle.call_fork.proofs.list_copy.copy_segments.Goals as goal
 use Rattle.call_fork.proofs.list_copy.copy_segments.Goals.{At-loop-i}
 
@@ -26,15 +24,18 @@ here c =
     }
 
 pub loop-i-init : goal.loop-i-init
-loop-i-init c = record {
-  count = refl;
-  within = omega arith;
-  same_frames = refl;
-  same_book = refl;
-  copied = copied_none (store c.args.frames.now c.args.book.now) c.args.number c.args.child;
-  passed = (omega arith, λ k l h. absurd (omega (arith, l, h)));
-  held = c.requires.frames_len.7;
-}
+loop-i-init c =
+    let a = c.args in
+    let b = begins a.frames.now a.book.now a.number a.child a.segments.now c.requires.frames_len c.requires.by_index in
+    record {
+      count = refl;
+      within = b.within;
+      same_frames = b.same-frames;
+      same_book = b.same-book;
+      copied = b.copied;
+      passed = b.passed;
+      held = b.held;
+    }
 
 pub copy_segment-top-requires : goal.copy_segment-top-requires
 copy_segment-top-requires c =
@@ -50,7 +51,7 @@ loop-i-preserved c =
     let a = c.args in
     let o = c.copy_segment-top in
     let t = next a.frames.now a.book.now a.number a.child a.segments.now c.requires.frames_len c.requires.by_index (here (goal.at.loop-i-preserved c).At-loop-i)
-        c.loop-i-test.true o.new.frames o.new.book o.result o.auto.frames o.auto.book o.ensures.book_after o.ensures.passed in
+    c.loop-i-test.true o.new.frames o.new.book o.result o.auto.frames o.auto.book o.ensures.book_after o.ensures.passed in
     record {
       count = refl;
       within = t.within;

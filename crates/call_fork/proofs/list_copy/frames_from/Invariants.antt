@@ -1,7 +1,7 @@
 -- `copy::frames_from` meets its contract. The loop's invariant: the frame of a page is noted, or below `k`; and no more pages than
 -- `left` are not noted.
 use mathlib.Core.Path.{◌≡◌}
-use Prim.Native.Nat.{◌-◌, ◌≤◌}
+use Prim.Native.Nat.{◌≤◌}
 use lib.ListN.{length}
 use Rattle.call_fork.proofs.Noted.{Noted, missing}
 use Rattle.call_fork.proofs.list_copy.frames_from.Given as goal

@@ -1,6 +1,6 @@
 -- `push_args::copies_ok` meets its contract. The loop's invariant: the copies of the first `i` arguments may be written, and the others'
 -- decide.
-use Prim.Native.Nat.{ℕ, suc, ◌+◌, ◌-◌}
+use Prim.Native.Nat.{ℕ, suc, ◌+◌}
 use native.Mathlib.Omega.{arith}
 use native.Mathlib.Numerals.{add-one}
 use mathlib.Core.Path.{◌≡◌, refl, sym, ap, ap₂, ◌∙◌}

@@ -114,6 +114,9 @@ pub returns : goal.returns
 returns c =
     let a = c.args in
     let b = short a.setup (m (goal.at.returns c).After-free_count-free) a.number (program (goal.at.returns c).Start) in
-    record { proc_value = past b _ _ _ (room (goal.at.returns c).Else-plan-room) (c.record_of.ensures ∙ plan-record _ _ _ _ _ (installable (goal.at.returns c).Else-plan-room) a.name.now); by_index_2 = λ args f.
+    record {
+      proc_value = past b _ _ _ (room (goal.at.returns c).Else-plan-room) (c.record_of.ensures ∙ plan-record _ _ _ _ _ (installable (goal.at.returns c).Else-plan-room) a.name.now);
+      by_index_2 = λ args f.
           let i = c.install-regs.ensures args f in
-          (past b _ _ _ (room (goal.at.returns c).Else-plan-room) (i.0 ∙ ap (λ (x : Store). installed a.setup x a.number (program (goal.at.returns c).Start) args) (left (goal.at.returns c).After-release_owner)), past b _ _ _ (room (goal.at.returns c).Else-plan-room) (ap Regs i.1)) }
+          (past b _ _ _ (room (goal.at.returns c).Else-plan-room) (i.0 ∙ ap (λ (x : Store). installed a.setup x a.number (program (goal.at.returns c).Start) args) (left (goal.at.returns c).After-release_owner)), past b _ _ _ (room (goal.at.returns c).Else-plan-room) (ap Regs i.1));
+    }

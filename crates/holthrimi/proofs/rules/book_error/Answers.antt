@@ -1,7 +1,6 @@
 -- `book_error` meets its contract.
 use native.Mathlib.Omega.{arith}
 use mathlib.Core.Path.{sym, ◌∙◌}
-use borrow.Author.Tests.{not-false}
 use Rattle.call_front.proofs.FirstNumbers.{given, further, sizes-words}
 use Rattle.holthrimi.specs.Rules.{book_error}
 use Rattle.holthrimi.proofs.rules.book_error.Goals as goal

@@ -1,6 +1,6 @@
 -- `holthrimi_args_error` meets its contract.
 use mathlib.Core.Path.{refl, sym, ap, ◌∙◌}
-use borrow.Author.Tests.{not-false, not-true, eqb-true}
+use borrow.Author.Tests.{eqb-true}
 use Rattle.spec.proofs.Chain.{number-first, number-next}
 use Rattle.exec_args.specs.declared.args.ArgsSize.{ArgsSize}
 use Rattle.exec_args.proofs.Size.{size_number}
