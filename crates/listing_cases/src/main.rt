@@ -10,7 +10,7 @@ use std::fs;
 use std::io::{Eprint, Print, Read};
 use std::process::ExitCode;
 
-// What is behind an image: there may be another, there is none, or reading or writing failed.
+// What is behind an image: there may be another, there is none that is whole, or reading or writing failed.
 #[derive(Clone, Copy)]
 enum Behind {
     More,
@@ -44,32 +44,33 @@ fn read<R: Read>(file: &mut R, buf: &mut [u8], n: usize) -> Got
     files::read(file, &mut buf[..n])
 }
 
-// Whether n bytes could not be read; then a line on standard error says why.
-fn lacks(rt: &impl Eprint, got: Got, n: usize) -> bool {
+// Whether n bytes could not be read, or were not there, and nothing more is read; then a line on standard error says why.
+fn lacks(rt: &impl Eprint, got: Got, n: usize) -> Behind {
     if let Some(why) = got.failed {
         let _ = eprintln!(rt; "listing_cases: cases: {why}");
-        return true;
+        return Behind::Failed;
     }
     if got.count < n {
         let _ = eprintln!(rt; "listing_cases: cases: it ends within an image");
-        return true;
+        return Behind::End;
     }
-    false
+    Behind::More
 }
 
 // Reads n bytes and drops them, and answers whether they were there.
-fn skip<R: Read>(rt: &impl Eprint, file: &mut R, n: usize) -> bool {
+fn skip<R: Read>(rt: &impl Eprint, file: &mut R, n: usize) -> Behind {
     let mut left = n;
     while left > 0 {
         let mut page = [0u8; 4096];
         let k = least(left, 4096);
         let got = read(file, &mut page, k);
-        if lacks(rt, got, k) {
-            return false;
+        match lacks(rt, got, k) {
+            Behind::More => {}
+            behind => return behind,
         }
         left -= k;
     }
-    true
+    Behind::More
 }
 
 // Writes text, and answers whether it was written; if not, a line on standard error says why.
@@ -95,24 +96,28 @@ fn list_next<R: Read>(rt: &(impl Print + Eprint), file: &mut R) -> Behind {
     if first.count == 0 && first.failed.is_none() {
         return Behind::End;
     }
-    if lacks(rt, first, 4) {
-        return Behind::Failed;
+    match lacks(rt, first, 4) {
+        Behind::More => {}
+        behind => return behind,
     }
     let letters = wide(head[0]);
     let size = wide(head[1]) + wide(head[2]) * 256 + wide(head[3]) * 65536;
     let mut name = [0u8; 256];
     let named = read(file, &mut name, letters);
-    if lacks(rt, named, letters) {
-        return Behind::Failed;
+    match lacks(rt, named, letters) {
+        Behind::More => {}
+        behind => return behind,
     }
     let mut image = [0u8; 32769];
     let kept = least(size, MOST);
     let imaged = read(file, &mut image, kept);
-    if lacks(rt, imaged, kept) {
-        return Behind::Failed;
+    match lacks(rt, imaged, kept) {
+        Behind::More => {}
+        behind => return behind,
     }
-    if !skip(rt, file, size - kept) {
-        return Behind::Failed;
+    match skip(rt, file, size - kept) {
+        Behind::More => {}
+        behind => return behind,
     }
     let n = named.count;
     let m = imaged.count;
