@@ -7,6 +7,7 @@ pub mod Enter
 pub mod Words
 pub mod Setups
 pub mod Chain
+pub mod Refused
 pub mod Ranges
 pub mod Args
 pub mod Pushes

@@ -1,5 +1,6 @@
 -- Pushed arguments read back as given, and top minus stack pointer is at most the argument limit: of any memory into which they may be
 -- written, and so of what start, replace and push make of a machine.
+use Rattle.std.specs.Prelude.{Ok}
 use Prim.Native.Nat.{ℕ, zero, suc, ◌+◌, ◌*◌, ◌-◌, ◌/◌, ◌%◌, ◌^◌, ◌≤◌, ◌<◌}
 use native.Mathlib.Omega.{arith}
 use native.Mathlib.Nat.{not-suc-le-zero, le_of_suc-le-suc, add-zero}
@@ -19,7 +20,7 @@ use Rattle.spec.proofs.Lists.{any_append}
 use Rattle.spec.specs.Tests.{◌is◌, ◌above◌, within, ◌⇒◌else◌, any, has}
 use Rattle.spec.specs.Numbers.{arg_limit, le, le_bytes, bytes_from, SetupOk}
 use Rattle.spec.specs.Frames.{Cell, Mem}
-use Rattle.spec.specs.Access.{cell_ok, ◌names◌else◌, access, byte_of, bytes_at, rewrite, write, Str, longer, copy_str}
+use Rattle.spec.specs.Access.{cell_ok, ◌names◌else◌, access, byte_of, bytes_at, rewrite, write, Str, longer, copy_str, Checked}
 use Rattle.spec.specs.Program.{Program}
 use Rattle.spec.specs.Image.{program_of}
 use Rattle.spec.specs.Exec.{loaded, args_of, strings, stack_size, args_error, strings_at, argv_at, registers, pointers, push_access, pushed, Argv, bad, over, read, args_read, arg_buffer, argv_from, copy_argv}
@@ -27,8 +28,6 @@ use Rattle.spec.specs.Machine.{start, replace, push, Machine, run}
 use Rattle.spec.specs.History.{ArgsAt, ArgsRead}
 use Rattle.spec.specs.declared.Setup.{Setup}
 use Rattle.spec.specs.declared.Form.{Form}
-use Rattle.spec.specs.declared.Checked.{Checked}
-use Rattle.spec.specs.declared.Checked.TheVariants.{Fine}
 
 -- ---- writes
 
@@ -77,35 +76,35 @@ le-bytes s h = omega arith
 -- ---- one string
 
 -- the two turns of a string copy, over tests that are variables
-first-turn : (t : Checked) (z : Bool) (u : ℕ → Str) (v w : Str) → t ≡ Fine → z ≡ true → (t names u else z ⇒ v else w) ≡ v
+first-turn : (t : Checked) (z : Bool) (u : ℕ → Str) (v w : Str) → t ≡ Ok tt → z ≡ true → (t names u else z ⇒ v else w) ≡ v
 first-turn t z u v w e f = rw (e, f)
 
-next-turn : (t : Checked) (z : Bool) (u : ℕ → Str) (v w : Str) → t ≡ Fine → z ≡ false → (t names u else z ⇒ v else w) ≡ w
+next-turn : (t : Checked) (z : Bool) (u : ℕ → Str) (v w : Str) → t ≡ Ok tt → z ≡ false → (t names u else z ⇒ v else w) ≡ w
 next-turn t z u v w e f = rw (e, f)
 
 module _ (setup : Setup) where
-  first-is : (mem : Mem) (d : ℕ) (dst : List ℕ) (p : ℕ) → access setup mem false p 1 ≡ Fine → byte_of (mem p) ≡ 0
-      → copy_str setup mem (d ∷ dst) p ≡ record { access = Fine; size = 0; buffer = d ∷ dst }
+  first-is : (mem : Mem) (d : ℕ) (dst : List ℕ) (p : ℕ) → access setup mem false p 1 ≡ Ok tt → byte_of (mem p) ≡ 0
+      → copy_str setup mem (d ∷ dst) p ≡ record { access = Ok tt; size = 0; buffer = d ∷ dst }
   first-is mem d dst p r z = first-turn (access setup mem false p 1) (byte_of (mem p) is 0) _ _ _ r (eq-eqb _ _ z)
 
-  next-is : (mem : Mem) (x : ℕ) (xs : List ℕ) (d : ℕ) (dst : List ℕ) (p : ℕ) → access setup mem false p 1 ≡ Fine → byte_of (mem p) ≡ x → (x is 0) ≡ false
-      → copy_str setup mem dst (p + 1) ≡ record { access = Fine; size = length xs; buffer = xs ++ drop (length xs) dst }
-      → copy_str setup mem (d ∷ dst) p ≡ record { access = Fine; size = suc (length xs); buffer = x ∷ xs ++ drop (length xs) dst }
+  next-is : (mem : Mem) (x : ℕ) (xs : List ℕ) (d : ℕ) (dst : List ℕ) (p : ℕ) → access setup mem false p 1 ≡ Ok tt → byte_of (mem p) ≡ x → (x is 0) ≡ false
+      → copy_str setup mem dst (p + 1) ≡ record { access = Ok tt; size = length xs; buffer = xs ++ drop (length xs) dst }
+      → copy_str setup mem (d ∷ dst) p ≡ record { access = Ok tt; size = suc (length xs); buffer = x ∷ xs ++ drop (length xs) dst }
   next-is mem x xs d dst p r b n e =
       next-turn (access setup mem false p 1) (byte_of (mem p) is 0) _ _ _ r (ap (λ (y : ℕ). y is 0) b ∙ n)
-      ∙ ap₂ {C = Str} longer b e ∙ ap (λ (k : ℕ). record { access = Fine; size = k; buffer = x ∷ xs ++ drop (length xs) dst }) (add-one (length xs))
+      ∙ ap₂ {C = Str} longer b e ∙ ap (λ (k : ℕ). record { access = Ok tt; size = k; buffer = x ∷ xs ++ drop (length xs) dst }) (add-one (length xs))
 
   copy_is : (mem : Mem) (a dst : List ℕ) (p : ℕ) → has 0 a ≡ false → length a < length dst
-      → ((j : ℕ) → j ≤ length a → access setup mem false (p + j) 1 ≡ Fine)
+      → ((j : ℕ) → j ≤ length a → access setup mem false (p + j) 1 ≡ Ok tt)
       → ((j : ℕ) → j < length a → byte_of (mem (p + j)) ≡ get_or a j 0) → byte_of (mem (p + length a)) ≡ 0
-      → copy_str setup mem dst p ≡ record { access = Fine; size = length a; buffer = a ++ drop (length a) dst }
+      → copy_str setup mem dst p ≡ record { access = Ok tt; size = length a; buffer = a ++ drop (length a) dst }
   copy_is mem a [] p n l r b z = absurd (not-suc-le-zero l)
   copy_is mem [] (d ∷ dst) p n l r b z =
-      let r₀ : access setup mem false p 1 ≡ Fine = rw (add-zero p) at (r 0 (omega arith)) in
+      let r₀ : access setup mem false p 1 ≡ (Ok tt) = rw (add-zero p) at (r 0 (omega arith)) in
       let z₀ : byte_of (mem p) ≡ 0 = rw (add-zero p) at z in
       first-is mem d dst p r₀ z₀
   copy_is mem (x ∷ xs) (d ∷ dst) p n l r b z =
-      let r₀ : access setup mem false p 1 ≡ Fine = rw (add-zero p) at (r 0 (omega arith)) in
+      let r₀ : access setup mem false p 1 ≡ (Ok tt) = rw (add-zero p) at (r 0 (omega arith)) in
       let b₀ : byte_of (mem p) ≡ x = rw (add-zero p) at (b 0 (omega arith)) in
       let nx = neither (x is 0) (has 0 xs) n in
       next-is mem x xs d dst p r₀ b₀ nx.0 (copy_is mem xs dst (p + 1) nx.1 (le_of_suc-le-suc l)
@@ -120,20 +119,20 @@ abbrev next_ptr : ℕ → List (List ℕ) → ℕ
 next_ptr p [] = 0
 next_ptr p (a ∷ args) = p
 
-turn_end : (t : Checked) (z : Bool) (w : Checked) (f g : Bool) (v r : Argv) → t ≡ Fine → z ≡ true
+turn_end : (t : Checked) (z : Bool) (w : Checked) (f g : Bool) (v r : Argv) → t ≡ Ok tt → z ≡ true
     → (t names bad else z ⇒ v else w names bad else f ⇒ over else g ⇒ over else r) ≡ v
 turn_end t z w f g v r e₁ e₂ = rw (e₁, e₂)
 
-turn-next : (t : Checked) (z : Bool) (w : Checked) (f g : Bool) (v r : Argv) → t ≡ Fine → z ≡ false → w ≡ Fine → f ≡ false → g ≡ false
+turn-next : (t : Checked) (z : Bool) (w : Checked) (f g : Bool) (v r : Argv) → t ≡ Ok tt → z ≡ false → w ≡ Ok tt → f ≡ false → g ≡ false
     → (t names bad else z ⇒ v else w names bad else f ⇒ over else g ⇒ over else r) ≡ r
 turn-next t z w f g v r e₁ e₂ e₃ e₄ e₅ = rw (e₁, e₂, e₃, e₄, e₅)
 
 module _ (setup : Setup) where
   module _ (mem : Mem) (A S : ℕ) (args : List (List ℕ))
-      (ptr_ok : (i : ℕ) → i ≤ length args → access setup mem false (A + 8 * i) 8 ≡ Fine)
+      (ptr_ok : (i : ℕ) → i ≤ length args → access setup mem false (A + 8 * i) 8 ≡ Ok tt)
       (ptr : (before rest : List (List ℕ)) → args ≡ before ++ rest → le 8 (bytes_at mem (A + 8 * length before) 8) 0 ≡ next_ptr (S + length (strings before)) rest)
       (str : (before : List (List ℕ)) (a : List ℕ) (ys : List (List ℕ)) → args ≡ before ++ a ∷ ys
-      → copy_str setup mem (arg_buffer setup) (S + length (strings before)) ≡ record { access = Fine; size = length a; buffer = a ++ drop (length a) (arg_buffer setup) })
+      → copy_str setup mem (arg_buffer setup) (S + length (strings before)) ≡ record { access = Ok tt; size = length a; buffer = a ++ drop (length a) (arg_buffer setup) })
       (pos : 1 ≤ S) (fit : stack_size (length (strings args)) (length args) ≤ arg_limit setup) where
     go : (rest before : List (List ℕ)) (turns : ℕ) → args ≡ before ++ rest → length rest < turns → argv_from setup mem A before turns ≡ read args
     go [] before zero e l = absurd (not-suc-le-zero l)
@@ -154,7 +153,7 @@ module _ (setup : Setup) where
         let p : ℕ = S + length (strings before) in
         let s : ℕ = le 8 (bytes_at mem (A + 8 * length before) 8) 0 in
         let es : s ≡ p = ptr before (a ∷ ys) e in
-        let st : copy_str setup mem (arg_buffer setup) s ≡ record { access = Fine; size = length a; buffer = a ++ drop (length a) (arg_buffer setup) } = ap (copy_str setup mem (arg_buffer setup)) es ∙ str before a ys e in
+        let st : copy_str setup mem (arg_buffer setup) s ≡ record { access = Ok tt; size = length a; buffer = a ++ drop (length a) (arg_buffer setup) } = ap (copy_str setup mem (arg_buffer setup)) es ∙ str before a ys e in
         let ta : take (copy_str setup mem (arg_buffer setup) s).size (copy_str setup mem (arg_buffer setup) s).buffer ≡ a =
         ap (λ (q : Str). take q.size q.buffer) st ∙ take_at a (drop (length a) (arg_buffer setup)) (length a) refl in
         let l₁ : length (strings args) ≡ length (strings (before ++ a ∷ [])) + length (strings ys) = ap (λ (x : List (List ℕ)). length (strings x)) n ∙ ap length (strings-append (before ++ a ∷ []) ys) ∙ length-append (strings (before ++ a ∷ [])) (strings ys) in
@@ -207,7 +206,7 @@ module _ (setup : Setup) (ok : SetupOk setup) where
     kept : (w : Bool) (a : ℕ) → cell_ok w (pushed top args mem a) ≡ cell_ok w (mem a)
     kept w a = write-ok w (argv_at top args) (pointers (strings_at top args) args) (write (strings_at top args) (strings args) mem) a ∙ write-ok w (strings_at top args) (strings args) mem a
 
-    part : (addr len b k : ℕ) → Writable setup mem addr len → 1 ≤ k → addr ≤ b → b + k ≤ addr + len → access setup (pushed top args mem) false b k ≡ Fine
+    part : (addr len b k : ℕ) → Writable setup mem addr len → 1 ≤ k → addr ≤ b → b + k ≤ addr + len → access setup (pushed top args mem) false b k ≡ Ok tt
     part addr len b k r h l u =
         fine-all setup (pushed top args mem) false b k (omega (arith, (r (b + k - 1) (omega arith) (omega arith)).0))
         (λ a x y. kept false a ∙ weak (mem a) (r a (omega arith) (omega arith)).1)
@@ -242,7 +241,7 @@ module _ (setup : Setup) (ok : SetupOk setup) where
             omega (arith, ok, (may.strings-at (strings_at top args + length (strings args) - 1) (omega (arith, length-string a r)) (omega (arith, length-string a r))).0)
 
     strs : any (has 0) args ≡ false → stack_size (length (strings args)) (length args) ≤ arg_limit setup → (before : List (List ℕ)) (a : List ℕ) (ys : List (List ℕ)) → args ≡ before ++ a ∷ ys
-        → copy_str setup (pushed top args mem) (arg_buffer setup) (strings_at top args + length (strings before)) ≡ record { access = Fine; size = length a; buffer = a ++ drop (length a) (arg_buffer setup) }
+        → copy_str setup (pushed top args mem) (arg_buffer setup) (strings_at top args + length (strings before)) ≡ record { access = Ok tt; size = length a; buffer = a ++ drop (length a) (arg_buffer setup) }
     unfolding arg_buffer
     strs nul fit before a ys e =
         let m : length (strings args) ≡ length (strings before) + length (strings (a ∷ ys)) = ap (λ (x : List (List ℕ)). length (strings x)) e ∙ ap length (strings-append before (a ∷ ys)) ∙ length-append (strings before) (strings (a ∷ ys)) in
@@ -271,7 +270,7 @@ module _ (setup : Setup) (ok : SetupOk setup) where
   near pc top args h e low = let size = (args-means setup args e).1 in (omega arith, omega arith)
 
   -- what a push leaves
-  pub args_at : (mem : Mem) (pc top : ℕ) (args : List (List ℕ)) → top % 16 ≡ 0 → args_error setup args ≡ 0 → push_access setup mem top args ≡ Fine
+  pub args_at : (mem : Mem) (pc top : ℕ) (args : List (List ℕ)) → top % 16 ≡ 0 → args_error setup args ≡ 0 → push_access setup mem top args ≡ Ok tt
       → ArgsAt setup (pushed top args mem) top args (registers pc top args)
   args_at mem pc top args h e p =
       let may = push-means setup mem top args p in
@@ -283,7 +282,7 @@ module _ (setup : Setup) (ok : SetupOk setup) where
 pub record Stacked (setup : Setup) (program : Program) (args : List (List ℕ)) : Type 0 where
   pub accepted : SetupOk setup
   pub fit : args_error setup args ≡ 0
-  pub room : push_access setup (loaded setup program) setup.ustktop args ≡ Fine
+  pub room : push_access setup (loaded setup program) setup.ustktop args ≡ Ok tt
 
 module _ (m : Machine) (pc : ℕ) where
   pub start-args : (form : Form) (image name bytes lengths : List ℕ) → Stacked m.setup (program_of m.setup form image) (args_of bytes lengths)
@@ -295,6 +294,6 @@ module _ (m : Machine) (pc : ℕ) where
   replace-args form image name argv s = args_at m.setup s.accepted (loaded m.setup (program_of m.setup form image)) pc m.setup.ustktop (args_read (copy_argv m.setup m.mem argv)) (omega (arith, s.accepted)) s.fit s.room
 
   pub push-args : SetupOk m.setup → (top : ℕ) (bytes lengths : List ℕ)
-      → top % 16 ≡ 0 → args_error m.setup (args_of bytes lengths) ≡ 0 → push_access m.setup m.mem top (args_of bytes lengths) ≡ Fine
+      → top % 16 ≡ 0 → args_error m.setup (args_of bytes lengths) ≡ 0 → push_access m.setup m.mem top (args_of bytes lengths) ≡ Ok tt
       → ArgsRead m (push pc top bytes lengths) (run m (push pc top bytes lengths)).mem (registers pc top (args_of bytes lengths))
   push-args ok top bytes lengths = args_at m.setup ok m.mem pc top (args_of bytes lengths)

@@ -1,14 +1,12 @@
 -- Item 3, uaccess.rs: a process's access to its own memory. What is asked is what stands at each address, whether in frames or in
 -- the plain machine.
 -- Assumes nothing.
-use Rattle.std.specs.Prelude.{ℕ, zero, suc, ◌+◌, ◌-◌, ◌≤◌, ◌<◌, min, ◌≡◌, Bool, true, false, List, [], ◌∷◌, length, get_or}
+use Rattle.std.specs.Prelude.{ℕ, zero, suc, ◌+◌, ◌-◌, ◌≤◌, ◌<◌, min, ◌≡◌, Bool, true, false, List, [], ◌∷◌, length, get_or, Result, Ok, Err}
 use Rattle.std.proofs.Math.Option.{Option, none, some}
 use Rattle.spec.specs.Tests.{◌is◌, ◌above◌, within, ◌⇒◌else◌}
 use Rattle.spec.specs.Frames.{Cell, Mem}
 use Rattle.spec.specs.Numbers.{bytes_from}
 use Rattle.spec.specs.declared.Setup.{Setup}
-use Rattle.spec.specs.declared.Checked.{Checked}
-use Rattle.spec.specs.declared.Checked.TheVariants.{Fine, Bad}
 
 -- a page is mapped, and is data for writing
 abbrev pub cell_ok : Bool → Option Cell → Bool
@@ -16,26 +14,30 @@ cell_ok write none = false
 cell_ok true (some c) = c.perm is 3
 cell_ok false (some c) = true
 
+-- what a check comes to: every byte can be accessed, or the address of one that can't
+abbrev pub Checked : Type 0
+Checked = Result (Unit {0}) ℕ
+
 -- what follows a check: an answer by the bad address, or the rest
 infixr 20 ◌names◌else◌
 abbrev pub ◌names◌else◌ : {A : Type 0} → Checked → (ℕ → A) → A → A
-Fine names f else rest = rest
-Bad address names f else rest = f address
+(Ok _) names f else rest = rest
+Err address names f else rest = f address
 
 -- the lowest of k byte addresses from a on whose page isn't mapped, or isn't data for writing
 abbrev pub lowest_bad : Mem → Bool → ℕ → ℕ → Checked
-lowest_bad mem write a zero = Fine
-lowest_bad mem write a (suc k) = cell_ok write (mem a) ⇒ lowest_bad mem write (a + 1) k else Bad a
+lowest_bad mem write a zero = Ok tt
+lowest_bad mem write a (suc k) = cell_ok write (mem a) ⇒ lowest_bad mem write (a + 1) k else Err a
 
 -- `user_range_ok` (request 4): a range that starts above the top, UADDRTOP, is bad at its own start, empty or not; otherwise it is bad at
 -- the lowest byte address below the top that can't be accessed; otherwise, where it reaches past the top, at the top. An empty range
 -- that starts at or below the top passes.
 unfoldable pub access : Setup → Mem → Bool → ℕ → ℕ → Checked
 access setup mem write addr len =
-    addr above setup.uaddrtop ⇒ Bad addr else
-    lowest_bad mem write addr (min len (setup.uaddrtop - addr)) names Bad else
-    addr + len above setup.uaddrtop ⇒ Bad setup.uaddrtop else
-    Fine
+    addr above setup.uaddrtop ⇒ Err addr else
+    lowest_bad mem write addr (min len (setup.uaddrtop - addr)) names Err else
+    addr + len above setup.uaddrtop ⇒ Err setup.uaddrtop else
+    Ok tt
 
 -- no address is named
 abbrev pub user_range_ok : Setup → Mem → Bool → ℕ → ℕ → Bool
@@ -61,8 +63,8 @@ pub record Passed (setup : Setup) (mem : Mem) (write : Bool) (addr len : ℕ) : 
 
 -- that is what the rule names, and what it passes
 pub record AccessMeans : Type 0 where
-  pub named : (setup : Setup) (mem : Mem) (write : Bool) (addr len address : ℕ) → access setup mem write addr len ≡ Bad address → Lowest setup mem write addr len address
-  pub passed : (setup : Setup) (mem : Mem) (write : Bool) (addr len : ℕ) → access setup mem write addr len ≡ Fine → Passed setup mem write addr len
+  pub named : (setup : Setup) (mem : Mem) (write : Bool) (addr len address : ℕ) → access setup mem write addr len ≡ Err address → Lowest setup mem write addr len address
+  pub passed : (setup : Setup) (mem : Mem) (write : Bool) (addr len : ℕ) → access setup mem write addr len ≡ Ok tt → Passed setup mem write addr len
 
 -- the bytes that `copy_from_user` gives
 abbrev pub byte_of : Option Cell → ℕ
@@ -92,9 +94,9 @@ longer byte s = record { access = s.access; size = s.size + 1; buffer = byte ∷
 -- it copies up to a NUL, which isn't stored, and leaves the rest of the buffer unchanged; with no NUL the length is the buffer's;
 -- on a bad page the bytes before it stay copied
 abbrev pub copy_str : Setup → Mem → List ℕ → ℕ → Str
-copy_str setup mem [] a = record { access = Fine; size = 0; buffer = [] }
+copy_str setup mem [] a = record { access = Ok tt; size = 0; buffer = [] }
 copy_str setup mem (d ∷ dst) a =
     let more : Str = longer (byte_of (mem a)) (copy_str setup mem dst (a + 1)) in
-    access setup mem false a 1 names (λ address. record { access = Bad address; size = 0; buffer = d ∷ dst }) else
-    byte_of (mem a) is 0 ⇒ record { access = Fine; size = 0; buffer = d ∷ dst } else
+    access setup mem false a 1 names (λ address. record { access = Err address; size = 0; buffer = d ∷ dst }) else
+    byte_of (mem a) is 0 ⇒ record { access = Ok tt; size = 0; buffer = d ∷ dst } else
     more

@@ -1,13 +1,13 @@
 -- Item 5, exec.rs: layout, segments, the contents of pages, and arguments. It says what a program's memory is to be before it first
 -- runs; how it comes into frames is in World.
 -- Assumes nothing.
-use Rattle.std.specs.Prelude.{ℕ, zero, suc, ◌+◌, ◌*◌, ◌-◌, ◌/◌, Bool, true, false, not, ◌&&◌, ◌||◌, List, [], ◌∷◌, ◌++◌, map, length, take, drop, get_or, replicate}
+use Rattle.std.specs.Prelude.{ℕ, zero, suc, ◌+◌, ◌*◌, ◌-◌, ◌/◌, Bool, true, false, not, ◌&&◌, ◌||◌, List, [], ◌∷◌, ◌++◌, map, length, take, drop, get_or, replicate, Ok, Err}
 use Rattle.std.proofs.Math.Option.{Option, none, some}
 use Rattle.spec.specs.Tests.{◌is◌, ◌isnt◌, ◌below◌, ◌above◌, ◌⇒◌else◌, any, has, filter}
 use Rattle.spec.specs.Numbers.{limit, arg_limit, page_up, page_down, le, le_bytes}
 use Rattle.spec.specs.Book.{range, segment, stack, bss_segment, perm_at}
 use Rattle.spec.specs.Frames.{Cell, Mem}
-use Rattle.spec.specs.Access.{◌names◌else◌, access, bytes_at, write, Str, copy_str}
+use Rattle.spec.specs.Access.{◌names◌else◌, access, bytes_at, write, Str, copy_str, Checked}
 use Rattle.spec.specs.Program.{Segment, in_file, Program}
 use Rattle.spec.specs.Image.{read_error, program_of}
 use Rattle.spec.specs.declared.Setup.{Setup}
@@ -15,8 +15,6 @@ use Rattle.spec.specs.declared.Form.{Form}
 use Rattle.spec.specs.declared.VirtRange.{VirtRange}
 use Rattle.spec.specs.declared.UserSegment.{UserSegment}
 use Rattle.spec.specs.declared.UserRegs.{UserRegs}
-use Rattle.spec.specs.declared.Checked.{Checked}
-use Rattle.spec.specs.declared.Checked.TheVariants.{Fine, Bad}
 
 -- ---- layout
 
@@ -126,12 +124,12 @@ copies s p (a ∷ args) = (s, length a) ∷ (s + length a, 1) ∷ (p, 8) ∷ cop
 
 -- the first of them that can't be written names the address
 abbrev pub first_bad : Setup → Mem → List (ℕ × ℕ) → Checked
-first_bad setup mem [] = Fine
-first_bad setup mem ((at, len) ∷ more) = access setup mem true at len names Bad else first_bad setup mem more
+first_bad setup mem [] = Ok tt
+first_bad setup mem ((at, len) ∷ more) = access setup mem true at len names Err else first_bad setup mem more
 
 -- whether it may write its strings and its pointers (request 4): a push below address 0 is bad at 0
 abbrev pub push_access : Setup → Mem → ℕ → List (List ℕ) → Checked
-push_access setup mem top args = below_zero top args ⇒ Bad 0 else first_bad setup mem (copies (strings_at top args) (argv_at top args) args)
+push_access setup mem top args = below_zero top args ⇒ Err 0 else first_bad setup mem (copies (strings_at top args) (argv_at top args) args)
 
 -- and what it leaves
 abbrev pub pushed : ℕ → List (List ℕ) → Mem → Mem

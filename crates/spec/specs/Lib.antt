@@ -10,6 +10,7 @@ pub mod Sound
 pub mod Access
 pub mod Program
 pub mod Elf
+pub mod Refusals
 pub mod Aout
 pub mod Image
 pub mod Exec

@@ -35,44 +35,12 @@ pub const RODATA: u64 = 2;
 
 pub const DATA: u64 = 3;
 
-// The numbers of refusals, but for the ELF reader's own, which are ElfError's.
-pub const SIZES: u64 = 1;
-
-pub const TORN: u64 = 2;
-
-pub const NUMBER: u64 = 3;
-
-pub const DEAD: u64 = 4;
-
-pub const TAKEN: u64 = 5;
-
-pub const SETUP_LINES: u64 = 37;
-
-pub const SETUP: u64 = 38;
-
-pub const FLAGS: u64 = 39;
-
-pub const NOT_AOUT: u64 = 42;
-
-pub const AOUT_OUT_OF_RANGE: u64 = 43;
-
-pub const EBADEXEC: u64 = 30;
-
-pub const SEGMENTS: u64 = 31;
-
-pub const EBADARG: u64 = 32;
-
-pub const ENOVMEM: u64 = 33;
-
-pub const ESOVERLAP: u64 = 34;
-
+// The number that comes with a bad address, which is told beside it.
 pub const BAD_ADDRESS: u64 = 35;
-
-pub const TOP: u64 = 36;
 
 // A range of user addresses, from `start` up to, but not including, `end`.
 #[repr(C)]
-#[derive(Clone, Copy)]
+#[derive(Clone, Copy, Debug, Default, PartialEq, Eq)]
 pub struct VirtRange {
     pub start: u64,
     pub end: u64,
@@ -80,7 +48,7 @@ pub struct VirtRange {
 
 // A segment of a process's memory: whole pages, all mapped with `perm`: 1 text, 2 rodata, 3 data, and 0 in an unused place.
 #[repr(C)]
-#[derive(Clone, Copy)]
+#[derive(Clone, Copy, Debug, Default, PartialEq, Eq)]
 pub struct UserSegment {
     pub range: VirtRange,
     pub perm: u64,
@@ -89,7 +57,7 @@ pub struct UserSegment {
 // What a process's record holds: its text, rodata, data and stack, its name, and the bss, which the break grows and shrinks.
 // All zero: no process.
 #[repr(C)]
-#[derive(Clone, Copy)]
+#[derive(Clone, Copy, Default)]
 pub struct Proc {
     pub segments: [UserSegment; 16],
     pub text: [u8; 28],
@@ -105,7 +73,7 @@ pub struct Procs {
 
 // What a program starts with: its pc and stack pointer, and argc and argv.
 #[repr(C)]
-#[derive(Clone, Copy)]
+#[derive(Clone, Copy, Debug, Default, PartialEq, Eq)]
 pub struct UserRegs {
     pub pc: u64,
     pub sp: u64,
@@ -134,25 +102,11 @@ pub enum Answer {
     EndedAt(u64),
 }
 
-// What a check of user memory comes to: every byte can be accessed, or the address of one that can't.
-#[derive(Clone, Copy)]
-pub enum Checked {
-    Fine,
-    Bad(u64),
-}
-
 // The records after a call, and its answer.
 #[derive(Clone, Copy)]
 pub struct Left {
     pub procs: Procs,
     pub answer: Answer,
-}
-
-// What a search for a frame comes to.
-#[derive(Clone, Copy)]
-pub enum Found {
-    At(usize),
-    Nothing,
 }
 
 // The form that an image is read in: ELF, or Plan 9's a.out, with the magic that is expected.
@@ -163,7 +117,7 @@ pub enum Form {
 }
 
 // Why an ELF image isn't a loadable executable, in the order of the checks: numbers 11 to 27, with 28 after 23.
-#[derive(Clone, Copy)]
+#[derive(Clone, Copy, Debug, PartialEq, Eq)]
 pub enum ElfError {
     // Shorter than an ELF header.
     Truncated,
@@ -194,4 +148,128 @@ pub enum ElfError {
     Unordered,
     // The entry point isn't in a text segment.
     EntryNotInText,
+}
+
+impl From<ElfError> for u64 {
+    ghost use Rattle.std.specs.Prelude.{◌≡◌};
+    ghost use Rattle.spec.specs.Elf.{error_number};
+
+    ghost from_gives = { λ e number. number ≡ error_number e };
+
+    // The number of an error in the table of refusals.
+    fn from(e: ElfError) -> u64 {
+        match e {
+            ElfError::Truncated => 11,
+            ElfError::BadMagic => 12,
+            ElfError::NotElf64 => 13,
+            ElfError::NotLittleEndian => 14,
+            ElfError::BadVersion => 15,
+            ElfError::NotExecutable => 16,
+            ElfError::NotAarch64 => 17,
+            ElfError::BadPhentsize => 18,
+            ElfError::MisalignedEntry => 19,
+            ElfError::PhdrsOutOfRange => 20,
+            ElfError::FileszOverMemsz => 21,
+            ElfError::SegmentOutOfRange => 22,
+            ElfError::Misaligned => 23,
+            ElfError::BadAlign => 28,
+            ElfError::Overflow => 24,
+            ElfError::BadFlags => 25,
+            ElfError::Unordered => 26,
+            ElfError::EntryNotInText => 27,
+        }
+    }
+}
+
+// Why a call, an image or a file is refused: the table of refusals but for 35, which comes with a bad address.
+#[derive(Clone, Copy, Debug, PartialEq, Eq)]
+pub enum Refusal {
+    // 1: frames and book don't have the sizes, or the lengths of arguments don't sum to their bytes.
+    Sizes,
+    // 2: book and records don't go together.
+    Torn,
+    // 3: no process has such a number.
+    Number,
+    // 4: the process doesn't live.
+    Dead,
+    // 5: the process lives already.
+    Taken,
+    // 11 to 28: the ELF reader's; an a.out is refused with two of them too.
+    Elf(ElfError),
+    // 30: the image can't be read, or its layout isn't right (EBADEXEC).
+    BadExec,
+    // 31: the image has too many segments.
+    Segments,
+    // 32: a NUL in an argument, or a break without a bss (EBADARG).
+    BadArg,
+    // 33: too large an argument, or too few free frames (ENOVMEM).
+    NoMemory,
+    // 34: the break meets the stack's guard page (ESOVERLAP).
+    Overlap,
+    // 36: the top of a push isn't 16-byte aligned.
+    Top,
+    // 37: the lines of a file of numbers.
+    SetupLines,
+    // 38: the setup's numbers.
+    SetupNumbers,
+    // 39: the flag table.
+    FlagTable,
+    // 42: not an a.out with the magic.
+    NotAout,
+    // 43: an a.out's text and data aren't all within the image.
+    AoutOutOfRange,
+}
+
+impl From<ElfError> for Refusal {
+    ghost use Rattle.std.specs.Prelude.{◌≡◌};
+    ghost use Rattle.spec.specs.declared.Refusal.{Refusal};
+
+    ghost from_gives = { λ e r. r ≡ Refusal.Elf e };
+
+    fn from(e: ElfError) -> Refusal {
+        Refusal::Elf(e)
+    }
+}
+
+impl From<Refusal> for u64 {
+    ghost use Rattle.std.specs.Prelude.{◌≡◌};
+    ghost use Rattle.spec.specs.Refusals.{refusal_number};
+
+    ghost from_gives = { λ r number. number ≡ refusal_number r };
+
+    // The number of a refusal in the table.
+    fn from(r: Refusal) -> u64 {
+        match r {
+            Refusal::Sizes => 1,
+            Refusal::Torn => 2,
+            Refusal::Number => 3,
+            Refusal::Dead => 4,
+            Refusal::Taken => 5,
+            Refusal::Elf(e) => u64::from(e),
+            Refusal::BadExec => 30,
+            Refusal::Segments => 31,
+            Refusal::BadArg => 32,
+            Refusal::NoMemory => 33,
+            Refusal::Overlap => 34,
+            Refusal::Top => 36,
+            Refusal::SetupLines => 37,
+            Refusal::SetupNumbers => 38,
+            Refusal::FlagTable => 39,
+            Refusal::NotAout => 42,
+            Refusal::AoutOutOfRange => 43,
+        }
+    }
+}
+
+impl From<Refusal> for Answer {
+    ghost use Rattle.std.specs.Prelude.{◌≡◌};
+    ghost use Rattle.spec.specs.Refusals.{refusal_number};
+    ghost use Rattle.spec.specs.declared.Answer.{Answer};
+
+    ghost from_gives = { λ r answer. answer ≡ Answer.Refused (refusal_number r) };
+
+    // Refused, and nothing changed.
+    fn from(r: Refusal) -> Answer {
+        Answer::Refused(u64::from(r))
+    }
 }

@@ -1,4 +1,5 @@
 -- What an accepted call tells, for each of the calls that change something: who lives, and that its own tests passed.
+use Rattle.std.specs.Prelude.{Ok, Err}
 use Prim.Native.Nat.{ℕ, ◌+◌, ◌*◌, ◌-◌, ◌%◌, ◌^◌, ◌≤◌}
 use native.Mathlib.Omega.{arith}
 use mathlib.Core.Path.{◌≡◌, refl, sym, ap, ◌∙◌}
@@ -11,7 +12,7 @@ use Rattle.spec.proofs.Bools.{split, both, not-true, un_not}
 use Rattle.spec.specs.Tests.{◌is◌, ◌isnt◌, ◌below◌, ◌above◌, ◌⇒◌else◌}
 use Rattle.spec.specs.Numbers.{limit, page_up}
 use Rattle.spec.specs.Book.{valid, free, alone, page_count}
-use Rattle.spec.specs.Access.{◌names◌else◌, access}
+use Rattle.spec.specs.Access.{◌names◌else◌, access, Checked}
 use Rattle.spec.specs.Program.{Program}
 use Rattle.spec.specs.Image.{program_of}
 use Rattle.spec.specs.Exec.{image_error, start_pieces, args_of, args_error, registers, push_access, Argv, bad, over, read, args_read, copy_argv}
@@ -23,8 +24,6 @@ use Rattle.spec.specs.declared.UserSegment.{UserSegment}
 use Rattle.spec.specs.declared.UserRegs.{UserRegs}
 use Rattle.spec.specs.declared.Answer.{Answer}
 use Rattle.spec.specs.declared.Answer.TheVariants.{Regs, Value, Done, Refused, Ended, EndedAt}
-use Rattle.spec.specs.declared.Checked.{Checked}
-use Rattle.spec.specs.declared.Checked.TheVariants.{Fine, Bad}
 use Rattle.spec.specs.declared.Setup.{Setup}
 use Rattle.spec.specs.declared.Form.{Form}
 use Rattle.spec_laws.proofs.Accepted.{Accepted, accepted-means}
@@ -49,9 +48,9 @@ past P true x y e h = absurd (h e)
 past P false x y e h = (refl, e)
 
 -- a check that comes to what no bad address is answered with
-pub past-check : {A : Type 0} (P : A → Type 0) (t : Checked) (f : ℕ → A) (y : A) → P (t names f else y) → ((a : ℕ) → P (f a) → ⊥) → (t ≡ Fine) × P y
-past-check P (Bad a) f y e h = absurd (h a e)
-past-check P Fine f y e h = (refl, e)
+pub past-check : {A : Type 0} (P : A → Type 0) (t : Checked) (f : ℕ → A) (y : A) → P (t names f else y) → ((a : ℕ) → P (f a) → ⊥) → (t ≡ Ok tt) × P y
+past-check P (Err a) f y e h = absurd (h a e)
+past-check P (Ok _) f y e h = (refl, e)
 
 abbrev Goes : Answer → Type 0
 Goes a = outcome_of a ≡ accepted
@@ -136,7 +135,7 @@ pub record Pushes (s : State) (n top : ℕ) (args : List (List ℕ)) : Type 0 wh
   pub living : taken s n ≡ true
   pub aligned : top % 16 ≡ 0
   pub args_fit : args_error s.setup args ≡ 0
-  pub writable : push_access s.setup (view s n).mem top args ≡ Fine
+  pub writable : push_access s.setup (view s n).mem top args ≡ Ok tt
 
 pub pushes : (s : State) → Good s → (n pc top : ℕ) (bytes lengths : List ℕ) → Accepts s n (push pc top bytes lengths) → Pushes s n top (args_of bytes lengths)
 pushes s g n pc top bytes lengths e =
@@ -161,22 +160,22 @@ pub record Moves (setup : Setup) (b : VirtRange) (addr free : ℕ) : Type 0 wher
 pub ibrk-moves : (setup : Setup) (b : VirtRange) (addr free : ℕ) → (ibrk setup (some b) addr free).error ≡ 0 → (addr ≡ 0 → ⊥) → Moves setup b addr free
 unfolding ibrk
 ibrk-moves setup b addr free e nz =
-    let Fine : Break → Type 0 = λ x. x.error ≡ 0 in
+    let Free : Break → Type 0 = λ x. x.error ≡ 0 in
     let b₆ : Break = ends_at (page_up addr) b in
     let b₅ : Break = page_up addr - b.end above 4096 * free ⇒ refused_by 33 b else b₆ in
     let b₄ : Break = page_up addr below b.end ⇒ ends_at (page_up addr) b else b₅ in
     let b₃ : Break = page_up addr above limit setup ⇒ refused_by 34 b else b₄ in
     let b₂ : Break = not (page_up addr below 2 ^ 64) ⇒ refused_by 33 b else b₃ in
     let b₁ : Break = addr below b.start ⇒ refused_by 33 b else b₂ in
-    let e₁ : Fine b₁ = rw (ne_eqb addr 0 nz) at e in
-    let p₁ = past Fine (addr below b.start) (refused_by 33 b) b₂ e₁ (λ z. omega arith) in
-    let p₂ = past Fine (not (page_up addr below 2 ^ 64)) (refused_by 33 b) b₃ p₁.1 (λ z. omega arith) in
-    let p₃ = past Fine (page_up addr above limit setup) (refused_by 34 b) b₄ p₂.1 (λ z. omega arith) in
+    let e₁ : Free b₁ = rw (ne_eqb addr 0 nz) at e in
+    let p₁ = past Free (addr below b.start) (refused_by 33 b) b₂ e₁ (λ z. omega arith) in
+    let p₂ = past Free (not (page_up addr below 2 ^ 64)) (refused_by 33 b) b₃ p₁.1 (λ z. omega arith) in
+    let p₃ = past Free (page_up addr above limit setup) (refused_by 34 b) b₄ p₂.1 (λ z. omega arith) in
     record {
       above-start = ltb-false _ _ p₁.0;
       low = ltb-false _ _ p₃.0;
       room = split (page_up addr below b.end) (λ q. let l = ltb-true (page_up addr) b.end q in omega arith)
-          (λ q. ltb-false _ _ (past Fine (page_up addr - b.end above 4096 * free) (refused_by 33 b) b₆ (rw q at p₃.1) (λ z. omega arith)).0);
+          (λ q. ltb-false _ _ (past Free (page_up addr - b.end above 4096 * free) (refused_by 33 b) b₆ (rw q at p₃.1) (λ z. omega arith)).0);
     }
 
 pub record Breaks (s : State) (n addr : ℕ) : Type 0 where
@@ -219,7 +218,7 @@ ends s g n e = let w = went s g n end e in record { number = w.number; living = 
 pub record Writes (s : State) (n dst : ℕ) (bytes : List ℕ) : Type 0 where
   pub number : valid n ≡ true
   pub living : taken s n ≡ true
-  pub writable : access s.setup (view s n).mem true dst (length bytes) ≡ Fine
+  pub writable : access s.setup (view s n).mem true dst (length bytes) ≡ Ok tt
 
 pub writes : (s : State) → Good s → (n dst : ℕ) (bytes : List ℕ) → Accepts s n (copy-to-user dst bytes) → Writes s n dst bytes
 writes s g n dst bytes e =

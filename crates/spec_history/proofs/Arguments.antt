@@ -1,4 +1,5 @@
 -- Demand 2's last sentence: registers that a call answers tell of its arguments, of any good state.
+use Rattle.std.specs.Prelude.{Ok, Err}
 use Prim.Native.Nat.{ℕ, ◌+◌, ◌*◌, ◌-◌, ◌%◌, ◌≤◌, ◌<◌}
 use native.Mathlib.Omega.{arith}
 use mathlib.Core.Path.{◌≡◌, refl, sym, ap, subst, ◌∙◌}
@@ -14,7 +15,7 @@ use Rattle.spec.proofs.ReadBack.{Stacked, start-args, replace-args, push-args}
 use Rattle.spec.specs.Tests.{◌isnt◌, ◌above◌, ◌⇒◌else◌}
 use Rattle.spec.specs.Numbers.{SetupOk}
 use Rattle.spec.specs.Book.{free, alone, stack, bss_segment, perm_at, page_count}
-use Rattle.spec.specs.Access.{cell_ok, ◌names◌else◌, access, bytes_at, Str, copy_str}
+use Rattle.spec.specs.Access.{cell_ok, ◌names◌else◌, access, bytes_at, Str, copy_str, Checked}
 use Rattle.spec.specs.Program.{Program}
 use Rattle.spec.specs.Image.{program_of}
 use Rattle.spec.specs.Exec.{image_error, program_segments, program_bss, start_pieces, file_byte, cell_of, loaded, args_of, strings, args_error, strings_at, argv_at, registers, push_access, Argv, bad, over, read, args_read, copy_argv}
@@ -28,8 +29,6 @@ use Rattle.spec.specs.declared.UserSegment.{UserSegment}
 use Rattle.spec.specs.declared.UserRegs.{UserRegs}
 use Rattle.spec.specs.declared.Answer.{Answer}
 use Rattle.spec.specs.declared.Answer.TheVariants.{Regs, Value, Done, No, Refused, Ended, RefusedAt, EndedAt}
-use Rattle.spec.specs.declared.Checked.{Checked}
-use Rattle.spec.specs.declared.Checked.TheVariants.{Fine, Bad}
 use Rattle.spec_laws.proofs.Accepted.{Accepted}
 use Rattle.spec_laws.proofs.Pieces.{Pieces, perm-tail, perm-here}
 use Rattle.spec_laws.proofs.Started.{start-apart}
@@ -99,15 +98,15 @@ no_regs t x y regs m n e = let z : shows y ≡ 1 = ap shows (past-regs t x y reg
 
 -- nor of one that a check gives
 past-check : (t : Checked) (f : ℕ → Answer) (y : Answer) (regs : UserRegs) → ((a : ℕ) → shows (f a) ≡ 0) → (t names f else y) ≡ Regs regs → y ≡ Regs regs
-past-check (Bad a) f y regs n e = absurd (let z : shows (f a) ≡ 1 = ap shows e in omega (arith, n a))
-past-check Fine f y regs n e = e
+past-check (Err a) f y regs n e = absurd (let z : shows (f a) ≡ 1 = ap shows e in omega (arith, n a))
+past-check (Ok _) f y regs n e = e
 
 no-regs-check : (t : Checked) (f : ℕ → Answer) (y : Answer) (regs : UserRegs) → ((a : ℕ) → shows (f a) ≡ 0) → shows y ≡ 0 → (t names f else y) ≡ Regs regs → ⊥
 no-regs-check t f y regs m n e = let z : shows y ≡ 1 = ap shows (past-check t f y regs m e) in omega arith
 
 pick : (t : Checked) (f : ℕ → Reply) (y : Reply) → (t names f else y).says ≡ (t names (λ a. (f a).says) else y.says)
-pick (Bad a) f y = refl
-pick Fine f y = refl
+pick (Err a) f y = refl
+pick (Ok _) f y = refl
 
 -- a replace's registers tell of the arguments that were read
 past-read : (setup : Setup) (free alone : ℕ) (program : Program) (r : Argv) (regs : UserRegs) → weigh_read setup free alone program r ≡ Regs regs

@@ -1,4 +1,5 @@
 -- Bad addresses (request 4): which answers name one, what check of the process's own memory it comes from, and that it can't be accessed.
+use Rattle.std.specs.Prelude.{Ok, Err}
 use Prim.Native.Nat.{ℕ, zero, suc, ◌+◌, ◌*◌, ◌-◌, ◌%◌, ◌^◌}
 use native.Mathlib.Omega.{arith}
 use mathlib.Core.Path.{◌≡◌, refl, sym, ap, ap₂, ◌∙◌}
@@ -13,7 +14,7 @@ use Rattle.spec.specs.Tests.{◌is◌, ◌isnt◌, ◌below◌, ◌above◌, ◌
 use Rattle.spec.specs.Numbers.{limit, arg_limit, page_up, page_down, le, setup_error}
 use Rattle.spec.specs.Book.{valid, free, frame_of, page_count}
 use Rattle.spec.specs.Frames.{Mem, cell_in, sized}
-use Rattle.spec.specs.Access.{◌names◌else◌, cell_ok, access, byte_of, bytes_at, Str, copy_str, Reached}
+use Rattle.spec.specs.Access.{◌names◌else◌, cell_ok, access, byte_of, bytes_at, Str, copy_str, Reached, Checked}
 use Rattle.spec.specs.Program.{Program}
 use Rattle.spec.specs.Image.{read_error, program_of}
 use Rattle.spec.specs.Exec.{layout_ok, program_segments, image_error, start_pieces, args_of, strings, stack_size, strings_at, argv_at, args_error, below_zero, copies, first_bad, registers, push_access, Argv, bad, over, read, arg_buffer, argv_from, copy_argv}
@@ -26,8 +27,6 @@ use Rattle.spec.specs.declared.Form.{Form}
 use Rattle.spec.specs.declared.VirtRange.{VirtRange}
 use Rattle.spec.specs.declared.Answer.{Answer}
 use Rattle.spec.specs.declared.Answer.TheVariants.{Regs, Value, Done, No, Refused, Ended, RefusedAt, EndedAt}
-use Rattle.spec.specs.declared.Checked.{Checked}
-use Rattle.spec.specs.declared.Checked.TheVariants.{Fine, Bad}
 use Rattle.spec_laws.proofs.Argv.{turn}
 use Rattle.spec_laws.proofs.Facts.{found_between}
 use Rattle.spec_history.proofs.Passed.{Good, good-setup, answered, Passed, passed-by}
@@ -46,18 +45,18 @@ named (EndedAt address) = some address
 
 -- what reading arguments comes to, as a check
 abbrev pub reading_args : Argv → Checked
-reading_args (bad address) = Bad address
-reading_args over = Fine
-reading_args (read args) = Fine
+reading_args (bad address) = Err address
+reading_args over = Ok tt
+reading_args (read args) = Ok tt
 
 -- what each call checks of its own process's memory, and what that comes to; start, break, fork and end check none
 abbrev pub check : Machine → Ask → Checked
-check m (start form image name bytes lengths) = Fine
+check m (start form image name bytes lengths) = Ok tt
 check m (replace form image name argv) = reading_args (copy_argv m.setup m.mem argv)
 check m (push pc top bytes lengths) = push_access m.setup m.mem top (args_of bytes lengths)
-check m (break addr) = Fine
-check m (fork child segments) = Fine
-check m end = Fine
+check m (break addr) = Ok tt
+check m (fork child segments) = Ok tt
+check m end = Ok tt
 check m (user-range-ok addr len write) = access m.setup m.mem write addr len
 check m (copy-from-user buffer src) = access m.setup m.mem false src (length buffer)
 check m (copy-to-user dst bytes) = access m.setup m.mem true dst (length bytes)
@@ -98,23 +97,23 @@ past : (t : Bool) (x y : Answer) (a : ℕ) → named x ≡ none → named (t ⇒
 past true x y a n e = none_named a (sym n ∙ e)
 past false x y a n e = e
 
-checked : {A : Type 0} (says : A → Answer) (t : Checked) (f : ℕ → A) (y : A) (a : ℕ) → ((b : ℕ) → named (says (f b)) ≡ some b) → named (says y) ≡ none → named (says (t names f else y)) ≡ some a → t ≡ Bad a
-checked says Fine f y a h n e = none_named a (sym n ∙ e)
-checked says (Bad b) f y a h n e = let z : some b ≡ some a = sym (h b) ∙ e in let w : b ≡ a = cc in ap Bad w
+checked : {A : Type 0} (says : A → Answer) (t : Checked) (f : ℕ → A) (y : A) (a : ℕ) → ((b : ℕ) → named (says (f b)) ≡ some b) → named (says y) ≡ none → named (says (t names f else y)) ≡ some a → t ≡ Err a
+checked says (Ok _) f y a h n e = none_named a (sym n ∙ e)
+checked says (Err b) f y a h n e = let z : some b ≡ some a = sym (h b) ∙ e in let w : b ≡ a = cc in ap Err w
 
 -- what a call that names an address asks and answers
 pub record Names (m : Machine) (f al : ℕ) (q : Ask) (a : ℕ) : Type 0 where
   pub own : kind q ≡ plain
-  pub by : check m q ≡ Bad a
+  pub by : check m q ≡ Err a
   pub whatever-is-free : (g bl : ℕ) → weigh m g bl q ≡ weigh m f al q
 
 replace-names : (setup : Setup) (f al error : ℕ) (program : Program) (r : Argv) (a : ℕ) → named (weigh_replace setup f al error program r) ≡ some a
-    → (reading_args r ≡ Bad a) × ((g bl : ℕ) → weigh_replace setup g bl error program r ≡ weigh_replace setup f al error program r)
+    → (reading_args r ≡ Err a) × ((g bl : ℕ) → weigh_replace setup g bl error program r ≡ weigh_replace setup f al error program r)
 replace-names setup f al error program r a e = go r (past (error isnt 0) (Refused error) (weigh_read setup f al program r) a refl e)
   where
     go : (r : Argv) → named (weigh_read setup f al program r) ≡ some a
-        → (reading_args r ≡ Bad a) × ((g bl : ℕ) → weigh_replace setup g bl error program r ≡ weigh_replace setup f al error program r)
-    go (bad b) e = let z : b ≡ a = cc in (ap Bad z, λ g bl. refl)
+        → (reading_args r ≡ Err a) × ((g bl : ℕ) → weigh_replace setup g bl error program r ≡ weigh_replace setup f al error program r)
+    go (bad b) e = let z : b ≡ a = cc in (ap Err z, λ g bl. refl)
     go over e = none_named a e
     go (read args) e = none_named a (past (page_count (start_pieces setup program) above al + f) (Ended 33) (Regs (registers program.entry setup.ustktop args)) a refl e)
 
@@ -167,41 +166,41 @@ named-passed s g c a e =
 
 -- ---- and it can't be accessed
 
-not-bad : {P : Type 0} (a : ℕ) → Fine ≡ Bad a → P
+not-bad : {P : Type 0} (a : ℕ) → ◌≡◌ {A = Checked} (Ok tt) (Err a) → P
 not-bad a e = absurd (let z : ◌≡◌ {A = ℕ} 0 1 = cc in omega arith)
 
-bad-is : (a b : ℕ) → Bad b ≡ Bad a → b ≡ a
+bad-is : (a b : ℕ) → ◌≡◌ {A = Checked} (Err b) (Err a) → b ≡ a
 bad-is a b e = cc
 
 module _ (setup : Setup) (mem : Mem) where
   abbrev Unreached : Bool → ℕ → Type 0
   Unreached w a = Reached setup mem w a → ⊥
 
-  range-unreached : (w : Bool) (addr len a : ℕ) → access setup mem w addr len ≡ Bad a → Unreached w a
+  range-unreached : (w : Bool) (addr len a : ℕ) → access setup mem w addr len ≡ Err a → Unreached w a
   range-unreached w addr len a e = (access-means.named setup mem w addr len a e).unreached
 
-  string-unreached : (dst : List ℕ) (p a : ℕ) → (copy_str setup mem dst p).access ≡ Bad a → Unreached false a
+  string-unreached : (dst : List ℕ) (p a : ℕ) → (copy_str setup mem dst p).access ≡ Err a → Unreached false a
   string-unreached [] p a e = not-bad a e
   string-unreached (d ∷ dst) p a e =
       either (access setup mem false p 1)
       (λ q. split (byte_of (mem p) is 0) (λ z. not-bad a (rw (q, z) at e)) (λ z. string-unreached dst (p + 1) a (rw (q, z) at e)))
       (λ b q. range-unreached false p 1 a (q ∙ (rw q at e)))
 
-  copies-unreached : (l : List (ℕ × ℕ)) (a : ℕ) → first_bad setup mem l ≡ Bad a → Unreached true a
+  copies-unreached : (l : List (ℕ × ℕ)) (a : ℕ) → first_bad setup mem l ≡ Err a → Unreached true a
   copies-unreached [] a e = not-bad a e
   copies-unreached ((at, len) ∷ l) a e =
       either (access setup mem true at len) (λ q. copies-unreached l a (rw q at e)) (λ b q. range-unreached true at len a (q ∙ (rw q at e)))
 
-  turn-unreached : (t : Checked) (z : Bool) (w : Checked) (f g : Bool) (before : List (List ℕ)) (more : Argv) (a : ℕ) → (t ≡ Bad a → Unreached false a) → (w ≡ Bad a → Unreached false a)
-      → (reading_args more ≡ Bad a → Unreached false a) → reading_args (turn t z w f g before more) ≡ Bad a → Unreached false a
-  turn-unreached (Bad b) z w f g before more a p s m e = p e
-  turn-unreached Fine true w f g before more a p s m e = not-bad a e
-  turn-unreached Fine false (Bad b) f g before more a p s m e = s e
-  turn-unreached Fine false Fine true g before more a p s m e = not-bad a e
-  turn-unreached Fine false Fine false true before more a p s m e = not-bad a e
-  turn-unreached Fine false Fine false false before more a p s m e = m e
+  turn-unreached : (t : Checked) (z : Bool) (w : Checked) (f g : Bool) (before : List (List ℕ)) (more : Argv) (a : ℕ) → (t ≡ Err a → Unreached false a) → (w ≡ Err a → Unreached false a)
+      → (reading_args more ≡ Err a → Unreached false a) → reading_args (turn t z w f g before more) ≡ Err a → Unreached false a
+  turn-unreached (Err b) z w f g before more a p s m e = p e
+  turn-unreached (Ok _) true w f g before more a p s m e = not-bad a e
+  turn-unreached (Ok _) false (Err b) f g before more a p s m e = s e
+  turn-unreached (Ok _) false (Ok _) true g before more a p s m e = not-bad a e
+  turn-unreached (Ok _) false (Ok _) false true before more a p s m e = not-bad a e
+  turn-unreached (Ok _) false (Ok _) false false before more a p s m e = m e
 
-  args-unreached : (argv turns : ℕ) (before : List (List ℕ)) (a : ℕ) → reading_args (argv_from setup mem argv before turns) ≡ Bad a → Unreached false a
+  args-unreached : (argv turns : ℕ) (before : List (List ℕ)) (a : ℕ) → reading_args (argv_from setup mem argv before turns) ≡ Err a → Unreached false a
   args-unreached argv zero before a e = not-bad a e
   args-unreached argv (suc turns) before a e =
       let at : ℕ = argv + 8 * length before in
@@ -212,14 +211,14 @@ module _ (setup : Setup) (mem : Mem) where
       (range-unreached false at 8 a) (string-unreached (arg_buffer setup) p a) (args-unreached argv turns args a) e
 
   -- of one byte the check names it
-  pub one-no : (w : Bool) (a : ℕ) → Unreached w a → access setup mem w a 1 ≡ Bad a
+  pub one-no : (w : Bool) (a : ℕ) → Unreached w a → access setup mem w a 1 ≡ Err a
   one-no w a h =
       either (access setup mem w a 1)
       (λ q. absurd (h ((access-means.passed setup mem w a 1 q).each a (omega arith) (omega arith))))
-      (λ b q. q ∙ ap Bad (one-bad setup mem w a b q))
+      (λ b q. q ∙ ap Err (one-bad setup mem w a b q))
 
 -- where no page is at 0, which a push below 0 names
-pub check-unreached : (m : Machine) (q : Ask) (a : ℕ) → m.mem 0 ≡ none → check m q ≡ Bad a → Unreached m.setup m.mem (to_write q) a
+pub check-unreached : (m : Machine) (q : Ask) (a : ℕ) → m.mem 0 ≡ none → check m q ≡ Err a → Unreached m.setup m.mem (to_write q) a
 unfolding copy_argv
 check-unreached m (start form image name bytes lengths) a z e = not-bad a e
 check-unreached m (replace form image name argv) a z e = args-unreached m.setup m.mem argv (arg_limit m.setup) [] a e
@@ -259,8 +258,8 @@ choose P true x y p q = p
 choose P false x y p q = q
 
 choose-check : {A : Type 0} (P : A → Type 0) (t : Checked) (f : ℕ → A) (y : A) → ((a : ℕ) → P (f a)) → P y → P (t names f else y)
-choose-check P (Bad a) f y p q = p a
-choose-check P Fine f y p q = q
+choose-check P (Err a) f y p q = p a
+choose-check P (Ok _) f y p q = q
 
 quiet : (k : ℕ) → Other k → Tells (Refused k)
 quiet k o e = absurd (o e)

@@ -14,14 +14,13 @@ use Rattle.spec.specs.Numbers.{page_down}
 use Rattle.spec.specs.Book.{valid, frame_of, lives, used, perm_at, pieces, proc_at}
 use Rattle.spec.specs.Sound.{Sound}
 use Rattle.spec.specs.Frames.{cell_in}
-use Rattle.spec.specs.Access.{cell_ok, ◌names◌else◌, access, byte_of, bytes_at}
+use Rattle.spec.specs.Access.{cell_ok, ◌names◌else◌, access, byte_of, bytes_at, Checked}
 use Rattle.spec.specs.Machine.{copy-from-user, Call, Reply, outcome, refuse, judge, Machine, off}
 use Rattle.spec.specs.World.{State, taken, view, given, readable}
 use Rattle.spec.specs.History.{Begin, byte_in, held, held_perm}
 use Rattle.spec.specs.declared.UserSegment.{UserSegment}
 use Rattle.spec.specs.declared.Proc.{Proc}
 use Rattle.spec.specs.declared.Answer.TheVariants.{Done, EndedAt}
-use Rattle.spec.specs.declared.Checked.{Checked}
 use Rattle.spec_laws.proofs.Frame.{Fits, sized-fits, mem-perm}
 use Rattle.spec_laws.proofs.Record.{Whole, typed-whole, dead-zero}
 use Rattle.spec_laws.proofs.Shape.{shape-used}

@@ -1,6 +1,7 @@
 -- What a program's author asks: whose bytes a call changes, what a child, a start and a moved break find, where a program's arguments
 -- are, which starts fit, and what a bad address that is named tells.
 -- Of any good state, and so after any list of calls.
+use Rattle.std.specs.Prelude.{Err}
 use Prim.Native.Nat.{ℕ, ◌+◌, ◌-◌, ◌≤◌, ◌<◌}
 use native.Mathlib.Omega.{arith}
 use mathlib.Core.Path.{◌≡◌, refl, sym, ap, ◌∙◌}
@@ -15,7 +16,7 @@ use Rattle.spec.proofs.Bools.{clash, neither, not-true, not-above, not-false, wi
 use Rattle.spec.specs.Tests.{◌is◌, ◌isnt◌, ◌above◌, within, ◌⇒◌else◌, any, same, sum}
 use Rattle.spec.specs.Numbers.{arg_limit, page_up}
 use Rattle.spec.specs.Book.{valid, free, alone, same_segment, perm_at, page_count}
-use Rattle.spec.specs.Access.{◌names◌else◌, access}
+use Rattle.spec.specs.Access.{◌names◌else◌, access, Checked}
 use Rattle.spec.specs.Program.{Segment, in_file, Program}
 use Rattle.spec.specs.Image.{program_of}
 use Rattle.spec.specs.Exec.{image_error, start_pieces, file_byte, loaded, args_of, strings, args_error, strings_at, argv_at, registers, pointers, pushed, args_read, copy_argv}
@@ -27,8 +28,6 @@ use Rattle.spec.specs.declared.UserSegment.{UserSegment}
 use Rattle.spec.specs.declared.UserRegs.{UserRegs}
 use Rattle.spec.specs.declared.Answer.{Answer}
 use Rattle.spec.specs.declared.Answer.TheVariants.{Regs, Value, Done, No, Refused}
-use Rattle.spec.specs.declared.Checked.{Checked}
-use Rattle.spec.specs.declared.Checked.TheVariants.{Bad}
 use Rattle.spec.specs.declared.Setup.{Setup}
 use Rattle.spec.specs.declared.Form.{Form}
 use Rattle.spec_laws.proofs.Lists.{Each}
@@ -150,7 +149,7 @@ bad-lowest s g n addr len write a e b l u =
 
 -- it comes from the process's own line alone: it is what the call's check gives over the machine fed that line. Free frames, the numbers
 -- taken and other processes' memory are nothing that the check is given
-pub bad-by-line : (s : State) → Begin s → (h : List Call) (n : ℕ) (q : Ask) (a : ℕ) → named (answer (state s h) (call n q)).says ≡ some a → check (machine s.setup (lines s h n)) q ≡ Bad a
+pub bad-by-line : (s : State) → Begin s → (h : List Call) (n : ℕ) (q : Ask) (a : ℕ) → named (answer (state s h) (call n q)).says ≡ some a → check (machine s.setup (lines s h n)) q ≡ Err a
 bad-by-line s b h n q a e =
     let l = named-lives (state s h) (good-after laws s b h) n q a e in
     ap (λ (m : Machine). check m q) (sym (seen-after laws s b h n l.number)) ∙ l.told.by

@@ -1,4 +1,5 @@
 -- Push and copy_to_user: bytes of one process written over.
+use Rattle.std.specs.Prelude.{Ok}
 use Prim.Native.Nat.{ℕ, ◌+◌, ◌*◌, ◌-◌}
 use mathlib.Core.Path.{◌≡◌, refl, sym, ◌∙◌}
 use mathlib.Core.Bool.{Bool, true, false}
@@ -14,7 +15,6 @@ use Rattle.spec.specs.Machine.{Machine, with_mem}
 use Rattle.spec.specs.World.{State, view, push_in, with_store}
 use Rattle.spec.specs.History.{perm_in}
 use Rattle.spec.specs.declared.Setup.{Setup}
-use Rattle.spec.specs.declared.Checked.TheVariants.{Fine}
 use Rattle.spec.proofs.Ranges.{access-passed}
 use Rattle.spec.proofs.Pushes.{push-means}
 use Rattle.spec.proofs.Args.{length-pointers}
@@ -39,7 +39,7 @@ perm-write a bs mem x = go (within a (a + length bs) x)
 exact-write : (m : Machine) → Exact m → (a : ℕ) (bs : List ℕ) → Exact (with_mem m (write a bs m.mem))
 exact-write m e a bs x = perm-write a bs m.mem x ∙ e x
 
-pub copy-change : (s : State) → Good s → (n : ℕ) → valid n ≡ true → (dst : ℕ) (bytes : List ℕ) → access s.setup (view s n).mem true dst (length bytes) ≡ Fine → Change s (with_store s (pokes s.store n dst bytes)) n (with_mem (view s n) (write dst bytes (view s n).mem))
+pub copy-change : (s : State) → Good s → (n : ℕ) → valid n ≡ true → (dst : ℕ) (bytes : List ℕ) → access s.setup (view s n).mem true dst (length bytes) ≡ Ok tt → Change s (with_store s (pokes s.store n dst bytes)) n (with_mem (view s n) (write dst bytes (view s n).mem))
 copy-change s g n v dst bytes ok =
     change-store s g n v (pokes s.store n dst bytes) (write dst bytes (view s n).mem) (stored-pokes s.setup s.store s.store n (view s n).mem (stored-self s g n) v dst bytes (data-range s.setup s.store n dst (length bytes) (access-passed s.setup (view s n).mem true dst (length bytes) ok).each))
     (exact-write (view s n) (λ a. pages s g n a v) dst bytes)
@@ -60,7 +60,7 @@ stored-pushed setup b m n mem h v top args d₁ d₂ =
     (stored-pokes setup b m n mem h v (strings_at top args) (strings args) d₁) v (argv_at top args) (pointers (strings_at top args) args)
     (rw (length-pointers args (strings_at top args)) (data-write (strings_at top args) (strings args) mem (argv_at top args) (8 * (length args + 1)) d₂))
 
-pub push-change : (s : State) → Good s → (n : ℕ) → valid n ≡ true → (top : ℕ) (args : List (List ℕ)) → push_access s.setup (view s n).mem top args ≡ Fine
+pub push-change : (s : State) → Good s → (n : ℕ) → valid n ≡ true → (top : ℕ) (args : List (List ℕ)) → push_access s.setup (view s n).mem top args ≡ Ok tt
     → Change s (with_store s (push_in s.store n top args)) n (with_mem (view s n) (pushed top args (view s n).mem))
 push-change s g n v top args ok =
     let may = push-means s.setup (view s n).mem top args ok in

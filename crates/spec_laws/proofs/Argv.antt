@@ -1,4 +1,5 @@
 -- The arguments of replace: one turn of reading them, by its tests; and those that were read have no NUL and are within the limit.
+use Rattle.std.specs.Prelude.{Ok, Err}
 use Prim.Native.Nat.{ℕ, zero, suc, ◌+◌, ◌*◌}
 use native.Mathlib.Numerals.{add-one}
 use native.Mathlib.Omega.{arith}
@@ -9,15 +10,13 @@ use lib.ListN.{length, take}
 use Rattle.spec.specs.Tests.{◌is◌, ◌above◌, ◌⇒◌else◌, any, has}
 use Rattle.spec.specs.Numbers.{arg_limit, le, SetupOk}
 use Rattle.spec.specs.Frames.{Mem}
-use Rattle.spec.specs.Access.{◌names◌else◌, access, byte_of, bytes_at, Str, copy_str}
+use Rattle.spec.specs.Access.{◌names◌else◌, access, byte_of, bytes_at, Str, copy_str, Checked}
 use Rattle.spec.specs.Exec.{strings, stack_size, args_error, Argv, bad, over, read, arg_buffer, argv_from, copy_argv}
 use Rattle.spec.proofs.Lists.{any_append}
 use Rattle.spec.proofs.Args.{args-means}
 use Rattle.spec.proofs.Bools.{split, not-above}
 use Rattle.spec.proofs.Ranges.{either}
 use Rattle.spec.specs.declared.Setup.{Setup}
-use Rattle.spec.specs.declared.Checked.{Checked}
-use Rattle.spec.specs.declared.Checked.TheVariants.{Fine, Bad}
 
 -- ---- one turn, by its tests
 
@@ -38,12 +37,12 @@ module _ (setup : Setup) where
   Fits (read args) = args_error setup args ≡ 0
 
   fits-turn : (t : Checked) (z : Bool) (w : Checked) (f g : Bool) (before : List (List ℕ)) (more : Argv) → args_error setup before ≡ 0 → (g ≡ false → Fits more) → Fits (turn t z w f g before more)
-  fits-turn (Bad a) z w f g before more e h = tt
-  fits-turn Fine true w f g before more e h = e
-  fits-turn Fine false (Bad a) f g before more e h = tt
-  fits-turn Fine false Fine true g before more e h = tt
-  fits-turn Fine false Fine false true before more e h = tt
-  fits-turn Fine false Fine false false before more e h = h refl
+  fits-turn (Err a) z w f g before more e h = tt
+  fits-turn (Ok _) true w f g before more e h = e
+  fits-turn (Ok _) false (Err a) f g before more e h = tt
+  fits-turn (Ok _) false (Ok _) true g before more e h = tt
+  fits-turn (Ok _) false (Ok _) false true before more e h = tt
+  fits-turn (Ok _) false (Ok _) false false before more e h = h refl
 
   -- ---- one argument more
 

@@ -1,4 +1,5 @@
 -- A refusal gives a lent buffer back as it was, but for the string copy's 35.
+use Rattle.std.specs.Prelude.{Ok, Err}
 use Prim.Native.Nat.{ℕ, ◌+◌}
 use native.Mathlib.Omega.{arith}
 use native.Mathlib.Numerals.{add-one}
@@ -12,13 +13,11 @@ use Rattle.spec.specs.Book.{valid, free}
 use Rattle.spec.specs.Numbers.{setup_error}
 use Rattle.spec.proofs.Ranges.{either}
 use Rattle.spec.specs.Frames.{Mem, sized}
-use Rattle.spec.specs.Access.{◌names◌else◌, access, byte_of, bytes_at, copy_str}
+use Rattle.spec.specs.Access.{◌names◌else◌, access, byte_of, bytes_at, copy_str, Checked}
 use Rattle.spec.specs.Machine.{Ask, start, replace, push, break, fork, end, user-range-ok, copy-from-user, copy-to-user, try-copy-str-from-user, Call, accepted, refused, ended, Reply, outcome, outcome_of, number_of, lent, refuse, Machine, lengths_fit, kind, list_fits, numbered, living, unclaimed, weigh, judge}
 use Rattle.spec.specs.World.{State, alone_for, sound, taken, view, answer}
 use Rattle.spec.specs.declared.Answer.{Answer}
 use Rattle.spec.specs.declared.Answer.TheVariants.{Value, Done, Refused, RefusedAt, EndedAt}
-use Rattle.spec.specs.declared.Checked.{Checked}
-use Rattle.spec.specs.declared.Checked.TheVariants.{Fine, Bad}
 use Rattle.spec.specs.declared.Setup.{Setup}
 
 -- the string copy's 35
@@ -45,13 +44,13 @@ refuse-kept false k q r h = h
 
 -- a copy ends the process or is done
 copy-answers : (t : Checked) (x : ℕ → Reply) (y : Reply) → ((a : ℕ) → outcome (x a) ≡ ended) → outcome y ≡ accepted → outcome (t names x else y) ≡ refused → ⊥
-copy-answers (Bad a) x y p q e = let w : ended ≡ refused = sym (p a) ∙ e in let z : ◌≡◌ {A = ℕ} 0 1 = cc in omega arith
-copy-answers Fine x y p q e = let w : accepted ≡ refused = sym q ∙ e in let z : ◌≡◌ {A = ℕ} 0 1 = cc in omega arith
+copy-answers (Err a) x y p q e = let w : ended ≡ refused = sym (p a) ∙ e in let z : ◌≡◌ {A = ℕ} 0 1 = cc in omega arith
+copy-answers (Ok _) x y p q e = let w : accepted ≡ refused = sym q ∙ e in let z : ◌≡◌ {A = ℕ} 0 1 = cc in omega arith
 
 -- a string copy is refused with 35 alone
 string-answers : (t : Checked) (n : ℕ) → outcome_of (t names RefusedAt else Value n) ≡ refused → (number_of (t names RefusedAt else Value n) is 35) ≡ false → ⊥
-string-answers Fine n e f = let z : ◌≡◌ {A = ℕ} 0 1 = cc in omega arith
-string-answers (Bad a) n e f = clash true refl f
+string-answers (Ok _) n e f = let z : ◌≡◌ {A = ℕ} 0 1 = cc in omega arith
+string-answers (Err a) n e f = clash true refl f
 
 -- of its own numbers a call gives only the string copy's 35 with a buffer that has changed
 weigh-kept : (m : Machine) (free alone : ℕ) (q : Ask) → Kept q (weigh m free alone q)

@@ -9,10 +9,9 @@ use borrow.Author.Tests.{ltb-false}
 use Rattle.spec.specs.Tests.{◌is◌, ◌above◌}
 use Rattle.spec.specs.Numbers.{arg_limit, le, SetupOk}
 use Rattle.spec.specs.Frames.{Mem}
-use Rattle.spec.specs.Access.{access, bytes_at, Str, copy_str}
+use Rattle.spec.specs.Access.{access, bytes_at, Str, copy_str, Checked}
 use Rattle.spec.specs.Exec.{strings, stack_size, Argv, arg_buffer, argv_from, copy_argv}
 use Rattle.spec.specs.declared.Setup.{Setup}
-use Rattle.spec.specs.declared.Checked.{Checked}
 use Rattle.spec_laws.proofs.Argv.{turn}
 
 -- a turn whose next turns agree wherever they are taken
