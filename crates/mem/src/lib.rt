@@ -3,13 +3,9 @@
 
 #![tactic(auto)]
 
-ghost use Rattle.std.specs.Prelude.{◌≡◌, ◌+◌, ◌-◌, ◌*◌, ◌/◌, ◌^◌, ◌≤◌, ◌<◌, take};
+ghost use Rattle.std.specs.Prelude.{◌≡◌, ◌+◌, ◌-◌, ◌*◌, ◌/◌, ◌^◌, ◌≤◌, ◌<◌, length, SomeIff};
 ghost use Rattle.spec.specs.Numbers.{page_down, page_up};
 ghost use Rattle.spec.specs.Book.{range, page_count};
-ghost use Rattle.mem.specs.Rounding.{rounded_up};
-
-// The highest multiple of a page in 64 bits: what lies above it rounds past them.
-const LAST_PAGE: u64 = 0xffff_ffff_ffff_f000;
 
 // A frame's offset in the frame bytes that are lent, never a user address.
 #[derive(Clone, Copy)]
@@ -31,13 +27,6 @@ impl PhysAddr {
     }
 }
 
-// What rounding up comes to: an address, or a multiple of a page that 64 bits don't hold.
-#[derive(Clone, Copy)]
-pub enum Rounded {
-    To(u64),
-    Past,
-}
-
 // The address rounded down to a page.
 pub fn page_down(a: u64) -> u64
     ensures { result ≡ page_down a }
@@ -45,22 +34,19 @@ pub fn page_down(a: u64) -> u64
     a / spec::PAGE_SIZE_4K * spec::PAGE_SIZE_4K
 }
 
-// The address rounded up to a page, as `next_multiple_of`, where it fits.
+// The address rounded up to a page, where it fits.
 pub fn page_up(a: u64) -> u64
     requires { page_up a < 2 ^ 64 }
     ensures { result ≡ page_up a }
 {
-    (a + (spec::PAGE_SIZE_4K - 1)) / spec::PAGE_SIZE_4K * spec::PAGE_SIZE_4K
+    a.next_multiple_of(spec::PAGE_SIZE_4K)
 }
 
-// The address rounded up to a page, or `Past`, as `checked_next_multiple_of`.
-pub fn checked_page_up(a: u64) -> Rounded
-    ensures { result ≡ rounded_up a }
+// The address rounded up to a page, or none where 64 bits don't hold it.
+pub fn checked_page_up(a: u64) -> Option<u64>
+    ensures { SomeIff result (page_up a < 2 ^ 64) (page_up a) }
 {
-    if a > LAST_PAGE {
-        return Rounded::Past;
-    }
-    Rounded::To(page_up(a))
+    a.checked_next_multiple_of(spec::PAGE_SIZE_4K)
 }
 
 // `VirtRange::new`.
@@ -70,36 +56,24 @@ pub fn range(start: u64, end: u64) -> spec::VirtRange
     spec::VirtRange { start, end }
 }
 
-// `VirtRange::size`, of a range that doesn't end before it starts.
+// `VirtRange::size`; a range that ends before it starts has none.
 fn size(r: spec::VirtRange) -> u64
-    requires { r.start ≤ r.end }
     ensures { result ≡ r.end - r.start }
 {
-    r.end - r.start
+    r.end.saturating_sub(r.start)
 }
 
-// How many whole pages a range has; one that ends before it starts has none.
+// How many whole pages a range has.
 pub fn pages(r: spec::VirtRange) -> u64
     ensures { (result ≡ (r.end - r.start) / 4096) × (result < 2 ^ 52) }
 {
-    if r.end < r.start {
-        return 0;
-    }
     size(r) / spec::PAGE_SIZE_4K
 }
 
-// How many pages the first `n` of a record's segments have.
-pub fn page_count(segments: [spec::UserSegment; 16], n: usize) -> u64
-    requires { n ≤ 16 }
-    ensures { (result ≡ page_count (take n segments)) × (result ≤ 2 ^ 52 * n) }
+// How many pages a record's segments have.
+pub fn page_count(segments: &[spec::UserSegment]) -> u64
+    requires { length segments.now ≤ 16 }
+    ensures { (result ≡ page_count segments.now) × (result ≤ 2 ^ 52 * length segments.now) }
 {
-    let mut sum = 0;
-    let mut i = 0;
-    while i < n {
-        let u = segments[i];
-        let r = u.range;
-        sum += pages(r);
-        i += 1;
-    }
-    sum
+    segments.iter().map(|u| pages(u.range)).sum()
 }

@@ -1,20 +1,21 @@
--- `mem::page_count` meets its contract. The invariant: the pages of the segments passed.
-use mathlib.Core.Path.{◌≡◌, sym, ap, ◌∙◌}
-use Prim.Native.Nat.{ℕ, ◌+◌}
-use native.Mathlib.Omega.{arith}
-use lib.ListN.{take}
-use Rattle.spec.specs.Book.{zero_segment, page_count}
-use Rattle.spec.proofs.Free.{count_next}
+-- `mem::page_count` meets its contract: it is the sum of what each segment has.
+use Rattle.std.proofs.Common.{rules, arith, ◌≡◌, ℕ, ◌-◌, ◌/◌, ◌+◌, ◌^◌, ◌≤◌, List, [], ◌∷◌, refl, ap, ◌∙◌}
+use Rattle.std.specs.List.{sum_by}
+use Rattle.std.specs.List.{All}
+use Rattle.std.proofs.lemmas.List.Sums.{sum_by-cons, sum_by-le}
+use Rattle.spec.specs.Book.{page_count}
+use Rattle.spec.specs.declared.UserSegment.{UserSegment}
 use Rattle.mem.proofs.page_count.Goals as goal
 
-pub loop-i-preserved : goal.loop-i-preserved
-loop-i-preserved c =
-    let l = c.loop-i in
-    let t = c.args.segments in
-    (omega arith, l.invariant.1, ap (λ (m : ℕ). m + c.pages-sum.result) l.invariant.2 ∙ ap (λ (m : ℕ). page_count (take l.i t) + m) c.pages-sum.ensures.0 ∙ sym (count_next t zero_segment l.i (omega arith)), omega (arith, c.pages-sum.ensures.1, l.invariant.3))
+abbrev pages_in : UserSegment → ℕ
+pages_in u = (u.range.end - u.range.start) / 4096
+
+sum-pages : (us : List UserSegment) → sum_by pages_in us ≡ page_count us
+sum-pages [] = refl
+sum-pages (u ∷ us) = sum_by-cons pages_in u us ∙ ap (λ (k : ℕ). pages_in u + k) (sum-pages us)
 
 pub returns : goal.returns
 returns c =
-    let l = c.loop-i in
-    let e : l.i ≡ c.args.n = omega arith in
-    (l.invariant.2 ∙ ap (λ (k : ℕ). page_count (take k c.args.segments)) e, omega (arith, l.invariant.3))
+    let h : c.sum.result ≡ sum_by pages_in c.args.segments.now = search rules in
+    let b : All (λ (u : UserSegment). pages_in u ≤ 2 ^ 52) c.args.segments.now = search rules in
+    (h ∙ sum-pages c.args.segments.now, omega (arith, sum_by-le pages_in (2 ^ 52) c.args.segments.now b))

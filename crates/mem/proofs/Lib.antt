@@ -1,2 +1,0 @@
--- What a rounding that callers match on tells.
-pub mod Laws

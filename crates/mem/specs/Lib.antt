@@ -1,2 +1,0 @@
--- What rounding past 64 bits comes to.
-pub mod Rounding
