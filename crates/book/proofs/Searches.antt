@@ -4,13 +4,10 @@ use native.Mathlib.Omega.{arith}
 use native.Mathlib.Numerals.{add-one}
 use mathlib.Core.Path.{◌≡◌, refl, sym, ap, ◌∙◌}
 use mathlib.Core.Bool.{Bool, true, false}
-use mathlib.Core.Option.{Option, none, some}
+use Rattle.std.specs.Prelude.{Option, None, Some}
 use mathlib.Core.List.{List}
 use borrow.Author.Tests.{eq-eqb, ne_eqb}
 use Rattle.spec.specs.Book.{frame_count, mapping, holders, highest, count_below, owns, frame_of, is_alone}
-use Rattle.spec.specs.declared.Found.{Found}
-use Rattle.spec.specs.declared.Found.TheVariants.{At, Nothing}
-use Rattle.book.specs.Answers.{found_of}
 use Rattle.spec.proofs.Bools.{split}
 use Rattle.spec_laws.proofs.Frame.{owns-means, owns-test, frame_found}
 
@@ -37,34 +34,25 @@ alone-other book n k e = rw (eq-eqb (mapping book k n) 0 e)
 
 -- ---- the highest
 
-pub highest-here : (t : ℕ → Bool) (i : ℕ) → 0 < i → t (i - 1) ≡ true → highest t i ≡ some (i - 1)
+pub highest-here : (t : ℕ → Bool) (i : ℕ) → 0 < i → t (i - 1) ≡ true → highest t i ≡ Some (i - 1)
 highest-here t i h e = let d : i ≡ suc (i - 1) = omega arith in ap (highest t) d ∙ rw e
 
 pub highest-less : (t : ℕ → Bool) (i : ℕ) → 0 < i → t (i - 1) ≡ false → highest t i ≡ highest t (i - 1)
 highest-less t i h e = let d : i ≡ suc (i - 1) = omega arith in ap (highest t) d ∙ rw e
 
-pub highest-end : (t : ℕ → Bool) (i : ℕ) → i ≡ 0 → highest t i ≡ none
+pub highest-end : (t : ℕ → Bool) (i : ℕ) → i ≡ 0 → highest t i ≡ None
 highest-end t i e = ap (highest t) e
 
 -- ---- what a search answers
 
-pub found_at : (o : Option ℕ) (k : ℕ) → At k ≡ found_of o → o ≡ some k
-found_at none k e = absurd (let z : ◌≡◌ {A = ℕ} 0 1 = cc in omega arith)
-found_at (some j) k e = cc
-
-pub found_none : (o : Option ℕ) → Nothing ≡ found_of o → o ≡ none
-found_none none e = refl
-found_none (some j) e = absurd (let z : ◌≡◌ {A = ℕ} 0 1 = cc in omega arith)
-
 -- a page's frame lies in the book, and is used
 pub record Framed (book : List ℕ) (n page k : ℕ) : Type 0 where
-  pub is : frame_of book n page ≡ some k
+  pub is : frame_of book n page ≡ Some k
   pub there : k < frame_count book
   pub used : mapping book k n ≡ 0 → ⊥
 
-pub page-found : (book : List ℕ) (n page k : ℕ) (r : Found) → r ≡ found_of (frame_of book n page) → r ≡ At k → Framed book n page k
-page-found book n page k r e f =
-    let g = found_at (frame_of book n page) k (sym f ∙ e) in
+pub page-found : (book : List ℕ) (n page k : ℕ) → frame_of book n page ≡ Some k → Framed book n page k
+page-found book n page k g =
     let h = frame_found book n page k g in
     record { is = g; there = h.0; used = h.1.used }
 

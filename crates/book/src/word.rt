@@ -2,7 +2,6 @@
 
 ghost use Rattle.std.specs.Prelude.{◌≡◌, ◌%◌, ◌^◌, ◌≤◌, ◌<◌};
 ghost use Rattle.spec.specs.Book.{word_of, page_of, owner_of, perm_of, frame_of, free, alone};
-ghost use Rattle.book.specs.Answers.{found_of};
 
 // The word of an owner's page.
 pub fn pack(page: u64, owner: u64, perm: u64) -> u64
@@ -73,9 +72,9 @@ pub fn alone_count(book: &[u64], owner: u64) -> usize
 }
 
 // The frame of an owner's page, by the owner's places. Owner and page together are the word without its permission.
-pub fn frame_of(book: &[u64], owner: u64, page: u64) -> spec::Found
+pub fn frame_of(book: &[u64], owner: u64, page: u64) -> Option<usize>
     requires { (1 ≤ owner) × (owner ≤ 16) × (page % 4096 ≡ 0) }
-    ensures { result ≡ found_of (frame_of book.now owner page) }
+    ensures { result ≡ frame_of book.now owner page }
 {
     let key = page / 16 + owner;
     let place = (owner - 1) as usize;
@@ -83,8 +82,8 @@ pub fn frame_of(book: &[u64], owner: u64, page: u64) -> spec::Found
     while 0 < i {
         i -= 1;
         if book[17 * i + place] / 16 == key {
-            return spec::Found::At(i);
+            return Some(i);
         }
     }
-    spec::Found::Nothing
+    None
 }

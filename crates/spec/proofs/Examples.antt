@@ -1,7 +1,7 @@
 -- The worked examples of docs/RULES.md: what the definitions give, beside what is said there, and one proof.
 use mathlib.Core.Path.{◌≡◌, refl}
 use mathlib.Core.Bool.{Bool, true, false, ◌||◌}
-use mathlib.Core.Option.{none, some}
+use Rattle.std.specs.Prelude.{None, Some}
 use mathlib.Core.List.{List, [], ◌∷◌, ◌++◌, reverse, map}
 use Prim.Native.Nat.{ℕ, zero, suc, ◌+◌, ◌-◌, ◌^◌}
 use lib.ListN.{replicate, length, take, drop, set}
@@ -93,7 +93,7 @@ starred =
     ∷ ((registers 0 deposit.ustktop lex-mot).sp, deposit.ustktop - 32)
     ∷ ((registers 0 deposit.ustktop []).argv, deposit.ustktop - 8)
     ∷ ((registers 0 deposit.ustktop []).sp, deposit.ustktop - 16)
-    ∷ ((ibrk deposit (some (range 69816 77824)) (2 ^ 64 - 1) 9).error, 33)
+    ∷ ((ibrk deposit (Some (range 69816 77824)) (2 ^ 64 - 1) 9).error, 33)
     ∷ []
 
 -- pushed arguments read back as given
@@ -108,9 +108,9 @@ reads_back args = said (copy_argv deposit (pushed deposit.ustktop args (loaded d
 -- Request 4: a data page at 65,536, a text page behind it, and a data page below the top; the address that is named, or 0
 abbrev three : Mem
 three a =
-    within 65536 69632 a || within (2 ^ 47 - 4096) (2 ^ 47) a ⇒ some (record { perm = 3; byte = 7 }) else
-    within 69632 73728 a ⇒ some (record { perm = 1; byte = 7 }) else
-    none
+    within 65536 69632 a || within (2 ^ 47 - 4096) (2 ^ 47) a ⇒ Some (record { perm = 3; byte = 7 }) else
+    within 69632 73728 a ⇒ Some (record { perm = 1; byte = 7 }) else
+    None
 
 abbrev bad_at : Bool → ℕ → ℕ → ℕ
 bad_at write addr len = access deposit three write addr len names (λ address. address) else 0
@@ -119,7 +119,7 @@ bad_at write addr len = access deposit three write addr len names (λ address. a
 -- and 79,998, its pointers at 79,968 and 79,976
 abbrev push_bad : ℕ → ℕ → ℕ → ℕ
 push_bad top x y =
-    push_access deposit (λ a. a is x || a is y ⇒ none else some (record { perm = 3; byte = 7 })) top (ascii "ab" ∷ ascii "c" ∷ []) names (λ address. address) else 1
+    push_access deposit (λ a. a is x || a is y ⇒ None else Some (record { perm = 3; byte = 7 })) top (ascii "ab" ∷ ascii "c" ∷ []) names (λ address. address) else 1
 
 -- the others, and the listing
 abbrev unstarred : List (ℕ × ℕ)
@@ -128,9 +128,9 @@ unstarred =
     ∷ (elf_error built_in (one 5 0 (2 ^ 64 - 8192) 0 4097), 24)
     ∷ (args_error deposit (replicate 4071 7 ∷ []), 0)
     ∷ (args_error deposit (replicate 4072 7 ∷ []), 33)
-    ∷ ((ibrk deposit (some (range 69816 77824)) (limit deposit + 1) 9).error, 34)
-    ∷ (user_range_ok deposit (λ a. none) false (2 ^ 47) 0 ⇒ 1 else 0, 1)
-    ∷ (user_range_ok deposit (λ a. none) false (2 ^ 47 + 1) 0 ⇒ 1 else 0, 0)
+    ∷ ((ibrk deposit (Some (range 69816 77824)) (limit deposit + 1) 9).error, 34)
+    ∷ (user_range_ok deposit (λ a. None) false (2 ^ 47) 0 ⇒ 1 else 0, 1)
+    ∷ (user_range_ok deposit (λ a. None) false (2 ^ 47 + 1) 0 ⇒ 1 else 0, 0)
     ∷ (bad_at true (2 ^ 47 - 2) 2, 0)
     ∷ (bad_at true (2 ^ 47 - 2) 3, 2 ^ 47)
     ∷ (bad_at true (2 ^ 47 - 2) (2 ^ 64 - 1), 2 ^ 47)
@@ -148,7 +148,7 @@ unstarred =
     ∷ (push_bad 80000 79998 79970, 79970)
     ∷ (push_bad 80000 79999 79976, 79999)
     ∷ (push_bad 16 80000 80000, 0)
-    ∷ ((copy_str deposit (λ a. none) [] 7).size, 0)
+    ∷ ((copy_str deposit (λ a. None) [] 7).size, 0)
     ∷ (elf_error built_in (set image184 0 126), 12)
     ∷ (elf_error built_in (set image184 4 1), 13)
     ∷ (elf_error built_in (set image184 5 2), 14)

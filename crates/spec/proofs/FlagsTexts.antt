@@ -4,7 +4,7 @@ use Prim.Native.Nat.{ℕ, zero, suc, ◌+◌, ◌≤◌, ◌<◌}
 use native.Mathlib.Omega.{arith}
 use mathlib.Core.Path.{◌≡◌, refl, sym, ap, ap₂, subst, ◌∙◌}
 use mathlib.Core.Bool.{Bool, true, false, ◌&&◌, ◌||◌, and-true, and-false, or-false}
-use mathlib.Core.Option.{Option, none, some}
+use Rattle.std.specs.Prelude.{Option, None, Some}
 use mathlib.Core.List.{List, [], ◌∷◌, ◌++◌, map, append_assoc, append-nil}
 use lib.ListN.{length, take, drop, get_or, take-append-drop}
 use lib.Seq.{drop-append_seam}
@@ -140,9 +140,9 @@ these (a ∷ b ∷ c ∷ d ∷ e ∷ f ∷ g ∷ h ∷ i ∷ flags) n = absurd (
 -- the first of four codes that passes a test
 module _ (t : ℕ → Bool) where
   abbrev first_of : Option ℕ
-  first_of = t 0 ⇒ some 0 else t 1 ⇒ some 1 else t 2 ⇒ some 2 else t 3 ⇒ some 3 else none
+  first_of = t 0 ⇒ Some 0 else t 1 ⇒ Some 1 else t 2 ⇒ Some 2 else t 3 ⇒ Some 3 else None
 
-  first_passes : (c : ℕ) → first_of ≡ some c → t c ≡ true
+  first_passes : (c : ℕ) → first_of ≡ Some c → t c ≡ true
   first_passes c e =
       split (t 0) (λ q. passed 0 q (rw q at e)) (λ q₀.
       split (t 1) (λ q. passed 1 q (rw (q₀, q) at e)) (λ q₁.
@@ -150,24 +150,24 @@ module _ (t : ℕ → Bool) where
       split (t 3) (λ q. passed 3 q (rw (q₀, q₁, q₂, q) at e)) (λ q₃.
       never (rw (q₀, q₁, q₂, q₃) at e)))))
     where
-      passed : (k : ℕ) → t k ≡ true → some k ≡ some c → t c ≡ true
+      passed : (k : ℕ) → t k ≡ true → Some k ≡ Some c → t c ≡ true
       passed k q s = let z : k ≡ c = cc in subst (λ (n : ℕ). t n ≡ true) z q
 
-      never : none ≡ some c → t c ≡ true
+      never : None ≡ Some c → t c ≡ true
       never s = absurd (let z : ◌≡◌ {A = ℕ} 0 1 = cc in omega arith)
 
-  pub first-is : (c : ℕ) → c < 4 → ((k : ℕ) → k < c → t k ≡ false) → t c ≡ true → some c ≡ first_of
+  pub first-is : (c : ℕ) → c < 4 → ((k : ℕ) → k < c → t k ≡ false) → t c ≡ true → Some c ≡ first_of
   first-is zero h f e = rw e
   first-is (suc zero) h f e = rw (f 0 (omega arith), e)
   first-is (suc (suc zero)) h f e = rw (f 0 (omega arith), f 1 (omega arith), e)
   first-is (suc (suc (suc zero))) h f e = rw (f 0 (omega arith), f 1 (omega arith), f 2 (omega arith), e)
   first-is (suc (suc (suc (suc c)))) h f e = absurd (omega arith)
 
-  pub first-none : ((k : ℕ) → k < 4 → t k ≡ false) → none ≡ first_of
+  pub first-none : ((k : ℕ) → k < 4 → t k ≡ false) → None ≡ first_of
   first-none f = rw (f 0 (omega arith), f 1 (omega arith), f 2 (omega arith), f 3 (omega arith))
 
 -- a line begins with itself alone
-line-front : (row c : ℕ) (rest : List ℕ) → c ≤ 3 → code_at row (flag_line row c ++ rest) ≡ some c
+line-front : (row c : ℕ) (rest : List ℕ) → c ≤ 3 → code_at row (flag_line row c ++ rest) ≡ Some c
 line-front row zero rest h = rw (eq-eqb (48 + row) (48 + row) refl)
 line-front row (suc zero) rest h = rw (eq-eqb (48 + row) (48 + row) refl)
 line-front row (suc (suc zero)) rest h = rw (eq-eqb (48 + row) (48 + row) refl)
@@ -175,7 +175,7 @@ line-front row (suc (suc (suc zero))) rest h = rw (eq-eqb (48 + row) (48 + row) 
 line-front row (suc (suc (suc (suc c)))) rest h = absurd (omega arith)
 
 -- bytes with a row's code begin with its line
-line_of : (row : ℕ) (bytes : List ℕ) (c : ℕ) → code_at row bytes ≡ some c → flag_line row c ++ drop (length (flag_line row c)) bytes ≡ bytes
+line_of : (row : ℕ) (bytes : List ℕ) (c : ℕ) → code_at row bytes ≡ Some c → flag_line row c ++ drop (length (flag_line row c)) bytes ≡ bytes
 line_of row bytes c e =
     let q = first_passes (begins row bytes) c e in
     let line = flag_line row c in
@@ -224,8 +224,8 @@ rows_written (suc k) row before bytes e = next (code_at row bytes) refl e (λ c.
 
     next : (o : Option ℕ) → code_at row bytes ≡ o → (on_code o after).error ≡ 0
         → ((c : ℕ) → (after c).error ≡ 0 → Written (row + 1) (before ++ c ∷ []) (drop (length (flag_line row c)) bytes) (after c)) → Written row before bytes (on_code o after)
-    next none p z f = absurd (omega (arith, z))
-    next (some c) p z f =
+    next None p z f = absurd (omega (arith, z))
+    next (Some c) p z f =
         let w = f c z in
         record {
           codes = c ∷ w.codes;

@@ -3,7 +3,7 @@ use Prim.Native.Nat.{ℕ, zero, suc, ◌+◌, ◌-◌, ◌/◌, ◌≤◌, ◌<�
 use native.Mathlib.Omega.{arith}
 use native.Mathlib.Nat.{add_assoc, add-zero}
 use mathlib.Core.Path.{◌≡◌, refl, sym, ap, ap₂, ◌∙◌}
-use mathlib.Core.Option.{Option, none, some}
+use Rattle.std.specs.Prelude.{Option, None, Some}
 use mathlib.Core.List.{List, [], ◌∷◌, ◌++◌}
 use lib.ListN.{length, get_or, take, length-append}
 use borrow.Author.Tests.{eqb-true, ne_eqb, eq-eqb}
@@ -18,10 +18,10 @@ use Rattle.spec.specs.Frames.{Store, Page, pages_from, pages_of, enter, hold, pl
 use Rattle.spec.specs.declared.UserSegment.{UserSegment}
 
 -- the frame that a search finds is free, and one is found while one is free
-pub free-frame : (book : List ℕ) (k : ℕ) → free_frame book ≡ some k → (k < frame_count book) × (holders book k ≡ 0)
+pub free-frame : (book : List ℕ) (k : ℕ) → free_frame book ≡ Some k → (k < frame_count book) × (holders book k ≡ 0)
 free-frame book k e = let r = hit (is_free book) (frame_count book) k e in (r.0, eqb-true (holders book k) 0 r.1)
 
-pub none_free : (book : List ℕ) → free_frame book ≡ none → free book ≡ 0
+pub none_free : (book : List ℕ) → free_frame book ≡ None → free book ≡ 0
 none_free book e = count_none (is_free book) (frame_count book) (miss (is_free book) (frame_count book) e)
 
 -- a free frame that is entered with a holder is taken
@@ -40,11 +40,11 @@ free-place m n (p ∷ ps) hi room = go (free_frame m.book) refl (λ t. free-plac
   where
     go : (o : Option ℕ) → free_frame m.book ≡ o → ((t : Store) → length ps ≤ free t.book → free (place t n ps).book + length ps ≡ free t.book)
         → free (place (hold m n p o) n ps).book + length (p ∷ ps) ≡ free m.book
-    go none e more = absurd (omega (arith, none_free m.book e))
-    go (some k) e more =
+    go None e more = absurd (omega (arith, none_free m.book e))
+    go (Some k) e more =
         let r = free-frame m.book k e in
         let f = free-enter m.book k n (word_of p.page n p.perm) 1 r.0 hi r.1 (λ z. omega arith) in
-        let ih = more (hold m n p (some k)) (omega arith) in
+        let ih = more (hold m n p (Some k)) (omega arith) in
         omega arith
 
 -- there are as many pages as pieces count
@@ -71,8 +71,8 @@ count_next us d i h =
 
 -- bytes written over change no word
 pub poke-book : (m : Store) (a b : ℕ) (o : Option ℕ) → (poke m a b o).book ≡ m.book
-poke-book m a b none = refl
-poke-book m a b (some k) = refl
+poke-book m a b None = refl
+poke-book m a b (Some k) = refl
 
 pub pokes-book : (m : Store) (n a : ℕ) (bs : List ℕ) → (pokes m n a bs).book ≡ m.book
 unfolding pokes

@@ -1,13 +1,12 @@
 -- Pushed arguments read back as given, and top minus stack pointer is at most the argument limit: of any memory into which they may be
 -- written, and so of what start, replace and push make of a machine.
-use Rattle.std.specs.Prelude.{Ok}
+use Rattle.std.specs.Prelude.{Ok, Option, None, Some}
 use Prim.Native.Nat.{ℕ, zero, suc, ◌+◌, ◌*◌, ◌-◌, ◌/◌, ◌%◌, ◌^◌, ◌≤◌, ◌<◌}
 use native.Mathlib.Omega.{arith}
 use native.Mathlib.Nat.{not-suc-le-zero, le_of_suc-le-suc, add-zero}
 use native.Mathlib.Numerals.{add-one}
 use mathlib.Core.Path.{◌≡◌, refl, sym, ap, ap₂, ◌∙◌}
 use mathlib.Core.Bool.{Bool, true, false}
-use mathlib.Core.Option.{Option, none, some}
 use mathlib.Core.List.{List, [], ◌∷◌, ◌++◌, append_assoc, append-nil}
 use lib.ListN.{length, get_or, take, drop, length-append, length-replicate, get_or-append}
 use lib.Seq.{get_or-append-add, take_at}
@@ -32,14 +31,14 @@ use Rattle.spec.specs.declared.Form.{Form}
 -- ---- writes
 
 weak : (o : Option Cell) → cell_ok true o ≡ true → cell_ok false o ≡ true
-weak none e = e
-weak (some c) e = refl
+weak None e = e
+weak (Some c) e = refl
 
 rewrite-ok : (w : Bool) (b : ℕ) (o : Option Cell) → cell_ok w (rewrite b o) ≡ cell_ok w o
-rewrite-ok true b none = refl
-rewrite-ok true b (some c) = refl
-rewrite-ok false b none = refl
-rewrite-ok false b (some c) = refl
+rewrite-ok true b None = refl
+rewrite-ok true b (Some c) = refl
+rewrite-ok false b None = refl
+rewrite-ok false b (Some c) = refl
 
 write-ok : (w : Bool) (at : ℕ) (bs : List ℕ) (mem : Mem) (a : ℕ) → cell_ok w (write at bs mem a) ≡ cell_ok w (mem a)
 write-ok w at bs mem a = go (within at (at + length bs) a)
@@ -49,8 +48,8 @@ write-ok w at bs mem a = go (within at (at + length bs) a)
     go false = refl
 
 rewrite-byte : (b : ℕ) (o : Option Cell) → cell_ok true o ≡ true → byte_of (rewrite b o) ≡ b
-rewrite-byte b none e = absurd (let z : ◌≡◌ {A = ℕ} 0 1 = cc in omega arith)
-rewrite-byte b (some c) e = refl
+rewrite-byte b None e = absurd (let z : ◌≡◌ {A = ℕ} 0 1 = cc in omega arith)
+rewrite-byte b (Some c) e = refl
 
 write_byte : (at : ℕ) (bs : List ℕ) (mem : Mem) (j : ℕ) → j < length bs → cell_ok true (mem (at + j)) ≡ true → byte_of (write at bs mem (at + j)) ≡ get_or bs j 0
 write_byte at bs mem j h e =

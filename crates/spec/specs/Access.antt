@@ -1,8 +1,7 @@
 -- Item 3, uaccess.rs: a process's access to its own memory. What is asked is what stands at each address, whether in frames or in
 -- the plain machine.
 -- Assumes nothing.
-use Rattle.std.specs.Prelude.{ℕ, zero, suc, ◌+◌, ◌-◌, ◌≤◌, ◌<◌, min, ◌≡◌, Bool, true, false, List, [], ◌∷◌, length, get_or, Result, Ok, Err}
-use Rattle.std.proofs.Math.Option.{Option, none, some}
+use Rattle.std.specs.Prelude.{ℕ, zero, suc, ◌+◌, ◌-◌, ◌≤◌, ◌<◌, min, ◌≡◌, Bool, true, false, List, [], ◌∷◌, length, get_or, Result, Ok, Err, Option, None, Some}
 use Rattle.spec.specs.Tests.{◌is◌, ◌above◌, within, ◌⇒◌else◌}
 use Rattle.spec.specs.Frames.{Cell, Mem}
 use Rattle.spec.specs.Numbers.{bytes_from}
@@ -10,9 +9,9 @@ use Rattle.spec.specs.declared.Setup.{Setup}
 
 -- a page is mapped, and is data for writing
 abbrev pub cell_ok : Bool → Option Cell → Bool
-cell_ok write none = false
-cell_ok true (some c) = c.perm is 3
-cell_ok false (some c) = true
+cell_ok write None = false
+cell_ok true (Some c) = c.perm is 3
+cell_ok false (Some c) = true
 
 -- what a check comes to: every byte can be accessed, or the address of one that can't
 abbrev pub Checked : Type 0
@@ -68,16 +67,16 @@ pub record AccessMeans : Type 0 where
 
 -- the bytes that `copy_from_user` gives
 abbrev pub byte_of : Option Cell → ℕ
-byte_of none = 0
-byte_of (some c) = c.byte
+byte_of None = 0
+byte_of (Some c) = c.byte
 
 abbrev pub bytes_at : Mem → ℕ → ℕ → List ℕ
 bytes_at mem addr len = bytes_from (λ a. byte_of (mem a)) addr len
 
 -- what `copy_to_user` leaves: bytes written over, from an address on
 abbrev pub rewrite : ℕ → Option Cell → Option Cell
-rewrite byte none = none
-rewrite byte (some c) = some (record { perm = c.perm; byte = byte })
+rewrite byte None = None
+rewrite byte (Some c) = Some (record { perm = c.perm; byte = byte })
 
 abbrev pub write : ℕ → List ℕ → Mem → Mem
 write addr bytes mem a = within addr (addr + length bytes) a ⇒ rewrite (get_or bytes (a - addr) 0) (mem a) else mem a

@@ -1,8 +1,7 @@
 -- Item 2, frames and book: book words, process records and their pages. A mapping says that a frame holds a page of a process; text
 -- and rodata frames may have several, one for each of their holders. A record says which pages its process has.
 -- Assumes nothing.
-use Rattle.std.specs.Prelude.{ℕ, zero, suc, ◌+◌, ◌*◌, ◌-◌, ◌/◌, ◌%◌, Bool, not, ◌&&◌, List, [], ◌∷◌, ◌++◌, length, get_or, replicate}
-use Rattle.std.proofs.Math.Option.{Option, none, some}
+use Rattle.std.specs.Prelude.{ℕ, zero, suc, ◌+◌, ◌*◌, ◌-◌, ◌/◌, ◌%◌, Bool, not, ◌&&◌, List, [], ◌∷◌, ◌++◌, length, get_or, replicate, Option, None, Some}
 use Rattle.spec.specs.Tests.{◌is◌, ◌isnt◌, within, ◌⇒◌else◌, all, filter}
 use Rattle.spec.specs.Numbers.{max_procs, page_up, page_down}
 use Rattle.spec.specs.declared.Setup.{Setup}
@@ -45,8 +44,8 @@ holders book k = get_or book (17 * k + 16) 0
 
 -- the highest number below c that passes the test
 abbrev pub highest : (ℕ → Bool) → ℕ → Option ℕ
-highest t zero = none
-highest t (suc c) = t c ⇒ some c else highest t c
+highest t zero = None
+highest t (suc c) = t c ⇒ Some c else highest t c
 
 -- how many numbers below c pass the test
 abbrev pub count_below : (ℕ → Bool) → ℕ → ℕ
@@ -73,8 +72,8 @@ frame_of book n page = highest (λ k. owns n page (mapping book k n)) (frame_cou
 
 -- the permission that the book gives an owner's page
 abbrev pub perm_in : List ℕ → ℕ → Option ℕ → Option ℕ
-perm_in book n none = none
-perm_in book n (some k) = some (perm_of (mapping book k n))
+perm_in book n None = None
+perm_in book n (Some k) = Some (perm_of (mapping book k n))
 
 abbrev pub book_perm : List ℕ → ℕ → ℕ → Option ℕ
 book_perm book n page = perm_in book n (frame_of book n page)
@@ -136,8 +135,8 @@ in_segment a g = within g.range.start g.range.end a
 
 -- the permission that pieces give an address, if one of them holds it
 abbrev pub perm_at : List UserSegment → ℕ → Option ℕ
-perm_at [] a = none
-perm_at (g ∷ gs) a = in_segment a g ⇒ some g.perm else perm_at gs a
+perm_at [] a = None
+perm_at (g ∷ gs) a = in_segment a g ⇒ Some g.perm else perm_at gs a
 
 -- how many pages pieces have
 abbrev pub page_count : List UserSegment → ℕ

@@ -1,8 +1,7 @@
 -- Item 5, exec.rs: layout, segments, the contents of pages, and arguments. It says what a program's memory is to be before it first
 -- runs; how it comes into frames is in World.
 -- Assumes nothing.
-use Rattle.std.specs.Prelude.{ℕ, zero, suc, ◌+◌, ◌*◌, ◌-◌, ◌/◌, Bool, true, false, not, ◌&&◌, ◌||◌, List, [], ◌∷◌, ◌++◌, map, length, take, drop, get_or, replicate, Ok, Err}
-use Rattle.std.proofs.Math.Option.{Option, none, some}
+use Rattle.std.specs.Prelude.{ℕ, zero, suc, ◌+◌, ◌*◌, ◌-◌, ◌/◌, Bool, true, false, not, ◌&&◌, ◌||◌, List, [], ◌∷◌, ◌++◌, map, length, take, drop, get_or, replicate, Ok, Err, Option, None, Some}
 use Rattle.spec.specs.Tests.{◌is◌, ◌isnt◌, ◌below◌, ◌above◌, ◌⇒◌else◌, any, has, filter}
 use Rattle.spec.specs.Numbers.{limit, arg_limit, page_up, page_down, le, le_bytes}
 use Rattle.spec.specs.Book.{range, segment, stack, bss_segment, perm_at}
@@ -68,8 +67,8 @@ file_byte (g ∷ gs) a = in_file a g ⇒ get_or g.file (a - g.vaddr) 0 else file
 
 -- what stands at each address of a program's pages before arguments are pushed
 abbrev pub cell_of : ℕ → Option ℕ → Option Cell
-cell_of byte none = none
-cell_of byte (some perm) = some (record { perm = perm; byte = byte })
+cell_of byte None = None
+cell_of byte (Some perm) = Some (record { perm = perm; byte = byte })
 
 abbrev pub loaded : Setup → Program → Mem
 loaded setup p a = cell_of (file_byte p.segments a) (perm_at (start_pieces setup p) a)

@@ -1,8 +1,7 @@
 -- The flag table in lines (request 7): `flags0=refused` to `flags7=refused`. What reads it answers 39 for bytes that are not as described
 -- and for a table that is against the rules.
 -- Assumes nothing.
-use Rattle.std.specs.Prelude.{ℕ, zero, suc, ◌+◌, Bool, not, List, [], ◌∷◌, ◌++◌, length, take, drop, replicate}
-use Rattle.std.proofs.Math.Option.{Option, none, some}
+use Rattle.std.specs.Prelude.{ℕ, zero, suc, ◌+◌, Bool, not, List, [], ◌∷◌, ◌++◌, length, take, drop, replicate, Option, None, Some}
 use Rattle.spec.specs.Tests.{◌is◌, ◌isnt◌, ◌above◌, ◌⇒◌else◌, same, ascii}
 use Rattle.spec.specs.Flags.{flags_ok}
 
@@ -38,11 +37,11 @@ begins row bytes code = same ◌is◌ (take (length (flag_line row code)) bytes)
 -- the code that they begin with
 abbrev pub code_at : ℕ → List ℕ → Option ℕ
 code_at row bytes =
-    begins row bytes 0 ⇒ some 0 else
-    begins row bytes 1 ⇒ some 1 else
-    begins row bytes 2 ⇒ some 2 else
-    begins row bytes 3 ⇒ some 3 else
-    none
+    begins row bytes 0 ⇒ Some 0 else
+    begins row bytes 1 ⇒ Some 1 else
+    begins row bytes 2 ⇒ Some 2 else
+    begins row bytes 3 ⇒ Some 3 else
+    None
 
 -- what reading comes to: 39, or 0 with the table; a refusal answers zeros
 pub record FlagsRead : Type 0 where
@@ -54,8 +53,8 @@ unread_flags = record { error = 39; flags = replicate 8 0 }
 
 -- the code that comes next, or 39
 abbrev pub on_code : Option ℕ → (ℕ → FlagsRead) → FlagsRead
-on_code none next = unread_flags
-on_code (some code) next = next code
+on_code None next = unread_flags
+on_code (Some code) next = next code
 
 -- so many rows from a row on, after the codes read before them: with no byte after the last, and by the rules
 abbrev pub read_rows : ℕ → ℕ → List ℕ → List ℕ → FlagsRead

@@ -1,8 +1,7 @@
 -- Item 2, frames and book: what stands in frames, and the four ways in which they change: pages placed, shared, released, written
 -- over. All that a call does to memory is made of these four.
 -- Assumes nothing.
-use Rattle.std.specs.Prelude.{ℕ, zero, suc, ◌+◌, ◌*◌, ◌-◌, ◌/◌, ◌%◌, Bool, ◌&&◌, List, [], ◌∷◌, ◌++◌, length, get_or, set, take, drop}
-use Rattle.std.proofs.Math.Option.{Option, none, some}
+use Rattle.std.specs.Prelude.{ℕ, zero, suc, ◌+◌, ◌*◌, ◌-◌, ◌/◌, ◌%◌, Bool, ◌&&◌, List, [], ◌∷◌, ◌++◌, length, get_or, set, take, drop, Option, None, Some}
 use Rattle.spec.specs.Tests.{◌is◌, ◌isnt◌, within, ◌⇒◌else◌}
 use Rattle.spec.specs.Numbers.{max_frames, page_down}
 use Rattle.spec.specs.Book.{word_of, page_of, perm_of, frame_count, mapping, holders, free_frame, frame_of}
@@ -36,8 +35,8 @@ Mem = ℕ → Option Cell
 
 -- an address's byte in frame k, and the permission that the frame's mapping gives process n
 abbrev pub cell_in : Store → ℕ → ℕ → Option ℕ → Option Cell
-cell_in m n a none = none
-cell_in m n a (some k) = some (record { perm = perm_of (mapping m.book k n); byte = get_or m.frames (4096 * k + a % 4096) 0 })
+cell_in m n a None = None
+cell_in m n a (Some k) = Some (record { perm = perm_of (mapping m.book k n); byte = get_or m.frames (4096 * k + a % 4096) 0 })
 
 -- a process's memory: each address in the frame of its page
 abbrev pub mem_of : Store → ℕ → Mem
@@ -78,8 +77,8 @@ pages_of f (g ∷ gs) = pages_from f g.perm g.range.start ((g.range.end - g.rang
 
 -- a page in frame k, with its mapping, the only one
 abbrev pub hold : Store → ℕ → Page → Option ℕ → Store
-hold m n p none = m
-hold m n p (some k) = record { frames = put m.frames (4096 * k) p.bytes; book = enter m.book k n (word_of p.page n p.perm) 1 }
+hold m n p None = m
+hold m n p (Some k) = record { frames = put m.frames (4096 * k) p.bytes; book = enter m.book k n (word_of p.page n p.perm) 1 }
 
 -- new pages take the highest-numbered free frame, in the order given
 unfoldable pub place : Store → ℕ → List Page → Store
@@ -88,8 +87,8 @@ place m n (p ∷ ps) = place (hold m n p (free_frame m.book)) n ps
 
 -- the bytes of a page in frame k
 abbrev pub frame_bytes : List ℕ → Option ℕ → List ℕ
-frame_bytes frames none = []
-frame_bytes frames (some k) = take 4096 (drop (4096 * k) frames)
+frame_bytes frames None = []
+frame_bytes frames (Some k) = take 4096 (drop (4096 * k) frames)
 
 -- ---- pages shared
 
@@ -117,8 +116,8 @@ release m n t = record { frames = m.frames; book = sweep (let_go n t) m.book (fr
 
 -- a byte at an address; and bytes of a process, from an address on
 abbrev pub poke : Store → ℕ → ℕ → Option ℕ → Store
-poke m a b none = m
-poke m a b (some k) = record { frames = set m.frames (4096 * k + a % 4096) b; book = m.book }
+poke m a b None = m
+poke m a b (Some k) = record { frames = set m.frames (4096 * k + a % 4096) b; book = m.book }
 
 unfoldable pub pokes : Store → ℕ → ℕ → List ℕ → Store
 pokes m n a [] = m

@@ -1,8 +1,7 @@
 -- Histories, lines, and demand 3: one claim about whole lists of the ten calls, in any order; demand 2's sentence on arguments; and
 -- both of a run of functions.
 -- A list of calls has its latest call first, and so has a line. Assumes nothing.
-use Rattle.std.specs.Prelude.{ℕ, ◌-◌, ◌≤◌, ◌≡◌, Bool, true, false, not, ◌&&◌, List, [], ◌∷◌, map, length}
-use Rattle.std.proofs.Math.Option.{Option, none, some}
+use Rattle.std.specs.Prelude.{ℕ, ◌-◌, ◌≤◌, ◌≡◌, Bool, true, false, not, ◌&&◌, List, [], ◌∷◌, map, length, Option, None, Some}
 use Rattle.spec.specs.Tests.{◌is◌, ◌⇒◌else◌, all}
 use Rattle.spec.specs.Numbers.{setup_error, arg_limit}
 use Rattle.spec.specs.Book.{valid, free, pieces, perm_at}
@@ -82,15 +81,15 @@ machine setup (e ∷ earlier) = feed (machine setup earlier) e.asked.call.ask (o
 
 -- the byte that a machine holds at an address, and the permission
 abbrev pub byte_in : Option Cell → Option ℕ
-byte_in none = none
-byte_in (some c) = some c.byte
+byte_in None = None
+byte_in (Some c) = Some c.byte
 
 abbrev pub held : Machine → ℕ → Option ℕ
 held m a = byte_in (m.mem a)
 
 abbrev pub perm_in : Option Cell → Option ℕ
-perm_in none = none
-perm_in (some c) = some c.perm
+perm_in None = None
+perm_in (Some c) = Some c.perm
 
 abbrev pub held_perm : Machine → ℕ → Option ℕ
 held_perm m a = perm_in (m.mem a)

@@ -1,7 +1,6 @@
 -- The ten calls and their answers; the plain machine: what one process holds, what a call answers over it, what a call makes of it.
 -- Nothing here knows of frames, a book or other processes. Assumes nothing.
-use Rattle.std.specs.Prelude.{ℕ, ◌+◌, ◌%◌, Bool, true, false, not, ◌&&◌, ◌||◌, List, [], ◌∷◌, ◌++◌, length}
-use Rattle.std.proofs.Math.Option.{none, some}
+use Rattle.std.specs.Prelude.{ℕ, ◌+◌, ◌%◌, Bool, true, false, not, ◌&&◌, ◌||◌, List, [], ◌∷◌, ◌++◌, length, None, Some}
 use Rattle.spec.specs.Tests.{◌is◌, ◌isnt◌, ◌above◌, ◌⇒◌else◌, same, sum}
 use Rattle.spec.specs.Numbers.{page_up}
 use Rattle.spec.specs.Book.{valid, range, stack, same_segment, data_only, pieces, page_count}
@@ -132,7 +131,7 @@ pub record Machine : Type 0 where
 
 -- nothing left
 abbrev pub off : Setup → Machine
-off setup = record { setup = setup; segments = []; bss = range 0 0; mem = λ a. none }
+off setup = record { setup = setup; segments = []; bss = range 0 0; mem = λ a. None }
 
 -- ---- what a call answers, over what the machine holds, the free frames, for replace those held alone, and the numbers taken
 
@@ -253,7 +252,7 @@ abbrev pub weigh : Machine → ℕ → ℕ → Ask → Reply
 weigh m free alone (start form image name bytes lengths) = plainly (weigh_start m.setup free (image_error m.setup form image) (program_of m.setup form image) (args_of bytes lengths))
 weigh m free alone (replace form image name argv) = plainly (weigh_replace m.setup free alone (image_error m.setup form image) (program_of m.setup form image) (copy_argv m.setup m.mem argv))
 weigh m free alone (push pc top bytes lengths) = plainly (weigh_push m pc top (args_of bytes lengths))
-weigh m free alone (break addr) = plainly (weigh_break (ibrk m.setup (some m.bss) addr free))
+weigh m free alone (break addr) = plainly (weigh_break (ibrk m.setup (Some m.bss) addr free))
 weigh m free alone (fork child segments) = plainly (copied m above free ⇒ Refused 33 else Done)
 weigh m free alone end = plainly Done
 weigh m free alone (user-range-ok addr len write) = plainly (access m.setup m.mem write addr len names No else Value 1)

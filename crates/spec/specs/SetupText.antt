@@ -1,8 +1,7 @@
 -- The machine numbers in a file (request 5): four lines, `UTZERO=65536` and so on. What reads it answers 37 for bytes that are not as
 -- described, and 38, after all lines are read, for numbers that break a condition.
 -- Assumes nothing.
-use Rattle.std.specs.Prelude.{ℕ, ◌+◌, ◌*◌, ◌-◌, not, List, [], ◌∷◌, ◌++◌, length, take, drop, get_or, replicate}
-use Rattle.std.proofs.Math.Option.{Option, none, some}
+use Rattle.std.specs.Prelude.{ℕ, ◌+◌, ◌*◌, ◌-◌, not, List, [], ◌∷◌, ◌++◌, length, take, drop, get_or, replicate, Option, None, Some}
 use Rattle.spec.specs.Tests.{◌is◌, ◌isnt◌, ◌above◌, within, ◌⇒◌else◌, same, ascii}
 use Rattle.spec.specs.Flags.{built_in}
 use Rattle.spec.specs.Numbers.{setup_ok, limit, arg_limit}
@@ -41,15 +40,15 @@ pub record Line : Type 0 where
 abbrev pub digits_line : List ℕ → Option Line
 digits_line bytes =
     let ds : List ℕ = digits bytes in
-    not (within 1 16 (length ds)) ⇒ none else
-    get_or ds 0 48 is 48 ⇒ none else
-    get_or bytes (length ds) 0 isnt 10 ⇒ none else
-    some (record { number = decimal_from 0 ds; rest = drop (length ds + 1) bytes })
+    not (within 1 16 (length ds)) ⇒ None else
+    get_or ds 0 48 is 48 ⇒ None else
+    get_or bytes (length ds) 0 isnt 10 ⇒ None else
+    Some (record { number = decimal_from 0 ds; rest = drop (length ds + 1) bytes })
 
 abbrev pub line_of : List ℕ → List ℕ → Option Line
 line_of name bytes =
     let begins : List ℕ = name ++ ascii "=" in
-    same ◌is◌ (take (length begins) bytes) begins ⇒ digits_line (drop (length begins) bytes) else none
+    same ◌is◌ (take (length begins) bytes) begins ⇒ digits_line (drop (length begins) bytes) else None
 
 -- what reading comes to: 37, 38, or 0 with the setup, whose flag table is the built-in one; a refusal answers zeros
 pub record Read : Type 0 where
@@ -61,8 +60,8 @@ unread error = record { error = error; setup = record { utzero = 0; ustktop = 0;
 
 -- the line that comes next, or 37
 abbrev pub on_line : Option Line → (Line → Read) → Read
-on_line none next = unread 37
-on_line (some l) next = next l
+on_line None next = unread 37
+on_line (Some l) next = next l
 
 -- four lines in their order, with no byte after the fourth; then the conditions
 unfoldable pub read_setup : List ℕ → Read

@@ -1,8 +1,7 @@
 -- Item 2: a sound book, as a test that can be run and as facts. A call is judged by the test; proofs use the facts, and crate spec_laws
 -- proves that the two say the same.
 -- Assumes nothing.
-use Rattle.std.specs.Prelude.{ℕ, ◌+◌, ◌*◌, ◌-◌, ◌/◌, ◌%◌, ◌≤◌, ◌<◌, ◌≡◌, Bool, true, false, not, ◌&&◌, ◌||◌, List, [], ◌∷◌, ◌++◌, length, get_or, replicate}
-use Rattle.std.proofs.Math.Option.{Option, none, some}
+use Rattle.std.specs.Prelude.{ℕ, ◌+◌, ◌*◌, ◌-◌, ◌/◌, ◌%◌, ◌≤◌, ◌<◌, ◌≡◌, Bool, true, false, not, ◌&&◌, ◌||◌, List, [], ◌∷◌, ◌++◌, length, get_or, replicate, Option, None, Some}
 use Rattle.spec.specs.Tests.{◌is◌, ◌isnt◌, ◌below◌, ◌above◌, within, ◌⇒◌else◌, all, all_below}
 use Rattle.spec.specs.Numbers.{limit, SetupOk, max_procs, page_up}
 use Rattle.spec.specs.Book.{page_of, owner_of, perm_of, valid, frame_count, mapping, holders, count_below, frame_of, book_perm, same_segment, zero_segment, unused, lives, stack, perm_at, proc_at, pieces_of}
@@ -16,8 +15,8 @@ use Rattle.spec.specs.declared.Procs.{Procs}
 
 -- whether a search comes to a number: a page's permission, or its frame
 abbrev pub gives : Option ℕ → ℕ → Bool
-gives none x = false
-gives (some q) x = q is x
+gives None x = false
+gives (Some q) x = q is x
 
 -- frame k's place numbered n is 0, or has owner n, permission 1 to 3 and a page from UTZERO to below UADDRTOP, which the owner has in
 -- no other frame

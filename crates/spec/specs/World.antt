@@ -1,8 +1,7 @@
 -- Frames, book and records: what a process holds in them, what a call answers and what it leaves. `Does`, at the end, is the one
 -- form of the ten calls' contracts.
 -- Assumes nothing.
-use Rattle.std.specs.Prelude.{ℕ, ◌-◌, ◌≡◌, Bool, true, not, ◌&&◌, List, [], ◌∷◌, ◌++◌, length, get_or, set, replicate}
-use Rattle.std.proofs.Math.Option.{Option, none, some}
+use Rattle.std.specs.Prelude.{ℕ, ◌-◌, ◌≡◌, Bool, true, not, ◌&&◌, List, [], ◌∷◌, ◌++◌, length, get_or, set, replicate, Option, None, Some}
 use Rattle.spec.specs.Tests.{◌is◌, ◌isnt◌, within, ◌⇒◌else◌}
 use Rattle.spec.specs.Numbers.{setup_error, page_up, page_bytes, zero_page}
 use Rattle.spec.specs.Name.{elem, kstrcpy}
@@ -61,9 +60,9 @@ answer s c =
 
 -- readable is an address where `copy_from_user` of one byte would pass now, with the byte it would give
 abbrev pub given : Reply → Outcome → Option ℕ
-given r accepted = some (get_or r.buffer 0 0)
-given r refused = none
-given r ended = none
+given r accepted = Some (get_or r.buffer 0 0)
+given r refused = None
+given r ended = None
 
 abbrev pub readable : State → ℕ → ℕ → Option ℕ
 readable s n a =

@@ -1,10 +1,9 @@
 -- What an accepted call tells, for each of the calls that change something: who lives, and that its own tests passed.
-use Rattle.std.specs.Prelude.{Ok, Err}
+use Rattle.std.specs.Prelude.{Ok, Err, Some}
 use Prim.Native.Nat.{ℕ, ◌+◌, ◌*◌, ◌-◌, ◌%◌, ◌^◌, ◌≤◌}
 use native.Mathlib.Omega.{arith}
 use mathlib.Core.Path.{◌≡◌, refl, sym, ap, ◌∙◌}
 use mathlib.Core.Bool.{Bool, true, false, not}
-use mathlib.Core.Option.{some}
 use mathlib.Core.List.{List}
 use lib.ListN.{length}
 use borrow.Author.Tests.{eqb-true, ltb-true, ltb-false, ne_eqb}
@@ -157,7 +156,7 @@ pub record Moves (setup : Setup) (b : VirtRange) (addr free : ℕ) : Type 0 wher
   pub low : page_up addr ≤ limit setup
   pub room : page_up addr - b.end ≤ 4096 * free
 
-pub ibrk-moves : (setup : Setup) (b : VirtRange) (addr free : ℕ) → (ibrk setup (some b) addr free).error ≡ 0 → (addr ≡ 0 → ⊥) → Moves setup b addr free
+pub ibrk-moves : (setup : Setup) (b : VirtRange) (addr free : ℕ) → (ibrk setup (Some b) addr free).error ≡ 0 → (addr ≡ 0 → ⊥) → Moves setup b addr free
 unfolding ibrk
 ibrk-moves setup b addr free e nz =
     let Free : Break → Type 0 = λ x. x.error ≡ 0 in
@@ -186,7 +185,7 @@ pub record Breaks (s : State) (n addr : ℕ) : Type 0 where
 pub breaks : (s : State) → Good s → (n addr : ℕ) → Accepts s n (break addr) → Breaks s n addr
 breaks s g n addr e =
     let w = went s g n (break addr) e in
-    let b : Break = ibrk s.setup (some (view s n).bss) addr (free s.store.book) in
+    let b : Break = ibrk s.setup (Some (view s n).bss) addr (free s.store.book) in
     let p = past Goes (b.error isnt 0) (Refused b.error) (Value b.value) w.weighed refused-not in
     record { number = w.number; living = w.lives; moves = ibrk-moves s.setup (view s n).bss addr (free s.store.book) (zero_is _ p.0) }
 

@@ -1,10 +1,9 @@
 -- Demand 2's last sentence: registers that a call answers tell of its arguments, of any good state.
-use Rattle.std.specs.Prelude.{Ok, Err}
+use Rattle.std.specs.Prelude.{Ok, Err, Option, Some}
 use Prim.Native.Nat.{ℕ, ◌+◌, ◌*◌, ◌-◌, ◌%◌, ◌≤◌, ◌<◌}
 use native.Mathlib.Omega.{arith}
 use mathlib.Core.Path.{◌≡◌, refl, sym, ap, subst, ◌∙◌}
 use mathlib.Core.Bool.{Bool, true, false}
-use mathlib.Core.Option.{Option, some}
 use mathlib.Core.List.{List, [], ◌∷◌, ◌++◌}
 use lib.ListN.{length}
 use borrow.Author.Tests.{eq-eqb}
@@ -40,7 +39,7 @@ use Rattle.spec_history.proofs.EachCall.{each-call}
 -- ---- the stack of a loaded program may be written
 
 -- an address of a later piece is of no earlier one
-behind : (gs hs : List UserSegment) (a q : ℕ) → Pieces (gs ++ hs) → perm_at hs a ≡ some q → perm_at (gs ++ hs) a ≡ some q
+behind : (gs hs : List UserSegment) (a q : ℕ) → Pieces (gs ++ hs) → perm_at hs a ≡ Some q → perm_at (gs ++ hs) a ≡ Some q
 behind [] hs a q p e = e
 behind (g ∷ gs) hs a q p e = perm-tail g (gs ++ hs) a q p.0 (behind gs hs a q p.1 e)
 
@@ -49,14 +48,14 @@ later_pieces [] hs p = p
 later_pieces (g ∷ gs) hs p = later_pieces gs hs p.1
 
 module _ (setup : Setup) (set : SetupOk setup) (program : Program) (ok : Accepted setup program) where
-  stack-perm : (a : ℕ) → setup.ustktop - setup.ustksize ≤ a → a < setup.ustktop → perm_at (start_pieces setup program) a ≡ some 3
+  stack-perm : (a : ℕ) → setup.ustktop - setup.ustksize ≤ a → a < setup.ustktop → perm_at (start_pieces setup program) a ≡ Some 3
   stack-perm a l h =
       let p = start-apart setup set program ok in
       let q = later_pieces (program_segments program) (bss_segment (program_bss program) ∷ stack setup ∷ []) p in
       behind (program_segments program) (bss_segment (program_bss program) ∷ stack setup ∷ []) a 3 p
       (perm-tail (bss_segment (program_bss program)) (stack setup ∷ []) a 3 q.0 (perm-here (stack setup) [] a (within-test (setup.ustktop - setup.ustksize) setup.ustktop a l h)))
 
-  writable : (b : ℕ) (o : Option ℕ) → o ≡ some 3 → cell_ok true (cell_of b o) ≡ true
+  writable : (b : ℕ) (o : Option ℕ) → o ≡ Some 3 → cell_ok true (cell_of b o) ≡ true
   writable b o e = rw e refl
 
   stack-range : (addr len : ℕ) → setup.ustktop - setup.ustksize ≤ addr → addr + len ≤ setup.ustktop → Writable setup (loaded setup program) addr len
@@ -197,7 +196,7 @@ module _ (s : State) (g : Good s) (n : ℕ) (regs : UserRegs) where
   of-each (replace form image name argv) e = of-replace form image name argv e
   of-each (push pc top bytes lengths) e = of-push pc top bytes lengths e
   of-each (break addr) e =
-      let b : Break = ibrk s.setup (some (view s n).bss) addr (free s.store.book) in
+      let b : Break = ibrk s.setup (Some (view s n).bss) addr (free s.store.book) in
       no_regs (b.error isnt 0) (Refused b.error) (Value b.value) regs refl refl (weighed (break addr) e)
   of-each (fork child segments) e = no_regs (copied (view s n) above free s.store.book) (Refused 33) Done regs refl refl (weighed (fork child segments) e)
   of-each end e = no_regs false Done Done regs refl refl (weighed end e)

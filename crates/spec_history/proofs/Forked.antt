@@ -2,7 +2,7 @@
 use Prim.Native.Nat.{ℕ, ◌-◌, ◌%◌}
 use mathlib.Core.Path.{◌≡◌, refl, sym, ap, ap₂, ◌∙◌, subst, fun_ext}
 use mathlib.Core.Bool.{true}
-use mathlib.Core.Option.{Option, none, some}
+use Rattle.std.specs.Prelude.{Option, None, Some}
 use mathlib.Core.List.{List}
 use lib.ListN.{get_or}
 use borrow.Author.Tests.{eq-eqb}
@@ -31,12 +31,12 @@ use Rattle.spec_history.proofs.Change.{Change, stored-self, change-set}
 
 -- a cell is its permission and its byte
 cell-again : (c : Option Cell) → cell_or (only_data (perm_in c)) (byte_of c) (text_of c) ≡ c
-cell-again none = refl
-cell-again (some c) = split (c.perm is 3) (λ q. rw q) (λ q. rw q)
+cell-again None = refl
+cell-again (Some c) = split (c.perm is 3) (λ q. rw q) (λ q. rw q)
 
-no_text : (c : Option Cell) (q : ℕ) → perm_in c ≡ some q → q ≡ 3 → text_of c ≡ none
-no_text none q e z = refl
-no_text (some c) q e z = let w : c.perm ≡ q = cc in rw (eq-eqb c.perm 3 (w ∙ z))
+no_text : (c : Option Cell) (q : ℕ) → perm_in c ≡ Some q → q ≡ 3 → text_of c ≡ None
+no_text None q e z = refl
+no_text (Some c) q e z = let w : c.perm ≡ q = cc in rw (eq-eqb c.perm 3 (w ∙ z))
 
 -- the pages of a living process
 proper-own : (s : State) → Good s → (n : ℕ) → valid n ≡ true → taken s n ≡ true → Proper s.setup (pieces_of (proc_at s.procs n))
@@ -76,7 +76,7 @@ fork-change s g n child h =
     apart : child ≡ n → ⊥
     apart e = clash (taken s n) h.living (ap (taken s) (sym e) ∙ h.dead)
 
-    empty : Stored s.setup s.store s.store child (λ a. none)
+    empty : Stored s.setup s.store s.store child (λ a. None)
     empty = subst (Stored s.setup s.store s.store child) (ap (λ (m : Machine). m.mem) (dead-view s g child h.child-number h.dead)) (stored-self s g child)
 
     shared : Stored s.setup s.store (share s.store n child) child (λ a. text_of ((view s n).mem a))

@@ -3,7 +3,7 @@ use Prim.Native.Nat.{ℕ, ◌%◌, ◌≤◌}
 use native.Mathlib.Omega.{arith}
 use mathlib.Core.Path.{◌≡◌, refl, sym, ap, ap₂, ◌∙◌, subst, fun_ext}
 use mathlib.Core.Bool.{true, false}
-use mathlib.Core.Option.{Option, none, some}
+use Rattle.std.specs.Prelude.{Option, None, Some}
 use mathlib.Core.List.{List}
 use lib.ListN.{length, get_or}
 use Rattle.spec.specs.Numbers.{limit, arg_limit, page_down, page_bytes}
@@ -26,13 +26,13 @@ use Rattle.spec_history.proofs.Stored.{Stored, stored-place}
 use Rattle.spec_history.proofs.Change.{holds, Change, stored-self, change-set}
 use Rattle.spec_history.proofs.Written.{exact-pushed, stored-pushed}
 
-cell_same : (o : Option ℕ) (b : ℕ) → cell_or o b none ≡ cell_of b o
-cell_same none b = refl
-cell_same (some q) b = refl
+cell_same : (o : Option ℕ) (b : ℕ) → cell_or o b None ≡ cell_of b o
+cell_same None b = refl
+cell_same (Some q) b = refl
 
 cell-perm : (o : Option ℕ) (b : ℕ) → perm_in (cell_of b o) ≡ o
-cell-perm none b = refl
-cell-perm (some q) b = refl
+cell-perm None b = refl
+cell-perm (Some q) b = refl
 
 pub load-change : (s : State) → Good s → (n : ℕ) (program : Program) (name : List ℕ) (args : List (List ℕ)) → valid n ≡ true → taken s n ≡ false → Accepted s.setup program → page_count (start_pieces s.setup program) ≤ free s.store.book → stack_size (length (strings args)) (length args) ≤ arg_limit s.setup
     → Change s (load s n program name args) n (begun s.setup program args)
@@ -56,13 +56,13 @@ load-change s g n program name args v t e room fit =
     m : Store
     m = place s.store n (pages_of f (start_pieces s.setup program))
 
-    data-here : (x q : ℕ) → limit s.setup ≤ x → perm_in (loaded s.setup program x) ≡ some q → q ≡ 3
+    data-here : (x q : ℕ) → limit s.setup ≤ x → perm_in (loaded s.setup program x) ≡ Some q → q ≡ 3
     data-here x q l f = start-data s.setup (good-setup s g) program e x q l (sym (cell-perm (perm_at (start_pieces s.setup program) x) (file_byte program.segments x)) ∙ f)
 
     begun-is : holds s.setup p (pushed s.setup.ustktop args (loaded s.setup program)) ≡ begun s.setup program args
     begun-is = let x = shape-used s.setup p (program_segments program) (program-shape s.setup (good-setup s g) program name e) in λ i. record { setup = s.setup; segments = x i; bss = p.bss; mem = pushed s.setup.ustktop args (loaded s.setup program) }
 
-    empty : (a : ℕ) → (view s n).mem a ≡ none
+    empty : (a : ℕ) → (view s n).mem a ≡ None
     empty a = ap (λ (x : Machine). x.mem a) (dead-view s g n v t)
 
     seen : (a : ℕ) → cell_or (perm_at (start_pieces s.setup program) a) (get_or (f (page_down a)) (a % 4096) 0) ((view s n).mem a) ≡ loaded s.setup program a

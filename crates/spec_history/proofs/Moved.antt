@@ -3,7 +3,7 @@ use Prim.Native.Nat.{ℕ, ◌-◌, ◌%◌, ◌≤◌, ◌<◌}
 use native.Mathlib.Omega.{arith}
 use mathlib.Core.Path.{◌≡◌, refl, sym, ap, ◌∙◌, subst, fun_ext}
 use mathlib.Core.Bool.{Bool, true, false, not, ◌&&◌}
-use mathlib.Core.Option.{Option, none, some}
+use Rattle.std.specs.Prelude.{Option, None, Some}
 use mathlib.Core.List.{List, [], ◌∷◌}
 use lib.ListN.{get_or}
 use borrow.Author.Tests.{lt-ltb, le-ltb}
@@ -47,7 +47,7 @@ moved-shape setup p image h top l z u =
 -- ---- permissions
 
 -- no segment of a record lies between its bss and limit
-above-segments : (setup : Setup) (p : Proc) (image : List UserSegment) → Shape setup p image → (a : ℕ) → page_up p.bss.start ≤ a → a < limit setup → perm_at (used p.segments) a ≡ none
+above-segments : (setup : Setup) (p : Proc) (image : List UserSegment) → Shape setup p image → (a : ℕ) → page_up p.bss.start ≤ a → a < limit setup → perm_at (used p.segments) a ≡ None
 above-segments setup p image h a l u =
     let b = shape-bss setup p image h in
     ap (λ (gs : List UserSegment). perm_at gs a) (shape-used setup p image h)
@@ -74,7 +74,7 @@ moved-exact setup p image h top l u mem e a =
     let r = within-means top end a t in
     rw (q, t) (sym (perm-past (used p.segments) (bss_segment (range start top) ∷ []) a (above-segments setup p image h a (omega (arith, r.0)) (omega (arith, r.1, h.bss-end.1)))
     ∙ rw (within-not (page_up start) top a (λ x y. omega (arith, r.0))))))
-    (λ t. rw (q, t) (e a ∙ tail-same (used p.segments) (bss_segment p.bss ∷ []) (bss_segment (range start top) ∷ []) a (ap (λ (b : Bool). not (a below page_up start) && b ⇒ some 3 else none) (same-below end top a q t)))))
+    (λ t. rw (q, t) (e a ∙ tail-same (used p.segments) (bss_segment p.bss ∷ []) (bss_segment (range start top) ∷ []) a (ap (λ (b : Bool). not (a below page_up start) && b ⇒ Some 3 else None) (same-below end top a q t)))))
   where
     start : ℕ
     start = p.bss.start
@@ -87,9 +87,9 @@ moved-exact setup p image h top l u mem e a =
 
 -- ---- frames and book
 
-nothing : (c : Option Cell) → perm_in c ≡ none → c ≡ none
-nothing none e = refl
-nothing (some c) e = absurd (let z : ◌≡◌ {A = ℕ} 0 1 = cc in omega arith)
+nothing : (c : Option Cell) → perm_in c ≡ None → c ≡ None
+nothing None e = refl
+nothing (Some c) e = absurd (let z : ◌≡◌ {A = ℕ} 0 1 = cc in omega arith)
 
 pub break-change : (s : State) → Good s → (n addr : ℕ) → valid n ≡ true → taken s n ≡ true → Moves s.setup (view s n).bss addr (free s.store.book)
     → Change s (brk s n (proc_at s.procs n) (page_up addr)) n (moved_to (page_up addr) (view s n))
@@ -132,17 +132,17 @@ break-change s g n addr v t h =
     m₁ = release s.store n (within top end)
 
     mem₁ : Mem
-    mem₁ a = within top end (page_down a) ⇒ none else mem a
+    mem₁ a = within top end (page_down a) ⇒ None else mem a
 
     released : Stored s.setup s.store m₁ n mem₁
     released = stored-release s.setup s.store s.store n mem (stored-self s g n) v (within top end)
 
     -- an address of a new page
-    between : (a q : ℕ) → perm_at gs a ≡ some q → (q ≡ 3) × (end ≤ a) × (a < top)
+    between : (a q : ℕ) → perm_at gs a ≡ Some q → (q ≡ 3) × (end ≤ a) × (a < top)
     between a q e =
         split (within end top a)
-        (λ w. let r = within-means end top a w in let z : some 3 ≡ some q = rw w at e in (cc, r.0, r.1))
-        (λ w. let z : none ≡ some q = rw w at e in absurd (let y : ◌≡◌ {A = ℕ} 0 1 = cc in omega arith))
+        (λ w. let r = within-means end top a w in let z : Some 3 ≡ Some q = rw w at e in (cc, r.0, r.1))
+        (λ w. let z : None ≡ Some q = rw w at e in absurd (let y : ◌≡◌ {A = ℕ} 0 1 = cc in omega arith))
 
     proper : Proper s.setup gs
     proper a q e =
@@ -150,19 +150,19 @@ break-change s g n addr v t h =
         (omega (arith, r.0), omega (arith, r.0), omega (arith, r.1, shape.bss-start, shape.bss-order), omega (arith, r.2, h.low, good-setup s g))
 
     -- was not there
-    new : (a q : ℕ) → a % 4096 ≡ 0 → perm_at gs a ≡ some q → mem₁ a ≡ none
+    new : (a q : ℕ) → a % 4096 ≡ 0 → perm_at gs a ≡ Some q → mem₁ a ≡ None
     new a q z e = gone (within top end (page_down a))
       where
         r : (q ≡ 3) × (end ≤ a) × (a < top)
         r = between a q e
 
-        unmapped : mem a ≡ none
+        unmapped : mem a ≡ None
         unmapped =
             nothing (mem a) (pages s g n a v
             ∙ perm-past (used p.segments) (bss_segment p.bss ∷ []) a (above-segments s.setup p image shape a (omega (arith, r.1, shape.bss-order, low.0)) (omega (arith, r.2, h.low)))
             ∙ rw (within-not (page_up p.bss.start) end a (λ x y. omega (arith, r.1))))
 
-        gone : (b : Bool) → (b ⇒ none else mem a) ≡ none
+        gone : (b : Bool) → (b ⇒ None else mem a) ≡ None
         gone true = refl
         gone false = unmapped
 
@@ -172,6 +172,6 @@ break-change s g n addr v t h =
     seen : (a : ℕ) → cell_or (perm_at gs a) (get_or (zero_page (page_down a)) (a % 4096) 0) (mem₁ a) ≡ moved end top mem a
     seen a = rw (zero-byte (page_down a) (a % 4096), within-page top end a top-aligned low.0) (go (within end top a))
       where
-        go : (b : Bool) → cell_or (b ⇒ some 3 else none) 0 (within top end a ⇒ none else mem a) ≡ (b ⇒ some (record { perm = 3; byte = 0 }) else within top end a ⇒ none else mem a)
+        go : (b : Bool) → cell_or (b ⇒ Some 3 else None) 0 (within top end a ⇒ None else mem a) ≡ (b ⇒ Some (record { perm = 3; byte = 0 }) else within top end a ⇒ None else mem a)
         go true = refl
         go false = refl

@@ -1,10 +1,9 @@
 -- Bad addresses (request 4): which answers name one, what check of the process's own memory it comes from, and that it can't be accessed.
-use Rattle.std.specs.Prelude.{Ok, Err}
+use Rattle.std.specs.Prelude.{Ok, Err, Option, None, Some}
 use Prim.Native.Nat.{ℕ, zero, suc, ◌+◌, ◌*◌, ◌-◌, ◌%◌, ◌^◌}
 use native.Mathlib.Omega.{arith}
 use mathlib.Core.Path.{◌≡◌, refl, sym, ap, ap₂, ◌∙◌}
 use mathlib.Core.Bool.{Bool, true, false, not, ◌&&◌}
-use mathlib.Core.Option.{Option, none, some}
 use mathlib.Core.List.{List, [], ◌∷◌, ◌++◌, map}
 use lib.ListN.{length, take}
 use Rattle.spec.proofs.Bools.{split, clash}
@@ -34,14 +33,14 @@ use Rattle.spec_history.proofs.OneState.{known}
 
 -- the address that an answer names
 abbrev pub named : Answer → Option ℕ
-named (Regs regs) = none
-named (Value value) = none
-named Done = none
-named (No address) = some address
-named (Refused number) = none
-named (Ended number) = none
-named (RefusedAt address) = some address
-named (EndedAt address) = some address
+named (Regs regs) = None
+named (Value value) = None
+named Done = None
+named (No address) = Some address
+named (Refused number) = None
+named (Ended number) = None
+named (RefusedAt address) = Some address
+named (EndedAt address) = Some address
 
 -- what reading arguments comes to, as a check
 abbrev pub reading_args : Argv → Checked
@@ -90,16 +89,16 @@ fed-same setup (c ∷ k) (d ∷ l) e =
 
 -- ---- an address that is named is the check's, whatever frames are free
 
-none_named : {P : Type 0} (a : ℕ) → ◌≡◌ {A = Option ℕ} none (some a) → P
+none_named : {P : Type 0} (a : ℕ) → ◌≡◌ {A = Option ℕ} None (Some a) → P
 none_named a e = absurd (let z : ◌≡◌ {A = ℕ} 0 1 = cc in omega arith)
 
-past : (t : Bool) (x y : Answer) (a : ℕ) → named x ≡ none → named (t ⇒ x else y) ≡ some a → named y ≡ some a
+past : (t : Bool) (x y : Answer) (a : ℕ) → named x ≡ None → named (t ⇒ x else y) ≡ Some a → named y ≡ Some a
 past true x y a n e = none_named a (sym n ∙ e)
 past false x y a n e = e
 
-checked : {A : Type 0} (says : A → Answer) (t : Checked) (f : ℕ → A) (y : A) (a : ℕ) → ((b : ℕ) → named (says (f b)) ≡ some b) → named (says y) ≡ none → named (says (t names f else y)) ≡ some a → t ≡ Err a
+checked : {A : Type 0} (says : A → Answer) (t : Checked) (f : ℕ → A) (y : A) (a : ℕ) → ((b : ℕ) → named (says (f b)) ≡ Some b) → named (says y) ≡ None → named (says (t names f else y)) ≡ Some a → t ≡ Err a
 checked says (Ok _) f y a h n e = none_named a (sym n ∙ e)
-checked says (Err b) f y a h n e = let z : some b ≡ some a = sym (h b) ∙ e in let w : b ≡ a = cc in ap Err w
+checked says (Err b) f y a h n e = let z : Some b ≡ Some a = sym (h b) ∙ e in let w : b ≡ a = cc in ap Err w
 
 -- what a call that names an address asks and answers
 pub record Names (m : Machine) (f al : ℕ) (q : Ask) (a : ℕ) : Type 0 where
@@ -107,17 +106,17 @@ pub record Names (m : Machine) (f al : ℕ) (q : Ask) (a : ℕ) : Type 0 where
   pub by : check m q ≡ Err a
   pub whatever-is-free : (g bl : ℕ) → weigh m g bl q ≡ weigh m f al q
 
-replace-names : (setup : Setup) (f al error : ℕ) (program : Program) (r : Argv) (a : ℕ) → named (weigh_replace setup f al error program r) ≡ some a
+replace-names : (setup : Setup) (f al error : ℕ) (program : Program) (r : Argv) (a : ℕ) → named (weigh_replace setup f al error program r) ≡ Some a
     → (reading_args r ≡ Err a) × ((g bl : ℕ) → weigh_replace setup g bl error program r ≡ weigh_replace setup f al error program r)
 replace-names setup f al error program r a e = go r (past (error isnt 0) (Refused error) (weigh_read setup f al program r) a refl e)
   where
-    go : (r : Argv) → named (weigh_read setup f al program r) ≡ some a
+    go : (r : Argv) → named (weigh_read setup f al program r) ≡ Some a
         → (reading_args r ≡ Err a) × ((g bl : ℕ) → weigh_replace setup g bl error program r ≡ weigh_replace setup f al error program r)
     go (bad b) e = let z : b ≡ a = cc in (ap Err z, λ g bl. refl)
     go over e = none_named a e
     go (read args) e = none_named a (past (page_count (start_pieces setup program) above al + f) (Ended 33) (Regs (registers program.entry setup.ustktop args)) a refl e)
 
-pub weigh-names : (m : Machine) (f al : ℕ) (q : Ask) (a : ℕ) → named (weigh m f al q).says ≡ some a → Names m f al q a
+pub weigh-names : (m : Machine) (f al : ℕ) (q : Ask) (a : ℕ) → named (weigh m f al q).says ≡ Some a → Names m f al q a
 weigh-names m f al (start form image name bytes lengths) a e =
     let program : Program = program_of m.setup form image in
     let args : List (List ℕ) = args_of bytes lengths in
@@ -138,7 +137,7 @@ weigh-names m f al (push pc top bytes lengths) a e =
     let e₂ = past (args_error m.setup args isnt 0) (Refused (args_error m.setup args)) a₂ a refl e₁ in
     record { own = refl; by = checked (λ x. x) (push_access m.setup m.mem top args) EndedAt (Regs (registers pc top args)) a (λ b. refl) refl e₂; whatever-is-free = λ g bl. refl }
 weigh-names m f al (break addr) a e =
-    let b : Break = ibrk m.setup (some m.bss) addr f in
+    let b : Break = ibrk m.setup (Some m.bss) addr f in
     none_named a (past (b.error isnt 0) (Refused b.error) (Value b.value) a refl e)
 weigh-names m f al (fork child segments) a e = none_named a (past (copied m above f) (Refused 33) Done a refl e)
 weigh-names m f al end a e = none_named a e
@@ -158,10 +157,10 @@ weigh-names m f al (try-copy-str-from-user buffer src) a e =
     record { own = refl; by = checked (λ x. x) str.access RefusedAt (Value str.size) a (λ b. refl) refl e; whatever-is-free = λ g bl. refl }
 
 -- a call that names an address has passed 1 to 5
-pub named-passed : (s : State) → Good s → (c : Call) (a : ℕ) → named (answer s c).says ≡ some a
-    → Passed (view s c.number) (free s.store.book) (alone_for s c) (taken s) c (λ r. named r.says ≡ some a)
+pub named-passed : (s : State) → Good s → (c : Call) (a : ℕ) → named (answer s c).says ≡ Some a
+    → Passed (view s c.number) (free s.store.book) (alone_for s c) (taken s) c (λ r. named r.says ≡ Some a)
 named-passed s g c a e =
-    passed-by (λ r. named r.says ≡ some a) (view s c.number) (free s.store.book) (alone_for s c) (taken s) c
+    passed-by (λ r. named r.says ≡ Some a) (view s c.number) (free s.store.book) (alone_for s c) (taken s) c
     (ap (λ (r : Reply). named r.says) (sym (answered s g c)) ∙ e) (λ n z. none_named a z)
 
 -- ---- and it can't be accessed
@@ -218,7 +217,7 @@ module _ (setup : Setup) (mem : Mem) where
       (λ b q. q ∙ ap Err (one-bad setup mem w a b q))
 
 -- where no page is at 0, which a push below 0 names
-pub check-unreached : (m : Machine) (q : Ask) (a : ℕ) → m.mem 0 ≡ none → check m q ≡ Err a → Unreached m.setup m.mem (to_write q) a
+pub check-unreached : (m : Machine) (q : Ask) (a : ℕ) → m.mem 0 ≡ None → check m q ≡ Err a → Unreached m.setup m.mem (to_write q) a
 unfolding copy_argv
 check-unreached m (start form image name bytes lengths) a z e = not-bad a e
 check-unreached m (replace form image name argv) a z e = args-unreached m.setup m.mem argv (arg_limit m.setup) [] a e
@@ -238,12 +237,12 @@ check-unreached m (copy-to-user dst bytes) a z e = range-unreached m.setup m.mem
 check-unreached m (try-copy-str-from-user buffer src) a z e = string-unreached m.setup m.mem buffer src a e
 
 -- no process has a page there
-pub no-page-0 : (s : State) → Good s → (n : ℕ) → valid n ≡ true → (view s n).mem 0 ≡ none
+pub no-page-0 : (s : State) → Good s → (n : ℕ) → valid n ≡ true → (view s n).mem 0 ≡ None
 no-page-0 s g n v = go (frame_of s.store.book n (page_down 0)) refl
   where
-    go : (o : Option ℕ) → frame_of s.store.book n (page_down 0) ≡ o → cell_in s.store n 0 o ≡ none
-    go none e = refl
-    go (some k) e = absurd (omega (arith, (found_between s.setup s.store.book s.procs (known s g).facts n 0 k v e).0, good-setup s g))
+    go : (o : Option ℕ) → frame_of s.store.book n (page_down 0) ≡ o → cell_in s.store n 0 o ≡ None
+    go None e = refl
+    go (Some k) e = absurd (omega (arith, (found_between s.setup s.store.book s.procs (known s g).facts n 0 k v e).0, good-setup s g))
 
 -- ---- 35 always comes with an address
 
@@ -251,7 +250,7 @@ abbrev Other : ℕ → Type 0
 Other k = k ≡ 35 → ⊥
 
 abbrev Tells : Answer → Type 0
-Tells x = number_of x ≡ 35 → named x ≡ some (value_of x)
+Tells x = number_of x ≡ 35 → named x ≡ Some (value_of x)
 
 choose : {A : Type 0} (P : A → Type 0) (t : Bool) (x y : A) → P x → P y → P (t ⇒ x else y)
 choose P true x y p q = p
@@ -273,7 +272,7 @@ image-other setup form image =
     choose Other (read_error setup form image isnt 0) 30 _ (λ z. omega arith)
     (choose Other (not (layout_ok setup p.segments)) 30 _ (λ z. omega arith) (choose Other (length (program_segments p) above 15) 31 0 (λ z. omega arith) (λ z. omega arith)))
 
-break-other : (setup : Setup) (b : VirtRange) (addr free : ℕ) → Other (ibrk setup (some b) addr free).error
+break-other : (setup : Setup) (b : VirtRange) (addr free : ℕ) → Other (ibrk setup (Some b) addr free).error
 unfolding ibrk
 break-other setup b addr free =
     let P : Break → Type 0 = λ x. Other x.error in
@@ -307,7 +306,7 @@ weigh-tells m f al (push pc top bytes lengths) =
     (choose Tells (args_error m.setup args isnt 0) (Refused (args_error m.setup args)) _ (quiet _ (args-other m.setup args))
     (choose-check Tells (push_access m.setup m.mem top args) EndedAt (Regs (registers pc top args)) (λ a z. refl) (λ z. absurd (omega arith))))
 weigh-tells m f al (break addr) =
-    let b : Break = ibrk m.setup (some m.bss) addr f in
+    let b : Break = ibrk m.setup (Some m.bss) addr f in
     choose Tells (b.error isnt 0) (Refused b.error) (Value b.value) (quiet _ (break-other m.setup m.bss addr f)) (λ z. absurd (omega arith))
 weigh-tells m f al (fork child segments) = choose Tells (copied m above f) (Refused 33) Done (λ z. absurd (omega arith)) (λ z. absurd (omega arith))
 weigh-tells m f al end = λ z. absurd (omega arith)

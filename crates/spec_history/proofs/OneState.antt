@@ -3,7 +3,7 @@ use Prim.Native.Nat.{ℕ, suc, ◌-◌}
 use native.Mathlib.Omega.{arith}
 use mathlib.Core.Path.{◌≡◌, refl, sym, ap, ◌∙◌}
 use mathlib.Core.Bool.{Bool, true, false, not}
-use mathlib.Core.Option.{Option, none, some}
+use Rattle.std.specs.Prelude.{Option, None, Some}
 use mathlib.Core.List.{List, [], ◌∷◌, ◌++◌}
 use lib.ListN.{length}
 use borrow.Author.Tests.{ne_eqb}
@@ -67,7 +67,7 @@ dead-view s g n v t =
     let k = known s g in
     let d : lives (proc_at s.procs n) ≡ false = sym (taken_is s n v) ∙ t in
     let p = dead-zero (proc_at s.procs n) (k.whole.each (n - 1)) d in
-    let cell : (a : ℕ) → (view s n).mem a ≡ none = λ a. ap (cell_in s.store n a) (dead-frame s.setup s.store.book s.procs k.whole k.facts n v d (page_down a)) in
+    let cell : (a : ℕ) → (view s n).mem a ≡ None = λ a. ap (cell_in s.store n a) (dead-frame s.setup s.store.book s.procs k.whole k.facts n v d (page_down a)) in
     λ i. record { setup = s.setup; segments = used (p i).segments; bss = (p i).bss; mem = λ a. cell a i }
 
 begins-good : (s : State) → Begin s → Good s
@@ -99,16 +99,16 @@ given-of x = given x (outcome x)
 -- one byte may be read exactly where a page is found
 one_byte_lem : (s : State) → Good s → (n a : ℕ) → valid n ≡ true → (o : Option ℕ) → frame_of s.store.book n (page_down a) ≡ o
     → given-of (byte-reply s n a (access s.setup (view s n).mem false a 1)) ≡ byte_in (cell_in s.store n a o)
-one_byte_lem s g n a v none e =
+one_byte_lem s g n a v None e =
     either (access s.setup (view s n).mem false a 1)
     (λ q.
     let passed = ((access-passed s.setup (view s n).mem false a 1 q).each a (omega arith) (omega arith)).1 in
     clash false (sym (ap (λ (o : Option ℕ). cell_ok false (cell_in s.store n a o)) e) ∙ passed) refl)
     (λ b q. ap (λ (t : Checked). given-of (byte-reply s n a t)) q)
-one_byte_lem s g n a v (some k) e =
+one_byte_lem s g n a v (Some k) e =
     let low = (found_between s.setup s.store.book s.procs (known s g).facts n a k v e).1 in
     ap (λ (t : Checked). given-of (byte-reply s n a t)) (one-fine s.setup (view s n).mem false a (low, ap (λ (o : Option ℕ). cell_ok false (cell_in s.store n a o)) e))
-    ∙ ap (λ (o : Option ℕ). some (byte_of (cell_in s.store n a o))) e
+    ∙ ap (λ (o : Option ℕ). Some (byte_of (cell_in s.store n a o))) e
 
 pub reads : (s : State) → Good s → (n a : ℕ) → valid n ≡ true → readable s n a ≡ held (view s n) a
 unfolding judge

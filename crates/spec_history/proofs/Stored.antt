@@ -2,7 +2,7 @@
 use Prim.Native.Nat.{ℕ, ◌%◌, ◌≤◌, ◌<◌}
 use mathlib.Core.Path.{◌≡◌, refl, sym, ap, ◌∙◌, subst, fun_ext}
 use mathlib.Core.Bool.{Bool, true}
-use mathlib.Core.Option.{none, some}
+use Rattle.std.specs.Prelude.{None, Some}
 use mathlib.Core.List.{List}
 use lib.ListN.{length, get_or}
 use borrow.Author.Tests.{eq-eqb, ne_eqb}
@@ -48,18 +48,18 @@ module _ (setup : Setup) where
 
   -- ---- pages released
 
-  pub stored-release : (b m : Store) (n : ℕ) (mem : Mem) → Stored b m n mem → valid n ≡ true → (t : ℕ → Bool) → Stored b (release m n t) n (λ a. t (page_down a) ⇒ none else mem a)
+  pub stored-release : (b m : Store) (n : ℕ) (mem : Mem) → Stored b m n mem → valid n ≡ true → (t : ℕ → Bool) → Stored b (release m n t) n (λ a. t (page_down a) ⇒ None else mem a)
   stored-release b m n mem h v t = record {
     sizes = sized-release m n t v ∙ h.sizes;
     mappings = mappings-release m n t v h.mappings;
-    here = fun_ext (λ a. mem-release m n t v n a v ∙ rw (eq-eqb n n refl) (ap (λ (x : Mem). t (page_down a) ⇒ none else x a) h.here));
+    here = fun_ext (λ a. mem-release m n t v n a v ∙ rw (eq-eqb n n refl) (ap (λ (x : Mem). t (page_down a) ⇒ None else x a) h.here));
     other = λ q w ne. fun_ext (λ a. mem-release m n t v q a w ∙ rw (ne_eqb q n ne)) ∙ h.other q w ne;
   }
 
   -- ---- pages shared
 
   -- for a child that sees nothing yet: it sees the text and rodata of n
-  pub stored-share : (b m : Store) (n child : ℕ) → Stored b m child (λ a. none) → valid n ≡ true → valid child ≡ true → (child ≡ n → ⊥)
+  pub stored-share : (b m : Store) (n child : ℕ) → Stored b m child (λ a. None) → valid n ≡ true → valid child ≡ true → (child ≡ n → ⊥)
       → Stored b (share m n child) child (λ a. text_of (mem_of m n a))
   stored-share b m n child h v u ne =
       let new = unseen m child h.mappings u h.here in
@@ -74,10 +74,10 @@ module _ (setup : Setup) where
 
   -- pieces whose pages a book may have
   abbrev pub Proper : List UserSegment → Type 0
-  Proper gs = (a q : ℕ) → perm_at gs a ≡ some q → (1 ≤ q) × (q ≤ 3) × (setup.utzero ≤ a) × (a < setup.uaddrtop)
+  Proper gs = (a q : ℕ) → perm_at gs a ≡ Some q → (1 ≤ q) × (q ≤ 3) × (setup.utzero ≤ a) × (a < setup.uaddrtop)
 
   pub stored-place : (b m : Store) (n : ℕ) (mem : Mem) → Stored b m n mem → valid n ≡ true → (f : ℕ → List ℕ) (gs : List UserSegment) → Pieces gs → Proper gs
-      → ((a q : ℕ) → a % 4096 ≡ 0 → perm_at gs a ≡ some q → length (f a) ≡ 4096) → ((a q : ℕ) → a % 4096 ≡ 0 → perm_at gs a ≡ some q → mem a ≡ none) → page_count gs ≤ free m.book
+      → ((a q : ℕ) → a % 4096 ≡ 0 → perm_at gs a ≡ Some q → length (f a) ≡ 4096) → ((a q : ℕ) → a % 4096 ≡ 0 → perm_at gs a ≡ Some q → mem a ≡ None) → page_count gs ≤ free m.book
       → Stored b (place m n (pages_of f gs)) n (λ a. cell_or (perm_at gs a) (get_or (f (page_down a)) (a % 4096) 0) (mem a))
   stored-place b m n mem h v f gs pieces proper bytes new enough =
       let fits = sized-fits m h.sizes in

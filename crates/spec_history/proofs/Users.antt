@@ -1,12 +1,11 @@
 -- What a program's author asks: whose bytes a call changes, what a child, a start and a moved break find, where a program's arguments
 -- are, which starts fit, and what a bad address that is named tells.
 -- Of any good state, and so after any list of calls.
-use Rattle.std.specs.Prelude.{Err}
+use Rattle.std.specs.Prelude.{Err, None, Some}
 use Prim.Native.Nat.{ℕ, ◌+◌, ◌-◌, ◌≤◌, ◌<◌}
 use native.Mathlib.Omega.{arith}
 use mathlib.Core.Path.{◌≡◌, refl, sym, ap, ◌∙◌}
 use mathlib.Core.Bool.{Bool, true, false, not}
-use mathlib.Core.Option.{none, some}
 use mathlib.Core.List.{List, [], ◌∷◌, map}
 use lib.ListN.{length}
 use borrow.Author.Tests.{eq-eqb, ne_eqb}
@@ -102,14 +101,14 @@ record Living (s : State) (n : ℕ) (q : Ask) (a : ℕ) : Type 0 where
   lives : taken s n ≡ true
   told : Names (view s n) (free s.store.book) (alone_for s (call n q)) q a
 
-named-lives : (s : State) → Good s → (n : ℕ) (q : Ask) (a : ℕ) → named (answer s (call n q)).says ≡ some a → Living s n q a
+named-lives : (s : State) → Good s → (n : ℕ) (q : Ask) (a : ℕ) → named (answer s (call n q)).says ≡ Some a → Living s n q a
 named-lives s g n q a e =
     let p = named-passed s g (call n q) a e in
     let w = weigh-names (view s n) (free s.store.book) (alone_for s (call n q)) q a p.weighed in
     record { number = sym (ap (numbered n) w.own) ∙ p.number; lives = sym (ap (living (taken s) n) w.own) ∙ p.lives; told = w }
 
 -- a process that holds the same gets the same answer
-named-same : (s t : State) → Good s → Good t → (n : ℕ) (q : Ask) (a : ℕ) → view t n ≡ view s n → named (answer s (call n q)).says ≡ some a → answer t (call n q) ≡ answer s (call n q)
+named-same : (s t : State) → Good s → Good t → (n : ℕ) (q : Ask) (a : ℕ) → view t n ≡ view s n → named (answer s (call n q)).says ≡ Some a → answer t (call n q) ≡ answer s (call n q)
 named-same s t g h n q a same e =
     let p = named-passed s g (call n q) a e in
     let l = named-lives s g n q a e in
@@ -129,11 +128,11 @@ answers-range s g n addr len write v t =
     ∙ weighs (view s n) (free s.store.book) 0 (taken s) (call n (user-range-ok addr len write)) refl refl v t refl
 
 -- 35 always comes with an address, which is the answer's value: no other refusal has that number
-pub bad-told : (s : State) (c : Call) → number_of (answer s c).says ≡ 35 → named (answer s c).says ≡ some (value_of (answer s c).says)
+pub bad-told : (s : State) (c : Call) → number_of (answer s c).says ≡ 35 → named (answer s c).says ≡ Some (value_of (answer s c).says)
 bad-told s c e = answer-tells s c e
 
 -- the process can't access it: asked for that byte alone, in place of the call that named it, `user_range_ok` answers no and names it too
-pub bad-stays-bad : (s : State) → Good s → (n : ℕ) (q : Ask) (a : ℕ) → named (answer s (call n q)).says ≡ some a → answer s (call n (user-range-ok a 1 (to_write q))) ≡ plainly (No a)
+pub bad-stays-bad : (s : State) → Good s → (n : ℕ) (q : Ask) (a : ℕ) → named (answer s (call n q)).says ≡ Some a → answer s (call n (user-range-ok a 1 (to_write q))) ≡ plainly (No a)
 bad-stays-bad s g n q a e =
     let l = named-lives s g n q a e in
     let no = check-unreached (view s n) q a (no-page-0 s g n l.number) l.told.by in
@@ -149,7 +148,7 @@ bad-lowest s g n addr len write a e b l u =
 
 -- it comes from the process's own line alone: it is what the call's check gives over the machine fed that line. Free frames, the numbers
 -- taken and other processes' memory are nothing that the check is given
-pub bad-by-line : (s : State) → Begin s → (h : List Call) (n : ℕ) (q : Ask) (a : ℕ) → named (answer (state s h) (call n q)).says ≡ some a → check (machine s.setup (lines s h n)) q ≡ Err a
+pub bad-by-line : (s : State) → Begin s → (h : List Call) (n : ℕ) (q : Ask) (a : ℕ) → named (answer (state s h) (call n q)).says ≡ Some a → check (machine s.setup (lines s h n)) q ≡ Err a
 bad-by-line s b h n q a e =
     let l = named-lives (state s h) (good-after laws s b h) n q a e in
     ap (λ (m : Machine). check m q) (sym (seen-after laws s b h n l.number)) ∙ l.told.by
@@ -157,7 +156,7 @@ bad-by-line s b h n q a e =
 -- so the same call names the same address, and is answered alike, in any other history in which the process has made the same calls with
 -- the same outcomes, whatever others did there, and however many frames are free
 pub bad-alike : (s t : State) → Begin s → Begin t → s.setup ≡ t.setup → (h g : List Call) (n : ℕ) → map fed (lines s h n) ≡ map fed (lines t g n)
-    → (q : Ask) (a : ℕ) → named (answer (state s h) (call n q)).says ≡ some a → answer (state t g) (call n q) ≡ answer (state s h) (call n q)
+    → (q : Ask) (a : ℕ) → named (answer (state s h) (call n q)).says ≡ Some a → answer (state t g) (call n q) ≡ answer (state s h) (call n q)
 bad-alike s t b d u h g n same q a e =
     let good = good-after laws s b h in
     let v = (named-lives (state s h) good n q a e).number in
@@ -165,7 +164,7 @@ bad-alike s t b d u h g n same q a e =
     (seen-after laws t d g n v ∙ ap (λ (x : Setup). machine x (lines t g n)) (sym u) ∙ fed-same s.setup (lines t g n) (lines s h n) (sym same) ∙ sym (seen-after laws s b h n v)) e
 
 -- and calls of others between leave it as it is
-pub bad-kept : (s : State) → Good s → (n : ℕ) (q : Ask) (a : ℕ) → named (answer s (call n q)).says ≡ some a
+pub bad-kept : (s : State) → Good s → (n : ℕ) (q : Ask) (a : ℕ) → named (answer s (call n q)).says ≡ Some a
     → (h : List Call) → Each (λ c. n ≡ c.number → ⊥) h → answer (state s h) (call n q) ≡ answer s (call n q)
 bad-kept s g n q a e h ne =
     let l = named-lives s g n q a e in
@@ -208,12 +207,12 @@ moved-reads s g n addr e nz a =
 
 -- new pages are zero
 pub break-zero : (s : State) → Good s → (n addr : ℕ) → outcome (answer s (call n (break addr))) ≡ accepted
-    → (a : ℕ) → (view s n).bss.end ≤ a → a < page_up addr → readable (after s (call n (break addr))) n a ≡ some 0
+    → (a : ℕ) → (view s n).bss.end ≤ a → a < page_up addr → readable (after s (call n (break addr))) n a ≡ Some 0
 break-zero s g n addr e a l u = moved-reads s g n addr e (λ z. omega arith) a ∙ rw (within-test (view s n).bss.end (page_up addr) a l u)
 
 -- pages past the new end are gone
 pub break-gone : (s : State) → Good s → (n addr : ℕ) → outcome (answer s (call n (break addr))) ≡ accepted → (addr ≡ 0 → ⊥)
-    → (a : ℕ) → page_up addr ≤ a → a < (view s n).bss.end → readable (after s (call n (break addr))) n a ≡ none
+    → (a : ℕ) → page_up addr ≤ a → a < (view s n).bss.end → readable (after s (call n (break addr))) n a ≡ None
 break-gone s g n addr e nz a l u =
     moved-reads s g n addr e nz a
     ∙ rw (within-not (view s n).bss.end (page_up addr) a (λ x y. omega arith), within-test (page_up addr) (view s n).bss.end a l u)
@@ -242,15 +241,15 @@ pub record Unpushed (setup : Setup) (args : List (List ℕ)) (a : ℕ) : Type 0 
 
 -- in a page of a program or its stack it holds its file byte, or 0
 start-byte : (s : State) → Good s → (n : ℕ) (form : Form) (image name bytes lengths : List ℕ) → outcome (answer s (call n (start form image name bytes lengths))) ≡ accepted
-    → (a q : ℕ) → perm_at (start_pieces s.setup (program_of s.setup form image)) a ≡ some q → Unpushed s.setup (args_of bytes lengths) a
-    → readable (after s (call n (start form image name bytes lengths))) n a ≡ some (file_byte (program_of s.setup form image).segments a)
+    → (a q : ℕ) → perm_at (start_pieces s.setup (program_of s.setup form image)) a ≡ Some q → Unpushed s.setup (args_of bytes lengths) a
+    → readable (after s (call n (start form image name bytes lengths))) n a ≡ Some (file_byte (program_of s.setup form image).segments a)
 start-byte s g n form image name bytes lengths e a q p out = start-reads s g n form image name bytes lengths e a ∙ rw (out.no_pointer, out.no-string, p)
 
 -- so a page is zero but for file bytes and pushed arguments
 pub start-zero : (s : State) → Good s → (n : ℕ) (form : Form) (image name bytes lengths : List ℕ) → outcome (answer s (call n (start form image name bytes lengths))) ≡ accepted
-    → (a q : ℕ) → perm_at (start_pieces s.setup (program_of s.setup form image)) a ≡ some q → Unpushed s.setup (args_of bytes lengths) a → any (in_file a) (program_of s.setup form image).segments ≡ false
-    → readable (after s (call n (start form image name bytes lengths))) n a ≡ some 0
-start-zero s g n form image name bytes lengths e a q p out none_in = start-byte s g n form image name bytes lengths e a q p out ∙ ap some (go (program_of s.setup form image).segments none_in)
+    → (a q : ℕ) → perm_at (start_pieces s.setup (program_of s.setup form image)) a ≡ Some q → Unpushed s.setup (args_of bytes lengths) a → any (in_file a) (program_of s.setup form image).segments ≡ false
+    → readable (after s (call n (start form image name bytes lengths))) n a ≡ Some 0
+start-zero s g n form image name bytes lengths e a q p out none_in = start-byte s g n form image name bytes lengths e a q p out ∙ ap Some (go (program_of s.setup form image).segments none_in)
   where
     go : (gs : List Segment) → any (in_file a) gs ≡ false → file_byte gs a ≡ 0
     go [] h = refl
@@ -310,7 +309,7 @@ fork-fits s g n child segments v u t d list room =
 -- ---- end
 
 -- nothing is left, and as many frames come free as the process held alone
-pub end_reads : (s : State) → Good s → (n : ℕ) → outcome (answer s (call n end)) ≡ accepted → (a : ℕ) → readable (after s (call n end)) n a ≡ none
+pub end_reads : (s : State) → Good s → (n : ℕ) → outcome (answer s (call n end)) ≡ accepted → (a : ℕ) → readable (after s (call n end)) n a ≡ None
 unfolding effect
 end_reads s g n e a = reads-after s g (call n end) accepted e n a (ends s g n e).number ∙ ap (λ (m : Machine). held m a) (put-here (view s) n (off s.setup))
 

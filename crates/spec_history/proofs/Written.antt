@@ -1,9 +1,8 @@
 -- Push and copy_to_user: bytes of one process written over.
-use Rattle.std.specs.Prelude.{Ok}
+use Rattle.std.specs.Prelude.{Ok, Option, None, Some}
 use Prim.Native.Nat.{ℕ, ◌+◌, ◌*◌, ◌-◌}
 use mathlib.Core.Path.{◌≡◌, refl, sym, ◌∙◌}
 use mathlib.Core.Bool.{Bool, true, false}
-use mathlib.Core.Option.{Option, none, some}
 use mathlib.Core.List.{List}
 use lib.ListN.{length, get_or}
 use Rattle.spec.specs.Tests.{within, ◌⇒◌else◌}
@@ -29,8 +28,8 @@ perm-write : (a : ℕ) (bs : List ℕ) (mem : Mem) (x : ℕ) → perm_in (write 
 perm-write a bs mem x = go (within a (a + length bs) x)
   where
     over : (c : Option Cell) → perm_in (rewrite (get_or bs (x - a) 0) c) ≡ perm_in c
-    over none = refl
-    over (some c) = refl
+    over None = refl
+    over (Some c) = refl
 
     go : (b : Bool) → perm_in (b ⇒ rewrite (get_or bs (x - a) 0) (mem x) else mem x) ≡ perm_in (mem x)
     go true = over (mem x)

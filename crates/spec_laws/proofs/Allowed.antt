@@ -3,7 +3,7 @@ use Prim.Native.Nat.{ℕ}
 use native.Mathlib.Omega.{arith}
 use mathlib.Core.Path.{◌≡◌, refl, sym, ap, ◌∙◌}
 use mathlib.Core.Bool.{Bool, true, false}
-use mathlib.Core.Option.{Option, none, some}
+use Rattle.std.specs.Prelude.{Option, None, Some}
 use Rattle.spec.specs.Numbers.{page_down}
 use Rattle.spec.specs.Book.{book_perm}
 use Rattle.spec.specs.Frames.{Store, Cell, mem_of}
@@ -15,18 +15,18 @@ use Rattle.spec_laws.proofs.Frame.{mem-perm}
 -- whether a permission is given, and whether it is given to write
 abbrev pub allowed : Bool → Option ℕ → Bool
 allowed true o = gives o 3
-allowed false none = false
-allowed false (some q) = true
+allowed false None = false
+allowed false (Some q) = true
 
 -- it goes by the permission of the address's page
 pub cell-allowed : (m : Store) (n a : ℕ) (write : Bool) → cell_ok write (mem_of m n a) ≡ allowed write (book_perm m.book n (page_down a))
 cell-allowed m n a write = go write (mem_of m n a) ∙ ap (allowed write) (mem-perm m n a)
   where
     go : (w : Bool) (c : Option Cell) → cell_ok w c ≡ allowed w (history.perm_in c)
-    go true none = refl
-    go true (some c) = refl
-    go false none = refl
-    go false (some c) = refl
+    go true None = refl
+    go true (Some c) = refl
+    go false None = refl
+    go false (Some c) = refl
 
 -- so each address of a page is allowed what the page is
 pub cell-page : (m : Store) (n a : ℕ) (write : Bool) → cell_ok write (mem_of m n a) ≡ cell_ok write (mem_of m n (page_down a))

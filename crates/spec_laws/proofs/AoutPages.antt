@@ -3,7 +3,7 @@ use Prim.Native.Nat.{ℕ, ◌+◌, ◌-◌, ◌<◌}
 use native.Mathlib.Omega.{arith}
 use mathlib.Core.Path.{◌≡◌, refl, ap, ◌∙◌}
 use mathlib.Core.Bool.{Bool, true, false}
-use mathlib.Core.Option.{Option, none, some}
+use Rattle.std.specs.Prelude.{Option, None, Some}
 use mathlib.Core.List.{List, [], ◌∷◌, ◌++◌}
 use lib.ListN.{drop, get_or}
 use lib.Seq.{get_or-take, get_or-drop}
@@ -33,7 +33,7 @@ module _ (g : Segment) (gs : List Segment) (a : ℕ) where
   byte-later i = rw i
 
   module _ (b : VirtRange) (rest : List UserSegment) where
-    perm-first : in_segment a (user_segment b g) ≡ true → perm_at (kept b (g ∷ gs) ++ rest) a ≡ some g.perm
+    perm-first : in_segment a (user_segment b g) ≡ true → perm_at (kept b (g ∷ gs) ++ rest) a ≡ Some g.perm
     perm-first i = let m = within-means _ _ a i in rw (lt-ltb (user_segment b g).range.start (user_segment b g).range.end (omega arith), i)
 
     perm-later : in_segment a (user_segment b g) ≡ false → perm_at (kept b (g ∷ gs) ++ rest) a ≡ perm_at (kept b gs ++ rest) a
@@ -41,12 +41,12 @@ module _ (g : Segment) (gs : List Segment) (a : ℕ) where
 
 -- ---- cells
 
-cell-is : (b c q : ℕ) (o : Option ℕ) → o ≡ some q → b ≡ c → cell_of b o ≡ some (record { perm = q; byte = c })
+cell-is : (b c q : ℕ) (o : Option ℕ) → o ≡ Some q → b ≡ c → cell_of b o ≡ Some (record { perm = q; byte = c })
 cell-is b c q o e f = rw (e, f)
 
-cell-byte : (b : ℕ) (o : Option ℕ) (c : Cell) → cell_of b o ≡ some c → c.byte ≡ b
-cell-byte b none c e = absurd (let z : ◌≡◌ {A = ℕ} 0 1 = cc in omega arith)
-cell-byte b (some q) c e = cc
+cell-byte : (b : ℕ) (o : Option ℕ) (c : Cell) → cell_of b o ≡ Some c → c.byte ≡ b
+cell-byte b None c e = absurd (let z : ◌≡◌ {A = ℕ} 0 1 = cc in omega arith)
+cell-byte b (Some q) c e = cc
 
 -- ---- an a.out
 
@@ -68,7 +68,7 @@ module _ (setup : Setup) (image : List ℕ) where
   rest b = bss_segment (program_bss (program b)) ∷ stack setup ∷ []
 
   module _ (h : Complete image) where
-    text-cell : (b : Bool) (i : ℕ) → i < text_end image → loaded setup (program b) (setup.utzero + i) ≡ some (record { perm = 1; byte = get_or image i 0 })
+    text-cell : (b : Bool) (i : ℕ) → i < text_end image → loaded setup (program b) (setup.utzero + i) ≡ Some (record { perm = 1; byte = get_or image i 0 })
     text-cell b i l =
         let a : ℕ = setup.utzero + i in
         let n = text-length setup image h in
@@ -76,7 +76,7 @@ module _ (setup : Setup) (image : List ℕ) where
         (perm-first text (behind b) a (program_bss (program b)) (rest b) (within-test _ _ a (omega arith) (omega arith)))
         (byte-first text (behind b) a (within-test _ _ a (omega arith) (omega arith)) ∙ ap (λ (k : ℕ). get_or text.file k 0) (omega arith) ∙ get_or-take (text_end image) image i 0 l)
 
-    data-cell : (i : ℕ) → i < data_size image → loaded setup (program false) (data_at setup image + i) ≡ some (record { perm = 3; byte = get_or image (text_end image + i) 0 })
+    data-cell : (i : ℕ) → i < data_size image → loaded setup (program false) (data_at setup image + i) ≡ Some (record { perm = 3; byte = get_or image (text_end image + i) 0 })
     data-cell i l =
         let a : ℕ = data_at setup image + i in
         let bss : VirtRange = program_bss (program false) in
@@ -90,7 +90,7 @@ module _ (setup : Setup) (image : List ℕ) where
         ∙ get_or-take (data_size image) (drop (text_end image) image) i 0 l
         ∙ get_or-drop (text_end image) image i 0)
 
-    other-cell : (b : Bool) (a : ℕ) (c : Cell) → loaded setup (program b) a ≡ some c → within setup.utzero (setup.utzero + text_end image) a ≡ false
+    other-cell : (b : Bool) (a : ℕ) (c : Cell) → loaded setup (program b) a ≡ Some c → within setup.utzero (setup.utzero + text_end image) a ≡ false
         → within (data_at setup image) (data_at setup image + data_size image) a ≡ false → c.byte ≡ 0
     other-cell b a c m t d =
         cell-byte (file_byte (program b).segments a) (perm_at (start_pieces setup (program b)) a) c m

@@ -3,7 +3,7 @@ use Prim.Native.Nat.{ℕ, zero, suc, ◌+◌, ◌*◌, ◌-◌, ◌%◌, ◌<◌
 use native.Mathlib.Omega.{arith}
 use native.Mathlib.Nat.{add-zero, not-suc-le-zero}
 use mathlib.Core.Path.{◌≡◌, refl, sym, ap, ◌∙◌}
-use mathlib.Core.Option.{Option, none, some}
+use Rattle.std.specs.Prelude.{Option, None, Some}
 use lib.ListN.{length, get_or, drop, length-drop, length-replicate}
 use lib.Seq.{length-take-le, get_or-take, get_or-drop}
 use Rattle.spec.specs.Numbers.{page_down, bytes_from, page_bytes, zero_page}
@@ -48,10 +48,10 @@ pub frame_byte : (m : Store) (n a : ℕ) → get_or (frame_bytes m.frames (frame
 frame_byte m n a = go (frame_of m.book n (page_down a))
   where
     go : (o : Option ℕ) → get_or (frame_bytes m.frames o) (a % 4096) 0 ≡ byte_of (cell_in m n a o)
-    go none = refl
-    go (some k) = get_or-take 4096 (drop (4096 * k) m.frames) (a % 4096) 0 (omega arith) ∙ get_or-drop (4096 * k) m.frames (a % 4096) 0
+    go None = refl
+    go (Some k) = get_or-take 4096 (drop (4096 * k) m.frames) (a % 4096) 0 (omega arith) ∙ get_or-drop (4096 * k) m.frames (a % 4096) 0
 
-pub length-frame : (m : Store) (n page q : ℕ) → Fits m → book_perm m.book n page ≡ some q → length (frame_bytes m.frames (frame_of m.book n page)) ≡ 4096
+pub length-frame : (m : Store) (n page q : ℕ) → Fits m → book_perm m.book n page ≡ Some q → length (frame_bytes m.frames (frame_of m.book n page)) ≡ 4096
 length-frame m n page q fits e =
     let r = frame-perm m.book n page q e in
     let l : length (drop (4096 * r.0) m.frames) ≡ length m.frames - 4096 * r.0 = length-drop (4096 * r.0) m.frames in

@@ -3,7 +3,7 @@ use Prim.Native.Nat.{ℕ, ◌+◌, ◌-◌, ◌%◌, ◌≤◌, ◌<◌}
 use native.Mathlib.Omega.{arith}
 use mathlib.Core.Path.{◌≡◌, refl, sym, ap, ◌∙◌}
 use mathlib.Core.Bool.{true, false, ◌&&◌}
-use mathlib.Core.Option.{Option, none, some}
+use Rattle.std.specs.Prelude.{Option, None, Some}
 use mathlib.Core.List.{List, []}
 use Rattle.spec.proofs.Bools.{split, both, and-test, living-ok, dead-ok}
 use Rattle.spec.specs.Tests.{all, all_below}
@@ -112,31 +112,31 @@ module _ (setup : Setup) where
   sound-perm book ps w s n a v = s.exact n (page_down a) v (omega arith) ∙ perm-page (pieces_of (proc_at ps n)) a (sound-pieces book ps w s n v)
 
   -- a dead process owns nothing
-  pub dead-frame : (book : List ℕ) (ps : Procs) → Whole ps → Sound setup book ps → (n : ℕ) → valid n ≡ true → lives (proc_at ps n) ≡ false → (page : ℕ) → frame_of book n page ≡ none
+  pub dead-frame : (book : List ℕ) (ps : Procs) → Whole ps → Sound setup book ps → (n : ℕ) → valid n ≡ true → lives (proc_at ps n) ≡ false → (page : ℕ) → frame_of book n page ≡ None
   dead-frame book ps w s n v d page = go (frame_of book n page) refl
     where
-      go : (o : Option ℕ) → frame_of book n page ≡ o → o ≡ none
-      go none e = refl
-      go (some k) e =
+      go : (o : Option ℕ) → frame_of book n page ≡ o → o ≡ None
+      go None e = refl
+      go (Some k) e =
           let aligned : page % 4096 ≡ 0 = omega (arith, (frame_found book n page k e).1.page) in
           some-none (book_perm book n page) (perm_of (mapping book k n)) (ap (perm_in book n) e)
           (s.exact n page v aligned ∙ ap (λ (p : Proc). perm_at (pieces_of p) page) (dead-zero (proc_at ps n) (w.each (n - 1)) d) ∙ zero-pieces page)
 
   -- an address whose page is found lies below UADDRTOP, from UTZERO on
-  pub found_between : (book : List ℕ) (ps : Procs) → Sound setup book ps → (n a k : ℕ) → valid n ≡ true → frame_of book n (page_down a) ≡ some k → (setup.utzero ≤ a) × (a < setup.uaddrtop)
+  pub found_between : (book : List ℕ) (ps : Procs) → Sound setup book ps → (n a k : ℕ) → valid n ≡ true → frame_of book n (page_down a) ≡ Some k → (setup.utzero ≤ a) × (a < setup.uaddrtop)
   found_between book ps s n a k v e =
       let f = frame_found book n (page_down a) k e in
       let w = s.mappings.words k n f.0 v f.1.used in
       (omega (arith, f.1.page, w.page.0), omega (arith, f.1.page, w.page.1))
 
   -- and a record gives permissions 1 to 3
-  pub sound-between : (book : List ℕ) (ps : Procs) → Whole ps → Sound setup book ps → (n a q : ℕ) → valid n ≡ true → perm_at (pieces_of (proc_at ps n)) a ≡ some q → (1 ≤ q) × (q ≤ 3)
+  pub sound-between : (book : List ℕ) (ps : Procs) → Whole ps → Sound setup book ps → (n a q : ℕ) → valid n ≡ true → perm_at (pieces_of (proc_at ps n)) a ≡ Some q → (1 ≤ q) × (q ≤ 3)
   sound-between book ps w s n a q v e = go (frame_of book n (page_down a)) refl
     where
       go : (o : Option ℕ) → frame_of book n (page_down a) ≡ o → (1 ≤ q) × (q ≤ 3)
-      go none f = some-none (book_perm book n (page_down a)) q (sound-perm book ps w s n a v ∙ e) (ap (perm_in book n) f)
-      go (some k) f =
-          let r : some (perm_of (mapping book k n)) ≡ some q = sym (ap (perm_in book n) f) ∙ sound-perm book ps w s n a v ∙ e in
+      go None f = some-none (book_perm book n (page_down a)) q (sound-perm book ps w s n a v ∙ e) (ap (perm_in book n) f)
+      go (Some k) f =
+          let r : Some (perm_of (mapping book k n)) ≡ Some q = sym (ap (perm_in book n) f) ∙ sound-perm book ps w s n a v ∙ e in
           let same : perm_of (mapping book k n) ≡ q = cc in
           let x = frame_found book n (page_down a) k f in
           rw (← same) (s.mappings.words k n x.0 v x.1.used).perm

@@ -3,7 +3,7 @@ use Prim.Native.Nat.{ℕ, ◌*◌, ◌%◌, ◌<◌}
 use native.Mathlib.Omega.{arith}
 use mathlib.Core.Path.{◌≡◌, refl, sym, ap, ◌∙◌}
 use mathlib.Core.Bool.{true, false, ◌&&◌}
-use mathlib.Core.Option.{Option, none, some}
+use Rattle.std.specs.Prelude.{Option, None, Some}
 use mathlib.Core.List.{List}
 use lib.ListN.{length}
 use borrow.Author.Tests.{eqb-true, eqb-false, eq-eqb, ne_eqb}
@@ -58,22 +58,22 @@ owns_not n page w h = split (owns n page w) (λ q. absurd (h (owns-means n page 
 -- ---- the search
 
 -- what is found is a frame in which the owner's place has its page
-pub frame_found : (book : List ℕ) (n page k : ℕ) → frame_of book n page ≡ some k → (k < frame_count book) × Owns n page (mapping book k n)
+pub frame_found : (book : List ℕ) (n page k : ℕ) → frame_of book n page ≡ Some k → (k < frame_count book) × Owns n page (mapping book k n)
 frame_found book n page k e =
     let r = hit (λ j. owns n page (mapping book j n)) (frame_count book) k e in
     (r.0, owns-means n page (mapping book k n) r.1)
 
 -- where nothing is found, no frame has it
-pub frame-none : (book : List ℕ) (n page : ℕ) → frame_of book n page ≡ none → (k : ℕ) → k < frame_count book → Owns n page (mapping book k n) → ⊥
+pub frame-none : (book : List ℕ) (n page : ℕ) → frame_of book n page ≡ None → (k : ℕ) → k < frame_count book → Owns n page (mapping book k n) → ⊥
 frame-none book n page e k l o = clash (owns n page (mapping book k n)) (owns-test n page (mapping book k n) o) (miss (λ j. owns n page (mapping book j n)) (frame_count book) e k l)
 
 -- where a frame has it, something is found
-pub frame-some : (book : List ℕ) (n page k : ℕ) → k < frame_count book → Owns n page (mapping book k n) → (j : ℕ) × (frame_of book n page ≡ some j)
+pub frame-some : (book : List ℕ) (n page k : ℕ) → k < frame_count book → Owns n page (mapping book k n) → (j : ℕ) × (frame_of book n page ≡ Some j)
 frame-some book n page k l o = go (frame_of book n page) refl
   where
-    go : (r : Option ℕ) → frame_of book n page ≡ r → (j : ℕ) × (frame_of book n page ≡ some j)
-    go none e = absurd (frame-none book n page e k l o)
-    go (some j) e = (j, e)
+    go : (r : Option ℕ) → frame_of book n page ≡ r → (j : ℕ) × (frame_of book n page ≡ Some j)
+    go None e = absurd (frame-none book n page e k l o)
+    go (Some j) e = (j, e)
 
 -- the same places, the same frame
 pub frame-ext : (book now : List ℕ) (n page : ℕ) → frame_count now ≡ frame_count book → ((k : ℕ) → k < frame_count book → owns n page (mapping now k n) ≡ owns n page (mapping book k n))
@@ -81,19 +81,19 @@ pub frame-ext : (book now : List ℕ) (n page : ℕ) → frame_count now ≡ fra
 frame-ext book now n page e h = ap (highest (λ k. owns n page (mapping now k n))) e ∙ highest-ext (λ k. owns n page (mapping now k n)) (λ k. owns n page (mapping book k n)) (frame_count book) h
 
 -- a page that the book gives a permission has a frame, and one that it gives none has none
-pub frame-perm : (book : List ℕ) (n page q : ℕ) → book_perm book n page ≡ some q → (k : ℕ) × (frame_of book n page ≡ some k)
+pub frame-perm : (book : List ℕ) (n page q : ℕ) → book_perm book n page ≡ Some q → (k : ℕ) × (frame_of book n page ≡ Some k)
 frame-perm book n page q e = go (frame_of book n page) refl e
   where
-    go : (o : Option ℕ) → frame_of book n page ≡ o → perm_in book n o ≡ some q → (k : ℕ) × (frame_of book n page ≡ some k)
-    go none f e = absurd (let z : ◌≡◌ {A = ℕ} 0 1 = cc in omega arith)
-    go (some k) f e = (k, f)
+    go : (o : Option ℕ) → frame_of book n page ≡ o → perm_in book n o ≡ Some q → (k : ℕ) × (frame_of book n page ≡ Some k)
+    go None f e = absurd (let z : ◌≡◌ {A = ℕ} 0 1 = cc in omega arith)
+    go (Some k) f e = (k, f)
 
-pub frame-unmapped : (book : List ℕ) (n page : ℕ) → book_perm book n page ≡ none → frame_of book n page ≡ none
+pub frame-unmapped : (book : List ℕ) (n page : ℕ) → book_perm book n page ≡ None → frame_of book n page ≡ None
 frame-unmapped book n page e = go (frame_of book n page) refl e
   where
-    go : (o : Option ℕ) → frame_of book n page ≡ o → perm_in book n o ≡ none → frame_of book n page ≡ none
-    go none f e = f
-    go (some k) f e = absurd (let z : ◌≡◌ {A = ℕ} 0 1 = cc in omega arith)
+    go : (o : Option ℕ) → frame_of book n page ≡ o → perm_in book n o ≡ None → frame_of book n page ≡ None
+    go None f e = f
+    go (Some k) f e = absurd (let z : ◌≡◌ {A = ℕ} 0 1 = cc in omega arith)
 
 -- ---- no owner has a page twice
 
@@ -105,24 +105,24 @@ pub once-means : {setup : Setup} (book : List ℕ) → Mappings setup book → (
 once-means book h n v page j k a b x y = h.once n j k v a b x.used y.used (x.page ∙ sym y.page)
 
 -- the frame found is the one frame
-pub frame_is : (book : List ℕ) (n page k : ℕ) → Once book n → k < frame_count book → Owns n page (mapping book k n) → frame_of book n page ≡ some k
+pub frame_is : (book : List ℕ) (n page k : ℕ) → Once book n → k < frame_count book → Owns n page (mapping book k n) → frame_of book n page ≡ Some k
 frame_is book n page k once l o =
     let r = frame-some book n page k l o in
     let f = frame_found book n page r.0 r.1 in
-    r.1 ∙ ap some (once page r.0 k f.0 l f.1 o)
+    r.1 ∙ ap Some (once page r.0 k f.0 l f.1 o)
 
 -- ---- cells
 
-pub cell-eq : (p q a b : ℕ) → p ≡ q → a ≡ b → ◌≡◌ {A = Option Cell} (some (record { perm = p; byte = a })) (some (record { perm = q; byte = b }))
-cell-eq p q a b e h = λ i. some (record { perm = e i; byte = h i })
+pub cell-eq : (p q a b : ℕ) → p ≡ q → a ≡ b → ◌≡◌ {A = Option Cell} (Some (record { perm = p; byte = a })) (Some (record { perm = q; byte = b }))
+cell-eq p q a b e h = λ i. Some (record { perm = e i; byte = h i })
 
 -- a cell's permission is its page's in the book
 pub mem-perm : (m : Store) (n a : ℕ) → history.perm_in (mem_of m n a) ≡ book_perm m.book n (page_down a)
 mem-perm m n a = go (frame_of m.book n (page_down a)) refl
   where
     go : (o : Option ℕ) → frame_of m.book n (page_down a) ≡ o → history.perm_in (mem_of m n a) ≡ book_perm m.book n (page_down a)
-    go none e = rw e
-    go (some k) e = rw e
+    go None e = rw e
+    go (Some k) e = rw e
 
 pub page-perm : (m : Store) (n page : ℕ) → page % 4096 ≡ 0 → book_perm m.book n page ≡ history.perm_in (mem_of m n page)
 page-perm m n page h = let e : page_down page ≡ page = omega arith in ap (book_perm m.book n) (sym e) ∙ sym (mem-perm m n page)

@@ -3,7 +3,7 @@ use Prim.Native.Nat.{ℕ, ◌≤◌, ◌<◌}
 use native.Mathlib.Omega.{arith}
 use mathlib.Core.Path.{◌≡◌, refl, sym, ap, ◌∙◌}
 use mathlib.Core.Bool.{true, false}
-use mathlib.Core.Option.{none, some}
+use Rattle.std.specs.Prelude.{None, Some}
 use mathlib.Core.List.{List, [], ◌∷◌, ◌++◌, append_assoc}
 use Rattle.spec.proofs.Bools.{split, within-means}
 use Rattle.spec.specs.Numbers.{page_up, SetupOk}
@@ -21,16 +21,16 @@ use Rattle.spec_laws.proofs.Pieces.{Piece, Pieces, outside_low, outside_high, pe
 
 module _ (setup : Setup) where
   -- below its first address an image has nothing, nor from its end on
-  image-low : (end : ℕ) (image : List UserSegment) → Image setup end image → (a : ℕ) → a < end → perm_at image a ≡ none
+  image-low : (end : ℕ) (image : List UserSegment) → Image setup end image → (a : ℕ) → a < end → perm_at image a ≡ None
   image-low end [] h a l = refl
   image-low end (g ∷ image) h a l = rw (outside_low g a (omega (arith, h.1))) (image-low g.range.end image h.2 a (omega (arith, h.0.some-page, h.1)))
 
-  pub image-high : (end : ℕ) (image : List UserSegment) → Image setup end image → (a : ℕ) → image_end end image ≤ a → perm_at image a ≡ none
+  pub image-high : (end : ℕ) (image : List UserSegment) → Image setup end image → (a : ℕ) → image_end end image ≤ a → perm_at image a ≡ None
   image-high end [] h a l = refl
   image-high end (g ∷ image) h a l = rw (outside_high g a (omega (arith, image-top setup g.range.end image h.2))) (image-high g.range.end image h.2 a l)
 
   -- an image and pieces above it
-  pub image-apart : (end : ℕ) (image rest : List UserSegment) → Image setup end image → Pieces rest → ((a : ℕ) → a < image_end end image → perm_at rest a ≡ none) → Pieces (image ++ rest)
+  pub image-apart : (end : ℕ) (image rest : List UserSegment) → Image setup end image → Pieces rest → ((a : ℕ) → a < image_end end image → perm_at rest a ≡ None) → Pieces (image ++ rest)
   image-apart end [] rest h r low = r
   image-apart end (g ∷ image) rest h r low = (
     record {
@@ -59,10 +59,10 @@ module _ (setup : Setup) (ok : SetupOk setup) where
     low-stack : (a : ℕ) → a < end → in_segment a (stack setup) ≡ false
     low-stack a l = outside_low (stack setup) a (omega (arith, h.past, h.order, h.aligned, h.low))
 
-    stack-piece : (gs : List UserSegment) → ((a : ℕ) → in_segment a (stack setup) ≡ true → perm_at gs a ≡ none) → Piece (stack setup) gs
+    stack-piece : (gs : List UserSegment) → ((a : ℕ) → in_segment a (stack setup) ≡ true → perm_at gs a ≡ None) → Piece (stack setup) gs
     stack-piece gs f = record { start = omega arith; end = omega arith; apart = f }
 
-    bss-piece : (gs : List UserSegment) → ((a : ℕ) → in_segment a (bss_segment bss) ≡ true → perm_at gs a ≡ none) → Piece (bss_segment bss) gs
+    bss-piece : (gs : List UserSegment) → ((a : ℕ) → in_segment a (bss_segment bss) ≡ true → perm_at gs a ≡ None) → Piece (bss_segment bss) gs
     bss-piece gs f = record { start = omega arith; end = h.aligned; apart = f }
 
     pub stack-bss-apart : Pieces (stack setup ∷ bss_segment bss ∷ [])
@@ -71,10 +71,10 @@ module _ (setup : Setup) (ok : SetupOk setup) where
     pub bss-stack-apart : Pieces (bss_segment bss ∷ stack setup ∷ [])
     bss-stack-apart = (bss-piece (stack setup ∷ []) (λ a i. perm-there (stack setup) [] a (stack-no-bss a i)), (stack-piece [] (λ a i. refl), tt))
 
-    pub stack-bss-low : (a : ℕ) → a < end → perm_at (stack setup ∷ bss_segment bss ∷ []) a ≡ none
+    pub stack-bss-low : (a : ℕ) → a < end → perm_at (stack setup ∷ bss_segment bss ∷ []) a ≡ None
     stack-bss-low a l = rw (low-stack a l, low-bss a l)
 
-    pub bss-stack-low : (a : ℕ) → a < end → perm_at (bss_segment bss ∷ stack setup ∷ []) a ≡ none
+    pub bss-stack-low : (a : ℕ) → a < end → perm_at (bss_segment bss ∷ stack setup ∷ []) a ≡ None
     bss-stack-low a l = rw (low-bss a l, low-stack a l)
 
     pub swap-stack : (a : ℕ) → perm_at (bss_segment bss ∷ stack setup ∷ []) a ≡ perm_at (stack setup ∷ bss_segment bss ∷ []) a
@@ -100,17 +100,17 @@ own-pieces setup ok p image h =
 pub zero-apart : Pieces (pieces_of zero_proc)
 zero-apart = (record { start = refl; end = refl; apart = λ a i. refl }, tt)
 
-pub zero-pieces : (a : ℕ) → perm_at (pieces_of zero_proc) a ≡ none
+pub zero-pieces : (a : ℕ) → perm_at (pieces_of zero_proc) a ≡ None
 zero-pieces a = perm-there (bss_segment zero_proc.bss) [] a (outside_high (bss_segment zero_proc.bss) a (omega arith))
 
 -- a living process's pages lie in user memory
 image-between : (setup : Setup) (ok : SetupOk setup) (end : ℕ) (image : List UserSegment) (bss : VirtRange) → Image setup end image → Bss setup (image_end end image) bss
-    → (a q : ℕ) → perm_at (image ++ stack setup ∷ bss_segment bss ∷ []) a ≡ some q → (setup.utzero ≤ a) × (a < setup.uaddrtop)
+    → (a q : ℕ) → perm_at (image ++ stack setup ∷ bss_segment bss ∷ []) a ≡ Some q → (setup.utzero ≤ a) × (a < setup.uaddrtop)
 image-between setup ok end image bss i h =
     perm-between setup.utzero setup.uaddrtop (image ++ stack setup ∷ bss_segment bss ∷ []) (each_append _ image (stack setup ∷ bss_segment bss ∷ []) each ((omega arith, omega arith), ((omega (arith, h.start), omega (arith, h.low)), tt)))
   where
     each : Each (λ g. (setup.utzero ≤ g.range.start) × (g.range.end ≤ setup.uaddrtop)) image
     each = each_map (ImageSegment setup) (λ g. (setup.utzero ≤ g.range.start) × (g.range.end ≤ setup.uaddrtop)) (λ g s. (s.between.0, omega (arith, s.between.1))) image (each-image setup end image i)
 
-pub shape-between : (setup : Setup) (ok : SetupOk setup) (p : Proc) (image : List UserSegment) → Shape setup p image → (a q : ℕ) → perm_at (pieces_of p) a ≡ some q → (setup.utzero ≤ a) × (a < setup.uaddrtop)
+pub shape-between : (setup : Setup) (ok : SetupOk setup) (p : Proc) (image : List UserSegment) → Shape setup p image → (a q : ℕ) → perm_at (pieces_of p) a ≡ Some q → (setup.utzero ≤ a) × (a < setup.uaddrtop)
 shape-between setup ok p image h a q e = image-between setup ok setup.utzero image p.bss (shape-image setup p image h) (shape-bss setup p image h) a q (ap (λ (x : List UserSegment). perm_at x a) (sym (shape_pieces setup p image h)) ∙ e)

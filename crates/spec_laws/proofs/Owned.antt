@@ -3,7 +3,7 @@ use Prim.Native.Nat.{ℕ, ◌+◌, ◌-◌, ◌≤◌, ◌<◌}
 use native.Mathlib.Omega.{arith}
 use mathlib.Core.Path.{◌≡◌, refl, sym, ap, ap₂, ◌∙◌}
 use mathlib.Core.Bool.{Bool, true, false, not, ◌&&◌, ◌||◌}
-use mathlib.Core.Option.{Option, none, some}
+use Rattle.std.specs.Prelude.{Option, None, Some}
 use mathlib.Core.List.{List}
 use borrow.Author.Tests.{eqb-true, eqb-false, eq-eqb, ne_eqb}
 use Rattle.spec.proofs.Bools.{clash, both, and-test, or-fact, or-test, neither, not-true, within-means, within-test, below_at, below-test}
@@ -35,16 +35,16 @@ numbers-test t f = below-test 16 (λ i. t (i + 1)) (λ i l. f (i + 1) (valid-tes
 
 -- ---- what a search comes to
 
-pub gives-means : (o : Option ℕ) (q : ℕ) → gives o q ≡ true → o ≡ some q
-gives-means none q e = clash false e refl
-gives-means (some x) q e = ap some (eqb-true x q e)
+pub gives-means : (o : Option ℕ) (q : ℕ) → gives o q ≡ true → o ≡ Some q
+gives-means None q e = clash false e refl
+gives-means (Some x) q e = ap Some (eqb-true x q e)
 
-pub gives-test : (o : Option ℕ) (q : ℕ) → o ≡ some q → gives o q ≡ true
+pub gives-test : (o : Option ℕ) (q : ℕ) → o ≡ Some q → gives o q ≡ true
 gives-test o q e = rw e (eq-eqb q q refl)
 
 -- ---- one place
 
-place-means : (setup : Setup) (book : List ℕ) (k n : ℕ) → place_ok setup book k n ≡ true → ¬ (mapping book k n ≡ 0) → Word setup n (mapping book k n) × (frame_of book n (page_of (mapping book k n)) ≡ some k)
+place-means : (setup : Setup) (book : List ℕ) (k n : ℕ) → place_ok setup book k n ≡ true → ¬ (mapping book k n ≡ 0) → Word setup n (mapping book k n) × (frame_of book n (page_of (mapping book k n)) ≡ Some k)
 place-means setup book k n e nz =
     let w : ℕ = mapping book k n in
     let t = or-fact (w is 0) (owner_of w is n && within 1 4 (perm_of w) && within setup.utzero setup.uaddrtop (page_of w) && gives (frame_of book n (page_of w)) k) e (ne_eqb w 0 nz) in
@@ -54,7 +54,7 @@ place-means setup book k n e nz =
     let b = within-means 1 4 (perm_of w) r.1 in
     (record { owner = eqb-true _ _ r.0; perm = (b.0, omega (arith, b.1)); page = within-means setup.utzero setup.uaddrtop (page_of w) q.1 }, gives-means _ k p.1)
 
-place-test : (setup : Setup) (book : List ℕ) (k n : ℕ) → (¬ (mapping book k n ≡ 0) → Word setup n (mapping book k n) × (frame_of book n (page_of (mapping book k n)) ≡ some k)) → place_ok setup book k n ≡ true
+place-test : (setup : Setup) (book : List ℕ) (k n : ℕ) → (¬ (mapping book k n ≡ 0) → Word setup n (mapping book k n) × (frame_of book n (page_of (mapping book k n)) ≡ Some k)) → place_ok setup book k n ≡ true
 place-test setup book k n f =
     let w : ℕ = mapping book k n in
     or-test (w is 0) (owner_of w is n && within 1 4 (perm_of w) && within setup.utzero setup.uaddrtop (page_of w) && gives (frame_of book n (page_of w)) k)
@@ -95,7 +95,7 @@ pub mappings-mean : (setup : Setup) (book : List ℕ) → all_below (frame_count
 mappings-mean setup book e = record {
   words = λ k n l v nz. (place k n l v nz).0;
   once = λ n j k v a b x y p.
-      let f : some j ≡ some k = sym (place j n a v x).1 ∙ ap (frame_of book n) p ∙ (place k n b v y).1 in cc;
+      let f : Some j ≡ Some k = sym (place j n a v x).1 ∙ ap (frame_of book n) p ∙ (place k n b v y).1 in cc;
   beside = λ k m n l x y ne a b. by_order m n (λ c. lower k m n l x y c a b) (λ c. beside-sym _ _ (lower k n m l y x (less ne c) b a));
   counts = λ k l. (at k l).2;
 }
@@ -103,7 +103,7 @@ mappings-mean setup book e = record {
     at : (k : ℕ) → k < frame_count book → Parts setup book k
     at k l = frame-parts setup book k (below_at (frame_count book) (frame_ok setup book) e k l)
 
-    place : (k n : ℕ) → k < frame_count book → valid n ≡ true → ¬ (mapping book k n ≡ 0) → Word setup n (mapping book k n) × (frame_of book n (page_of (mapping book k n)) ≡ some k)
+    place : (k n : ℕ) → k < frame_count book → valid n ≡ true → ¬ (mapping book k n ≡ 0) → Word setup n (mapping book k n) × (frame_of book n (page_of (mapping book k n)) ≡ Some k)
     place k n l v nz = place-means setup book k n (numbers-at (place_ok setup book k) (at k l).0 n v) nz
 
     less : {m n : ℕ} → (m ≡ n → ⊥) → n ≤ m → n < m

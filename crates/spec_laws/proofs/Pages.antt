@@ -3,7 +3,7 @@ use Prim.Native.Nat.{ℕ, zero, suc, ◌+◌, ◌*◌, ◌-◌, ◌/◌, ◌%◌
 use native.Mathlib.Omega.{arith}
 use mathlib.Core.Path.{◌≡◌, refl, sym, ap, ◌∙◌}
 use mathlib.Core.Bool.{Bool, true}
-use mathlib.Core.Option.{Option, none, some}
+use Rattle.std.specs.Prelude.{Option, None, Some}
 use mathlib.Core.List.{List, [], ◌∷◌, ◌++◌}
 use lib.Dec.{eqb}
 use lib.ListN.{get_or}
@@ -43,7 +43,7 @@ each-piece f g gs P p h =
 
 -- a fact of each page of pieces, from its permission
 pub each-pages : (f : ℕ → List ℕ) (gs : List UserSegment) (P : Page → Type 0) → Pieces gs
-    → ((a q : ℕ) → a % 4096 ≡ 0 → perm_at gs a ≡ some q → P (record { page = a; perm = q; bytes = f a })) → Each P (pages_of f gs)
+    → ((a q : ℕ) → a % 4096 ≡ 0 → perm_at gs a ≡ Some q → P (record { page = a; perm = q; bytes = f a })) → Each P (pages_of f gs)
 each-pages f [] P p h = tt
 each-pages f (g ∷ gs) P p h =
     each_append P (pages_from f g.perm g.range.start (pages g)) (pages_of f gs)
@@ -66,32 +66,32 @@ distinct-pages f (g ∷ gs) p =
     distinct_append (pages_from f g.perm g.range.start (pages g)) (pages_of f gs) (distinct_from f g.perm g.range.start (pages g) p.0.start) (distinct-pages f gs p.1)
     (each-piece f g gs (λ r. Each (λ q. ¬ (q.page ≡ r.page)) (pages_of f gs)) p.0
     (λ x e s. each-pages f gs (λ q. ¬ (q.page ≡ x)) p.1
-    (λ a q z h y. let n : perm_at gs a ≡ none = ap (perm_at gs) y ∙ p.0.apart x s in absurd (let w : ◌≡◌ {A = ℕ} 0 1 = cc in omega arith))))
+    (λ a q z h y. let n : perm_at gs a ≡ None = ap (perm_at gs) y ∙ p.0.apart x s in absurd (let w : ◌≡◌ {A = ℕ} 0 1 = cc in omega arith))))
 
 -- ---- the cell at an address
 
 -- a permission with a byte, or else what was there
 abbrev pub cell_or : Option ℕ → ℕ → Option Cell → Option Cell
-cell_or none byte c = c
-cell_or (some perm) byte c = some (record { perm = perm; byte = byte })
+cell_or None byte c = c
+cell_or (Some perm) byte c = Some (record { perm = perm; byte = byte })
 
 over-append : (ps qs : List Page) (x : ℕ) (c : Option Cell) → over (ps ++ qs) x c ≡ over ps x (over qs x c)
 over-append [] qs x c = refl
-over-append (p ∷ ps) qs x c = ap (λ (o : Option Cell). p.page is page_down x ⇒ some (record { perm = p.perm; byte = get_or p.bytes (x % 4096) 0 }) else o) (over-append ps qs x c)
+over-append (p ∷ ps) qs x c = ap (λ (o : Option Cell). p.page is page_down x ⇒ Some (record { perm = p.perm; byte = get_or p.bytes (x % 4096) 0 }) else o) (over-append ps qs x c)
 
 over-from : (f : ℕ → List ℕ) (perm a k x : ℕ) (c : Option Cell) → a % 4096 ≡ 0
-    → over (pages_from f perm a k) x c ≡ (within a (a + 4096 * k) x ⇒ some (record { perm = perm; byte = get_or (f (page_down x)) (x % 4096) 0 }) else c)
+    → over (pages_from f perm a k) x c ≡ (within a (a + 4096 * k) x ⇒ Some (record { perm = perm; byte = get_or (f (page_down x)) (x % 4096) 0 }) else c)
 over-from f perm a zero x c z = sym (rw (within-not a (a + 4096 * 0) x (λ l u. omega arith)))
 over-from f perm a (suc k) x c z =
     split (eqb a (page_down x))
     (λ q.
     let e : a ≡ page_down x = eqb-true a (page_down x) q in
     rw (q, within-test a (a + 4096 * suc k) x (omega arith) (omega arith))
-    (ap (λ (y : ℕ). some (record { perm = perm; byte = get_or (f y) (x % 4096) 0 })) e))
+    (ap (λ (y : ℕ). Some (record { perm = perm; byte = get_or (f y) (x % 4096) 0 })) e))
     (λ q.
     let ne : a ≡ page_down x → ⊥ = eqb-false a (page_down x) q in
     rw q (over-from f perm (a + 4096) k x c (omega arith)
-    ∙ ap (λ (b : Bool). b ⇒ some (record { perm = perm; byte = get_or (f (page_down x)) (x % 4096) 0 }) else c) (next ne)))
+    ∙ ap (λ (b : Bool). b ⇒ Some (record { perm = perm; byte = get_or (f (page_down x)) (x % 4096) 0 }) else c) (next ne)))
   where
     next : (a ≡ page_down x → ⊥) → within (a + 4096) (a + 4096 + 4096 * k) x ≡ within a (a + 4096 * suc k) x
     next ne =

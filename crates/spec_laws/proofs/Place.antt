@@ -3,7 +3,7 @@ use Prim.Native.Nat.{ℕ, ◌+◌, ◌*◌, ◌%◌, ◌≤◌, ◌<◌}
 use native.Mathlib.Omega.{arith}
 use mathlib.Core.Path.{◌≡◌, refl, sym, ap, ◌∙◌}
 use mathlib.Core.Bool.{Bool, true, false}
-use mathlib.Core.Option.{Option, none, some}
+use Rattle.std.specs.Prelude.{Option, None, Some}
 use mathlib.Core.List.{List, [], ◌∷◌, ◌++◌}
 use lib.Dec.{eqb}
 use lib.ListN.{length, get_or}
@@ -39,13 +39,13 @@ module _ (book : List ℕ) (k n w c : ℕ) (low : k < frame_count book) (lo : 1 
           (λ q. ap (owns n page) (mapping-else book k n w c low hi j n lo lo hi (λ e z. eqb-false j k q e)))
 
   -- a page that w names, and no frame before, has frame k
-  pub frame_here : (page : ℕ) → Owns n page w → frame_of book n page ≡ none → frame_of (enter book k n w c) n page ≡ some k
+  pub frame_here : (page : ℕ) → Owns n page w → frame_of book n page ≡ None → frame_of (enter book k n w c) n page ≡ Some k
   frame_here page o new =
       let r = frame-some (enter book k n w c) n page k (rw (enter-count book k n w c) low) (rw (mapping-here book k n w c low hi) o) in
       let f = frame_found (enter book k n w c) n page r.0 r.1 in
       let l : r.0 < frame_count book = rw (enter-count book k n w c) at f.0 in
       let u = f.1 in
-      r.1 ∙ split (eqb r.0 k) (λ q. ap some (eqb-true r.0 k q))
+      r.1 ∙ split (eqb r.0 k) (λ q. ap Some (eqb-true r.0 k q))
       (λ q. absurd (frame-none book n page new r.0 l (rw (mapping-else book k n w c low hi r.0 n lo lo hi (λ e z. eqb-false r.0 k q e)) at u)))
 
 -- ---- one page in a free frame
@@ -58,7 +58,7 @@ pub record Ready (p : Page) : Type 0 where
 
 -- the cell that a page has at an address
 abbrev cell_on : Page → ℕ → Option Cell
-cell_on p x = some (record { perm = p.perm; byte = get_or p.bytes (x % 4096) 0 })
+cell_on p x = Some (record { perm = p.perm; byte = get_or p.bytes (x % 4096) 0 })
 
 -- the word of a page names that page alone
 word-owns : (n : ℕ) (p : Page) → 1 ≤ n → n ≤ 16 → Ready p → Owns n p.page (word_of p.page n p.perm)
@@ -74,16 +74,16 @@ module _ {setup : Setup} (m : Store) (n : ℕ) (p : Page) (k : ℕ) (fits : Fits
   empty q a b = unheld m.book mappings.counts k low was q a b
 
   -- what is seen in another frame
-  cell-else : (q x : ℕ) → 1 ≤ q → q ≤ 16 → (o : Option ℕ) → (o ≡ some k → ⊥) → cell_in (hold m n p (some k)) q x o ≡ cell_in m q x o
-  cell-else q x a b none ne = refl
-  cell-else q x a b (some j) ne =
-      let away : j ≡ k → ⊥ = λ e. ne (ap some e) in
+  cell-else : (q x : ℕ) → 1 ≤ q → q ≤ 16 → (o : Option ℕ) → (o ≡ Some k → ⊥) → cell_in (hold m n p (Some k)) q x o ≡ cell_in m q x o
+  cell-else q x a b None ne = refl
+  cell-else q x a b (Some j) ne =
+      let away : j ≡ k → ⊥ = λ e. ne (ap Some e) in
       cell-eq _ _ _ _ (ap perm_of (mapping-else m.book k n word 1 low hi j q lo a b (λ e z. away e)))
       (put-outside m.frames p.bytes (4096 * k) (4096 * j + x % 4096) (omega (arith, fits.bytes)) (λ l u. away (omega (arith, r.whole))))
 
-  mem-hold-else : (q x : ℕ) → 1 ≤ q → q ≤ 16 → (q ≡ n → page_down x ≡ p.page → ⊥) → mem_of (hold m n p (some k)) q x ≡ mem_of m q x
+  mem-hold-else : (q x : ℕ) → 1 ≤ q → q ≤ 16 → (q ≡ n → page_down x ≡ p.page → ⊥) → mem_of (hold m n p (Some k)) q x ≡ mem_of m q x
   mem-hold-else q x a b out =
-      ap (cell_in (hold m n p (some k)) q x) (frame (eqb q n) refl)
+      ap (cell_in (hold m n p (Some k)) q x) (frame (eqb q n) refl)
       ∙ cell-else q x a b (frame_of m.book q (page_down x)) (λ e. (frame_found m.book q (page_down x) k e).1.used (empty q a b))
     where
       frame : (s : Bool) → eqb q n ≡ s → frame_of (enter m.book k n word 1) q (page_down x) ≡ frame_of m.book q (page_down x)
@@ -93,7 +93,7 @@ module _ {setup : Setup} (m : Store) (n : ℕ) (p : Page) (k : ℕ) (fits : Fits
           let u = unpack p.page n p.perm r.aligned (omega arith) r.perm in
           rw z (frame-else m.book k n word 1 low lo hi (empty n lo hi) (page_down x) (λ o. out z (sym o.page ∙ u.0)))
 
-  mem-hold : frame_of m.book n p.page ≡ none → (x : ℕ) → page_down x ≡ p.page → mem_of (hold m n p (some k)) n x ≡ cell_on p x
+  mem-hold : frame_of m.book n p.page ≡ None → (x : ℕ) → page_down x ≡ p.page → mem_of (hold m n p (Some k)) n x ≡ cell_on p x
   mem-hold new x e =
       let o = word-owns n p lo hi r in
       let u = unpack p.page n p.perm r.aligned (omega arith) r.perm in
@@ -103,7 +103,7 @@ module _ {setup : Setup} (m : Store) (n : ℕ) (p : Page) (k : ℕ) (fits : Fits
       ∙ ap (λ (i : ℕ). get_or p.bytes i 0) (omega arith)))
 
   -- the mapping of a page that the process has nowhere
-  mappings-hold : Word setup n word → frame_of m.book n p.page ≡ none → Mappings setup (enter m.book k n word 1)
+  mappings-hold : Word setup n word → frame_of m.book n p.page ≡ None → Mappings setup (enter m.book k n word 1)
   mappings-hold w new =
       let o = word-owns n p lo hi r in
       mappings-add m.book k n word 1 low (within-test 1 17 n lo (omega arith)) mappings w o.used (empty n lo hi)
@@ -120,7 +120,7 @@ place-append m n [] qs = refl
 place-append m n (p ∷ ps) qs = place-append (hold m n p (free_frame m.book)) n ps qs
 
 -- without a free frame nothing is placed
-pub place_none : (m : Store) (n : ℕ) (ps : List Page) → free_frame m.book ≡ none → place m n ps ≡ m
+pub place_none : (m : Store) (n : ℕ) (ps : List Page) → free_frame m.book ≡ None → place m n ps ≡ m
 unfolding place
 place_none m n [] e = refl
 place_none m n (p ∷ ps) e = rw e (place_none m n ps e)
@@ -131,15 +131,15 @@ place-length m n [] = refl
 place-length m n (p ∷ ps) = place-length (hold m n p (free_frame m.book)) n ps ∙ go (free_frame m.book)
   where
     go : (o : Option ℕ) → length (hold m n p o).book ≡ length m.book
-    go none = refl
-    go (some k) = enter-length m.book k n (word_of p.page n p.perm) 1
+    go None = refl
+    go (Some k) = enter-length m.book k n (word_of p.page n p.perm) 1
 
 -- pages that fill frames keep the frames' length
 hold-fits : (m : Store) (n : ℕ) (p : Page) → Fits m → length p.bytes ≡ 4096 → (o : Option ℕ) → free_frame m.book ≡ o → (length (hold m n p o).frames ≡ length m.frames) × Fits (hold m n p o)
-hold-fits m n p fits w none e = (refl, fits)
-hold-fits m n p fits w (some k) e =
+hold-fits m n p fits w None e = (refl, fits)
+hold-fits m n p fits w (Some k) e =
     let l : length (put m.frames (4096 * k) p.bytes) ≡ length m.frames = length-put m.frames p.bytes (4096 * k) (omega (arith, (free-frame m.book k e).0, fits.bytes)) in
-    (l, fits-same (hold m n p (some k)) m l (enter-length m.book k n (word_of p.page n p.perm) 1) fits)
+    (l, fits-same (hold m n p (Some k)) m l (enter-length m.book k n (word_of p.page n p.perm) 1) fits)
 
 abbrev pub WholePages : List Page → Type 0
 WholePages ps = Each (λ p. length p.bytes ≡ 4096) ps
@@ -162,7 +162,7 @@ Distinct [] = Unit {0}
 Distinct (p ∷ ps) = Each (λ q. ¬ (q.page ≡ p.page)) ps × Distinct ps
 
 abbrev pub Fresh : List ℕ → ℕ → List Page → Type 0
-Fresh book n ps = Each (λ p. frame_of book n p.page ≡ none) ps
+Fresh book n ps = Each (λ p. frame_of book n p.page ≡ None) ps
 
 -- pages whose words a book may have
 abbrev pub Worded : Setup → ℕ → List Page → Type 0
@@ -188,13 +188,13 @@ left : {setup : Setup} (m : Store) (n : ℕ) (p : Page) (ps : List Page) → Fit
 left {setup} m n p ps fits mp lo hi r wd d new room = go (free_frame m.book) refl
   where
     go : (o : Option ℕ) → free_frame m.book ≡ o → Left setup m n p ps (hold m n p o)
-    go none e = absurd (omega (arith, none_free m.book e))
-    go (some k) e =
+    go None e = absurd (omega (arith, none_free m.book e))
+    go (Some k) e =
         let f = free-frame m.book k e in
         let w : ℕ = word_of p.page n p.perm in
         let o = word-owns n p lo hi r in
         record {
-          fits = (hold-fits m n p fits r.whole (some k) e).1;
+          fits = (hold-fits m n p fits r.whole (Some k) e).1;
           fresh = apart ps k f.0 (unheld m.book mp.counts k f.0 f.1 n lo hi) o.page d.0 new.1;
           room = omega (arith, free-enter m.book k n w 1 f.0 hi f.1 (λ z. omega arith));
           here = λ x h. mem-hold m n p k fits mp f.0 f.1 lo hi r new.0 x h;

@@ -3,7 +3,7 @@ use Prim.Native.Nat.{ℕ, ◌%◌, ◌≤◌, ◌<◌}
 use native.Mathlib.Omega.{arith}
 use mathlib.Core.Path.{◌≡◌, refl, sym, ap, ◌∙◌}
 use mathlib.Core.Bool.{true}
-use mathlib.Core.Option.{Option, none, some}
+use Rattle.std.specs.Prelude.{Option, None, Some}
 use mathlib.Core.List.{List}
 use lib.ListN.{length, get_or}
 use Rattle.spec.specs.Numbers.{page_down}
@@ -25,13 +25,13 @@ use Rattle.spec_laws.proofs.Pieces.{Pieces, or_perm}
 pub record Whole (setup : Setup) (n : ℕ) (f : ℕ → List ℕ) (gs : List UserSegment) : Type 0 where
   pub owner : valid n ≡ true
   pub pieces : Pieces gs
-  pub proper : (a q : ℕ) → perm_at gs a ≡ some q → (1 ≤ q) × (q ≤ 3) × (setup.utzero ≤ a) × (a < setup.uaddrtop)
-  pub bytes : (a q : ℕ) → a % 4096 ≡ 0 → perm_at gs a ≡ some q → length (f a) ≡ 4096
+  pub proper : (a q : ℕ) → perm_at gs a ≡ Some q → (1 ≤ q) × (q ≤ 3) × (setup.utzero ≤ a) × (a < setup.uaddrtop)
+  pub bytes : (a q : ℕ) → a % 4096 ≡ 0 → perm_at gs a ≡ Some q → length (f a) ≡ 4096
 
 -- in a book in order, which has none of them, with free frames enough
 pub record Room (setup : Setup) (m : Store) (n : ℕ) (gs : List UserSegment) : Type 0 where
   pub mappings : Mappings setup m.book
-  pub fresh : (a q : ℕ) → a % 4096 ≡ 0 → perm_at gs a ≡ some q → book_perm m.book n a ≡ none
+  pub fresh : (a q : ℕ) → a % 4096 ≡ 0 → perm_at gs a ≡ Some q → book_perm m.book n a ≡ None
   pub enough : page_count gs ≤ free m.book
 
 module _ {setup : Setup} (m : Store) (n : ℕ) (f : ℕ → List ℕ) (gs : List UserSegment) (fits : Fits m) (whole : Whole setup n f gs) where
@@ -54,7 +54,7 @@ module _ {setup : Setup} (m : Store) (n : ℕ) (f : ℕ → List ℕ) (gs : List
       room = rw (length-pages f gs) room.enough;
     }
       where
-        word : (a q : ℕ) → a % 4096 ≡ 0 → perm_at gs a ≡ some q → Word setup n (word_of a n q)
+        word : (a q : ℕ) → a % 4096 ≡ 0 → perm_at gs a ≡ Some q → Word setup n (word_of a n q)
         word a q z s =
             let p = whole.proper a q s in
             let u = unpack a n q z (omega (arith, valid-high n whole.owner)) (omega (arith, p.1)) in
@@ -79,5 +79,5 @@ module _ {setup : Setup} (m : Store) (n : ℕ) (f : ℕ → List ℕ) (gs : List
     perm-placed page h = page-perm (place m n (pages_of f gs)) n page h ∙ ap history.perm_in (mem-placed page) ∙ go (perm_at gs page)
       where
         go : (o : Option ℕ) → history.perm_in (cell_or o (get_or (f (page_down page)) (page % 4096) 0) (mem_of m n page)) ≡ or_perm o (book_perm m.book n page)
-        go none = sym (page-perm m n page h)
-        go (some q) = refl
+        go None = sym (page-perm m n page h)
+        go (Some q) = refl

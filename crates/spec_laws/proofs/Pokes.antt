@@ -4,7 +4,7 @@ use native.Mathlib.Omega.{arith}
 use native.Mathlib.Nat.{add-zero}
 use mathlib.Core.Path.{◌≡◌, refl, sym, ap, ◌∙◌}
 use mathlib.Core.Bool.{true}
-use mathlib.Core.Option.{Option, none, some}
+use Rattle.std.specs.Prelude.{Option, None, Some}
 use mathlib.Core.List.{List, [], ◌∷◌, ◌++◌}
 use lib.Dec.{eqb}
 use lib.ListN.{length, get_or, set, length-set}
@@ -27,12 +27,12 @@ use Rattle.spec_laws.proofs.Frame.{Fits, sized_same, fits-same, frame_found, cel
 -- ---- one byte
 
 poke-frames : (m : Store) (a b : ℕ) (o : Option ℕ) → length (poke m a b o).frames ≡ length m.frames
-poke-frames m a b none = refl
-poke-frames m a b (some k) = length-set m.frames (4096 * k + a % 4096) b
+poke-frames m a b None = refl
+poke-frames m a b (Some k) = length-set m.frames (4096 * k + a % 4096) b
 
 -- each frame in which process n has a page from a up to, but not including, a + len is no other's
 abbrev pub Sole : List ℕ → ℕ → ℕ → ℕ → Type 0
-Sole book n a len = (x k : ℕ) → a ≤ x → x < a + len → frame_of book n (page_down x) ≡ some k → (q : ℕ) → valid q ≡ true → (q ≡ n → ⊥) → mapping book k q ≡ 0
+Sole book n a len = (x k : ℕ) → a ≤ x → x < a + len → frame_of book n (page_down x) ≡ Some k → (q : ℕ) → valid q ≡ true → (q ≡ n → ⊥) → mapping book k q ≡ 0
 
 -- what a process sees through a poked frame
 module _ (m : Store) (n a b x : ℕ) (fits : Fits m) where
@@ -40,25 +40,25 @@ module _ (m : Store) (n a b x : ℕ) (fits : Fits m) where
   poke-here ex = rw ex (go (frame_of m.book n (page_down a)) refl)
     where
       go : (o : Option ℕ) → frame_of m.book n (page_down a) ≡ o → cell_in (poke m a b o) n a (frame_of (poke m a b o).book n (page_down a)) ≡ rewrite b (cell_in m n a o)
-      go none e = rw e
-      go (some k) e = let f = frame_found m.book n (page_down a) k e in
+      go None e = rw e
+      go (Some k) e = let f = frame_found m.book n (page_down a) k e in
           rw e (cell-eq _ _ _ _ refl (get_or-set_same m.frames (4096 * k + a % 4096) b 0 (omega (arith, f.0, fits.bytes))))
 
   -- through the frame of another page, or through another place of the frame
-  poke-else : (p : ℕ) → ((k : ℕ) → frame_of m.book n (page_down a) ≡ some k → frame_of m.book p (page_down x) ≡ some k → x ≡ a → ⊥)
-      → ((k : ℕ) → frame_of m.book n (page_down a) ≡ some k → frame_of m.book p (page_down x) ≡ some k → page_down x ≡ page_down a)
+  poke-else : (p : ℕ) → ((k : ℕ) → frame_of m.book n (page_down a) ≡ Some k → frame_of m.book p (page_down x) ≡ Some k → x ≡ a → ⊥)
+      → ((k : ℕ) → frame_of m.book n (page_down a) ≡ Some k → frame_of m.book p (page_down x) ≡ Some k → page_down x ≡ page_down a)
       → mem_of (poke m a b (frame_of m.book n (page_down a))) p x ≡ mem_of m p x
   poke-else p out same = go (frame_of m.book n (page_down a)) refl (frame_of m.book p (page_down x)) refl
     where
       go : (o : Option ℕ) → frame_of m.book n (page_down a) ≡ o → (r : Option ℕ) → frame_of m.book p (page_down x) ≡ r
           → cell_in (poke m a b o) p x (frame_of (poke m a b o).book p (page_down x)) ≡ cell_in m p x r
-      go none e r f = rw f
-      go (some k) e none f = rw f
-      go (some k) e (some j) f =
+      go None e r f = rw f
+      go (Some k) e None f = rw f
+      go (Some k) e (Some j) f =
           rw f (cell-eq _ _ _ _ refl (get_or-set_other m.frames (4096 * k + a % 4096) (4096 * j + x % 4096) b 0
           (λ z.
           let jk : j ≡ k = omega arith in
-          let f' : frame_of m.book p (page_down x) ≡ some k = f ∙ ap some jk in
+          let f' : frame_of m.book p (page_down x) ≡ Some k = f ∙ ap Some jk in
           out k e f' (omega (arith, same k e f')))))
 
   poke-own : (x ≡ a → ⊥) → mem_of (poke m a b (frame_of m.book n (page_down a))) n x ≡ mem_of m n x
@@ -70,7 +70,7 @@ module _ (m : Store) (n a b x : ℕ) (fits : Fits m) where
   poke-other p len v ne sole =
       poke-else p (λ k e f z. never k e f) (λ k e f. absurd (never k e f))
     where
-      never : (k : ℕ) → frame_of m.book n (page_down a) ≡ some k → frame_of m.book p (page_down x) ≡ some k → ⊥
+      never : (k : ℕ) → frame_of m.book n (page_down a) ≡ Some k → frame_of m.book p (page_down x) ≡ Some k → ⊥
       never k e f = (frame_found m.book p (page_down x) k f).1.used (sole a k (omega arith) (omega arith) e p v ne)
 
 -- ---- bytes
@@ -108,7 +108,7 @@ mem-pokes-other m n a bs fits p v ne sole = λ i x. mem-pokes-else m n a bs fits
 
 -- what is mapped from a up to, but not including, a + len is data
 abbrev pub DataAt : Mem → ℕ → ℕ → Type 0
-DataAt mem a len = (x q : ℕ) → a ≤ x → x < a + len → history.perm_in (mem x) ≡ some q → q ≡ 3
+DataAt mem a len = (x q : ℕ) → a ≤ x → x < a + len → history.perm_in (mem x) ≡ Some q → q ≡ 3
 
 -- a data page's frame is no other's
 pub sole-data : {setup : Setup} (m : Store) (n a len : ℕ) → Mappings setup m.book → valid n ≡ true → DataAt (mem_of m n) a len → Sole m.book n a len
@@ -123,9 +123,9 @@ sole-data m n a len h v is-data x k l u e q w ne =
 pub data-range : (setup : Setup) (m : Store) (n a len : ℕ) → Writable setup (mem_of m n) a len → DataAt (mem_of m n) a len
 data-range setup m n a len ok x q l u e = go (mem_of m n x) (ok x l u).1 e
   where
-    go : (c : Option Cell) → cell_ok true c ≡ true → history.perm_in c ≡ some q → q ≡ 3
-    go none t e = absurd (let w : ◌≡◌ {A = ℕ} 0 1 = cc in omega arith)
-    go (some c) t e = let z : c.perm ≡ q = cc in sym z ∙ eqb-true _ _ t
+    go : (c : Option Cell) → cell_ok true c ≡ true → history.perm_in c ≡ Some q → q ≡ 3
+    go None t e = absurd (let w : ◌≡◌ {A = ℕ} 0 1 = cc in omega arith)
+    go (Some c) t e = let z : c.perm ≡ q = cc in sym z ∙ eqb-true _ _ t
 
 -- the process itself sees the bytes where they were written, and elsewhere what it saw
 mem-pokes-at : (m : Store) (n a : ℕ) (bs : List ℕ) → Fits m → (x : ℕ) → mem_of (pokes m n a bs) n x ≡ write a bs (mem_of m n) x
@@ -159,18 +159,18 @@ mem-pokes m n a bs fits = λ i x. mem-pokes-at m n a bs fits x i
 -- ---- bytes within one page
 
 -- stored one after the other
-pokes-sets : (m : Store) (n a : ℕ) (bs : List ℕ) (k : ℕ) → frame_of m.book n (page_down a) ≡ some k → a % 4096 + length bs ≤ 4096
+pokes-sets : (m : Store) (n a : ℕ) (bs : List ℕ) (k : ℕ) → frame_of m.book n (page_down a) ≡ Some k → a % 4096 + length bs ≤ 4096
     → pokes m n a bs ≡ record { frames = sets m.frames (4096 * k + a % 4096) bs; book = m.book }
 unfolding pokes
 pokes-sets m n a [] k e h = refl
-pokes-sets m n a (b ∷ bs) k e h = rw e (go bs (λ g l. pokes-sets (poke m a b (some k)) n (a + 1) bs k g l) h)
+pokes-sets m n a (b ∷ bs) k e h = rw e (go bs (λ g l. pokes-sets (poke m a b (Some k)) n (a + 1) bs k g l) h)
   where
     at : ℕ
     at = 4096 * k + a % 4096
 
-    go : (cs : List ℕ) → (frame_of m.book n (page_down (a + 1)) ≡ some k → (a + 1) % 4096 + length cs ≤ 4096
-        → pokes (poke m a b (some k)) n (a + 1) cs ≡ record { frames = sets (set m.frames at b) (4096 * k + (a + 1) % 4096) cs; book = m.book })
-        → a % 4096 + suc (length cs) ≤ 4096 → pokes (poke m a b (some k)) n (a + 1) cs ≡ record { frames = sets (set m.frames at b) (suc at) cs; book = m.book }
+    go : (cs : List ℕ) → (frame_of m.book n (page_down (a + 1)) ≡ Some k → (a + 1) % 4096 + length cs ≤ 4096
+        → pokes (poke m a b (Some k)) n (a + 1) cs ≡ record { frames = sets (set m.frames at b) (4096 * k + (a + 1) % 4096) cs; book = m.book })
+        → a % 4096 + suc (length cs) ≤ 4096 → pokes (poke m a b (Some k)) n (a + 1) cs ≡ record { frames = sets (set m.frames at b) (suc at) cs; book = m.book }
     go [] more l = refl
     go (c ∷ cs) more l =
         let q : page_down (a + 1) ≡ page_down a = omega arith in
@@ -178,7 +178,7 @@ pokes-sets m n a (b ∷ bs) k e h = rw e (go bs (λ g l. pokes-sets (poke m a b 
         more (rw q e) (omega arith) ∙ ap (λ (i : ℕ). record { frames = sets (set m.frames at b) i (c ∷ cs); book = m.book }) z
 
 -- bytes within one page are put into its frame at once
-pub pokes-page : (m : Store) (n a : ℕ) (bs : List ℕ) (k : ℕ) → length m.frames ≡ 4096 * frame_count m.book → frame_of m.book n (page_down a) ≡ some k → a % 4096 + length bs ≤ 4096
+pub pokes-page : (m : Store) (n a : ℕ) (bs : List ℕ) (k : ℕ) → length m.frames ≡ 4096 * frame_count m.book → frame_of m.book n (page_down a) ≡ Some k → a % 4096 + length bs ≤ 4096
     → pokes m n a bs ≡ record { frames = put m.frames (4096 * k + a % 4096) bs; book = m.book }
 pokes-page m n a bs k bytes e h =
     let f = frame_found m.book n (page_down a) k e in

@@ -3,7 +3,7 @@ use Prim.Native.Nat.{ℕ, zero, suc, ◌+◌, ◌*◌, ◌-◌, ◌/◌, ◌%◌
 use native.Mathlib.Omega.{arith}
 use mathlib.Core.Path.{◌≡◌, refl, sym, ap, ◌∙◌, fun_ext}
 use mathlib.Core.Bool.{Bool, true, false, ◌&&◌, and-true}
-use mathlib.Core.Option.{Option, none, some}
+use Rattle.std.specs.Prelude.{Option, None, Some}
 use mathlib.Core.List.{List}
 use lib.Dec.{eqb}
 use lib.ListN.{length, get_or}
@@ -81,7 +81,7 @@ module _ (m : Store) (n : ℕ) (t : ℕ → Bool) (v : valid n ≡ true) where
 
   -- ---- what a process sees at an address
 
-  frame-gone : (page : ℕ) → t page ≡ true → frame_of (release m n t).book n page ≡ none
+  frame-gone : (page : ℕ) → t page ≡ true → frame_of (release m n t).book n page ≡ None
   frame-gone page e =
       highest-none (λ k. owns n page (mapping (release m n t).book k n)) (frame_count (release m n t).book)
       (λ k l. owns_not n page (mapping (release m n t).book k n) (λ o.
@@ -111,8 +111,8 @@ module _ (m : Store) (n : ℕ) (t : ℕ → Bool) (v : valid n ≡ true) where
       kept k true q p = clash (t (page_down a)) (rw p at (both (mapping m.book k n isnt 0) (t (page_of (mapping m.book k n))) q).1) e
 
       go : (o : Option ℕ) → frame_of m.book n (page_down a) ≡ o → cell_in (release m n t) n a o ≡ cell_in m n a o
-      go none f = refl
-      go (some k) f =
+      go None f = refl
+      go (Some k) f =
           let r = frame_found m.book n (page_down a) k f in
           cell-eq _ _ _ _ (ap perm_of (release-here k r.0 ∙ kept k (leaves n t m.book k) refl r.1.page))
           (ap (λ (l : List ℕ). get_or l (4096 * k + a % 4096) 0) (release-frames m n t))
@@ -123,11 +123,11 @@ module _ (m : Store) (n : ℕ) (t : ℕ → Bool) (v : valid n ≡ true) where
       ∙ go (frame_of m.book p (page_down a))
     where
       go : (o : Option ℕ) → cell_in (release m n t) p a o ≡ cell_in m p a o
-      go none = refl
-      go (some k) = cell-eq _ _ _ _ (ap perm_of (release_other k p u ne)) (ap (λ (l : List ℕ). get_or l (4096 * k + a % 4096) 0) (release-frames m n t))
+      go None = refl
+      go (Some k) = cell-eq _ _ _ _ (ap perm_of (release_other k p u ne)) (ap (λ (l : List ℕ). get_or l (4096 * k + a % 4096) 0) (release-frames m n t))
 
   -- the law: the process's own pages that pass go, and nothing else does
-  pub mem-release : (p a : ℕ) → valid p ≡ true → mem_of (release m n t) p a ≡ (p is n && t (page_down a) ⇒ none else mem_of m p a)
+  pub mem-release : (p a : ℕ) → valid p ≡ true → mem_of (release m n t) p a ≡ (p is n && t (page_down a) ⇒ None else mem_of m p a)
   mem-release p a u =
       split (eqb p n)
       (λ q.
@@ -161,7 +161,7 @@ module _ (m : Store) (n : ℕ) (t : ℕ → Bool) (v : valid n ≡ true) where
           rw (q, ne_eqb x 0 z, ne_eqb (x - 1) 0 (λ y. ne (omega arith))))
 
 -- a process's pages: it sees nothing, and what it held alone is free
-pub mem-release-own : (m : Store) (n : ℕ) → valid n ≡ true → mem_of (release m n (λ page. true)) n ≡ (λ a. none)
+pub mem-release-own : (m : Store) (n : ℕ) → valid n ≡ true → mem_of (release m n (λ page. true)) n ≡ (λ a. None)
 mem-release-own m n v = fun_ext (λ a. mem-release m n (λ page. true) v n a v ∙ rw (eq-eqb n n refl))
 
 pub free-release-own : {setup : Setup} (m : Store) (n : ℕ) → valid n ≡ true → Mappings setup m.book → free (release m n (λ page. true)).book ≡ free m.book + alone m.book n

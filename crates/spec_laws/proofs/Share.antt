@@ -3,7 +3,7 @@ use Prim.Native.Nat.{ℕ, zero, suc, ◌+◌, ◌*◌, ◌/◌, ◌%◌, ◌≤�
 use native.Mathlib.Omega.{arith}
 use mathlib.Core.Path.{◌≡◌, refl, sym, ap, ◌∙◌}
 use mathlib.Core.Bool.{Bool, true, false, ◌&&◌}
-use mathlib.Core.Option.{Option, none, some}
+use Rattle.std.specs.Prelude.{Option, None, Some}
 use mathlib.Core.List.{List}
 use lib.Dec.{eqb}
 use lib.ListN.{length, get_or}
@@ -36,11 +36,11 @@ word_for child w = word_of (page_of w) child (perm_of w)
 
 -- what of a process's memory is shared: all but data
 abbrev pub text_of : Option Cell → Option Cell
-text_of none = none
-text_of (some c) = c.perm is 3 ⇒ none else some c
+text_of None = None
+text_of (Some c) = c.perm is 3 ⇒ None else Some c
 
 -- who sees nothing has no mapping
-pub unseen : {setup : Setup} (m : Store) (n : ℕ) → Mappings setup m.book → valid n ≡ true → mem_of m n ≡ (λ a. none) → (k : ℕ) → k < frame_count m.book → mapping m.book k n ≡ 0
+pub unseen : {setup : Setup} (m : Store) (n : ℕ) → Mappings setup m.book → valid n ≡ true → mem_of m n ≡ (λ a. None) → (k : ℕ) → k < frame_count m.book → mapping m.book k n ≡ 0
 unseen m n h v e k l =
     split (eqb (mapping m.book k n) 0)
     (λ q. eqb-true _ _ q)
@@ -49,7 +49,7 @@ unseen m n h v e k l =
     let nz = eqb-false w 0 q in
     let d : page_down (page_of w) ≡ page_of w = omega arith in
     let f = frame_is m.book n (page_of w) k (once-means m.book h n v) l (record { used = nz; owner = (h.words k n l v nz).owner; page = refl }) in
-    let c : cell_in m n (page_of w) (some k) ≡ none = sym (ap (cell_in m n (page_of w)) (ap (frame_of m.book n) d ∙ f)) ∙ ap (λ (x : Mem). x (page_of w)) e in
+    let c : cell_in m n (page_of w) (Some k) ≡ None = sym (ap (cell_in m n (page_of w)) (ap (frame_of m.book n) d ∙ f)) ∙ ap (λ (x : Mem). x (page_of w)) e in
     absurd (let z : ◌≡◌ {A = ℕ} 0 1 = cc in omega arith))
 
 module _ (m : Store) (n child : ℕ) (v : valid n ≡ true) (u : valid child ≡ true) (ne : child ≡ n → ⊥) where
@@ -190,8 +190,8 @@ module _ (m : Store) (n child : ℕ) (v : valid n ≡ true) (u : valid child ≡
             ∙ go (frame_of m.book q (page_down a))
           where
             go : (o : Option ℕ) → cell_in (share m n child) q a o ≡ cell_in m q a o
-            go none = refl
-            go (some k) = cell-eq _ _ _ _ (ap perm_of (share_other k q w out)) (ap (λ (l : List ℕ). get_or l (4096 * k + a % 4096) 0) (share-frames m n child))
+            go None = refl
+            go (Some k) = cell-eq _ _ _ _ (ap perm_of (share_other k q w out)) (ap (λ (l : List ℕ). get_or l (4096 * k + a % 4096) 0) (share-frames m n child))
 
     -- the child sees the parent's text and rodata
     pub mem-share : (a : ℕ) → mem_of (share m n child) child a ≡ text_of (mem_of m n a)
@@ -216,7 +216,7 @@ module _ (m : Store) (n child : ℕ) (v : valid n ≡ true) (u : valid child ≡
                 rw (ne_eqb (word_for child w) 0 (used-word (page_of w) child (perm_of w) lo), eq-eqb (owner_of (word_for child w)) child x.1, x.0, ne_eqb w 0 nz, eq-eqb (owner_of w) n o)
 
         -- no frame of the child's where no frame that is shared has the page
-        nothing : ((k : ℕ) → k < frame_count m.book → shares n m.book k ≡ true → Owns n (page_down a) (mapping m.book k n) → ⊥) → mem_of (share m n child) child a ≡ none
+        nothing : ((k : ℕ) → k < frame_count m.book → shares n m.book k ≡ true → Owns n (page_down a) (mapping m.book k n) → ⊥) → mem_of (share m n child) child a ≡ None
         nothing out =
             ap (cell_in (share m n child) child a) (highest-none (λ k. owns child (page_down a) (mapping (share m n child).book k child)) (frame_count (share m n child).book)
             (λ k l.
@@ -228,8 +228,8 @@ module _ (m : Store) (n child : ℕ) (v : valid n ≡ true) (u : valid child ≡
             at k l true q = owns_not n (page_down a) (mapping m.book k n) (out k l q)
 
         go : (o : Option ℕ) → frame_of m.book n (page_down a) ≡ o → mem_of (share m n child) child a ≡ text_of (cell_in m n a o)
-        go none e = nothing (λ k l s o. frame-none m.book n (page_down a) e k l o)
-        go (some k) e =
+        go None e = nothing (λ k l s o. frame-none m.book n (page_down a) e k l o)
+        go (Some k) e =
             split (perm_of w is 3)
             (λ q. rw q (nothing (λ j l s o.
             let same : j ≡ k = once-means m.book h n v (page_down a) j k l f.0 o f.1 in

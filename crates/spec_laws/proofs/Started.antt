@@ -2,7 +2,7 @@
 use Prim.Native.Nat.{ℕ, zero, suc, ◌+◌, ◌-◌, ◌≤◌, ◌<◌}
 use native.Mathlib.Omega.{arith}
 use mathlib.Core.Path.{◌≡◌, refl, sym, ap, ◌∙◌}
-use mathlib.Core.Option.{some}
+use Rattle.std.specs.Prelude.{Some}
 use mathlib.Core.List.{List, [], ◌∷◌, ◌++◌}
 use lib.ListN.{length, get_or, take, replicate, length-append, length-replicate, length-take}
 use borrow.Author.Tests.{ltb-true}
@@ -51,7 +51,7 @@ proc-whole setup p name e = record {
 -- ---- its pages
 
 -- permissions are 1 to 3
-pub start-perm : (setup : Setup) (ok : SetupOk setup) (p : Program) → Accepted setup p → (a q : ℕ) → perm_at (start_pieces setup p) a ≡ some q → (1 ≤ q) × (q ≤ 3)
+pub start-perm : (setup : Setup) (ok : SetupOk setup) (p : Program) → Accepted setup p → (a q : ℕ) → perm_at (start_pieces setup p) a ≡ Some q → (1 ≤ q) × (q ≤ 3)
 start-perm setup ok p e =
     perm-each (λ q. (1 ≤ q) × (q ≤ 3)) (start_pieces setup p)
     (each_append _ (program_segments p) (bss_segment (program_bss p) ∷ stack setup ∷ []) (each p.segments 0 e.read.loads) ((omega arith, omega arith), ((omega arith, omega arith), tt)))
@@ -78,12 +78,12 @@ module _ (setup : Setup) (ok : SetupOk setup) where
       ∙ ap (λ (x : List UserSegment). perm_at x a) (sym (shape_pieces setup (proc_of setup p name) (program_segments p) (program-shape setup ok p name e)))
 
   -- they lie in user memory
-  pub start_between : (p : Program) → Accepted setup p → (a q : ℕ) → perm_at (start_pieces setup p) a ≡ some q → (setup.utzero ≤ a) × (a < setup.uaddrtop)
+  pub start_between : (p : Program) → Accepted setup p → (a q : ℕ) → perm_at (start_pieces setup p) a ≡ Some q → (setup.utzero ≤ a) × (a < setup.uaddrtop)
   start_between p e a q f =
       shape-between setup ok (proc_of setup p []) (program_segments p) (program-shape setup ok p [] e) a q (sym (start-pieces p [] e a) ∙ f)
 
 -- what lies above the limit is data: the pages that a start pushes its arguments to
-pub start-data : (setup : Setup) → SetupOk setup → (p : Program) → Accepted setup p → (a q : ℕ) → limit setup ≤ a → perm_at (start_pieces setup p) a ≡ some q → q ≡ 3
+pub start-data : (setup : Setup) → SetupOk setup → (p : Program) → Accepted setup p → (a q : ℕ) → limit setup ≤ a → perm_at (start_pieces setup p) a ≡ Some q → q ≡ 3
 start-data setup ok p e a q l f =
     let r = proc_of setup p [] in
     let h = program-shape setup ok p [] e in

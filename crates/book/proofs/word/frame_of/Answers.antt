@@ -4,7 +4,6 @@ use native.Mathlib.Omega.{arith}
 use mathlib.Core.Path.{sym, ap, ◌∙◌}
 use mathlib.Core.Bool.{Bool}
 use Rattle.spec.specs.Book.{mapping, owns}
-use Rattle.book.specs.Answers.{found_of}
 use Rattle.book.proofs.Searches.{highest-here, highest-less, highest-end, key-owns, key-not}
 use Rattle.book.proofs.word.frame_of.Goals as goal
 
@@ -13,7 +12,7 @@ returns-then-book-i c =
     let a = c.args in
     let l = c.loop-i in
     let t : ℕ → Bool = λ k. owns a.owner a.page (mapping a.book.now k a.owner) in
-    sym (ap found_of (l.invariant.1 ∙ highest-here t l.i (omega arith) (key-owns a.owner a.page _ (omega arith) (omega arith) (omega arith) c.if-book-i.true)))
+    sym (l.invariant.1 ∙ highest-here t l.i (omega arith) (key-owns a.owner a.page _ (omega arith) (omega arith) (omega arith) c.if-book-i.true))
 
 pub loop-i-preserved : goal.loop-i-preserved
 loop-i-preserved c =
@@ -26,4 +25,4 @@ pub returns : goal.returns
 returns c =
     let a = c.args in
     let t : ℕ → Bool = λ k. owns a.owner a.page (mapping a.book.now k a.owner) in
-    sym (ap found_of (c.loop-i.invariant.1 ∙ highest-end t c.loop-i.i (omega arith)))
+    sym (c.loop-i.invariant.1 ∙ highest-end t c.loop-i.i (omega arith))

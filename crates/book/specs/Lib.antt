@@ -1,2 +1,0 @@
--- The answers of searches.
-pub mod Answers
