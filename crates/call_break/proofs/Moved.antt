@@ -3,7 +3,7 @@ use Prim.Native.Nat.{ℕ, zero, suc, ◌-◌, ◌/◌, ◌≤◌}
 use native.Mathlib.Omega.{arith}
 use mathlib.Core.Path.{◌≡◌, refl, sym, ap, ap₂, ◌∙◌}
 use mathlib.Core.Bool.{Bool, false, ◌&&◌, and-false}
-use mathlib.Core.Option.{some}
+use Rattle.std.specs.Prelude.{Some}
 use mathlib.Core.List.{List, [], ◌∷◌}
 use borrow.Author.Tests.{eq-eqb, ne_eqb}
 use Rattle.spec.specs.Tests.{◌is◌, ◌isnt◌, within, ◌⇒◌else◌}
@@ -43,8 +43,8 @@ shrinks-place m n old new h = let z : (new - old) / 4096 ≡ 0 = omega arith in 
 -- ---- the answer
 
 -- the rule over what the code found is the rule over what the process holds
-pub break-rule : (setup : Setup) (b : Break) (bss bss' : VirtRange) (addr free free' : ℕ) → b ≡ ibrk setup (some bss) addr free → bss ≡ bss' → free ≡ free' → b ≡ ibrk setup (some bss') addr free'
-break-rule setup b bss bss' addr free free' rule same count = rule ∙ ap₂ (λ (x : VirtRange) (f : ℕ). ibrk setup (some x) addr f) same count
+pub break-rule : (setup : Setup) (b : Break) (bss bss' : VirtRange) (addr free free' : ℕ) → b ≡ ibrk setup (Some bss) addr free → bss ≡ bss' → free ≡ free' → b ≡ ibrk setup (Some bss') addr free'
+break-rule setup b bss bss' addr free free' rule same count = rule ∙ ap₂ (λ (x : VirtRange) (f : ℕ). ibrk setup (Some x) addr f) same count
 
 module _ (b x : Break) (rule : b ≡ x) where
   pub break-refused : (b.error ≡ 0 → ⊥) → weigh_break x ≡ Refused b.error

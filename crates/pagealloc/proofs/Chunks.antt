@@ -2,7 +2,7 @@
 use Prim.Native.Nat.{ℕ, ◌+◌, ◌-◌, ◌*◌, ◌%◌, ◌≤◌, ◌<◌}
 use native.Mathlib.Omega.{arith}
 use mathlib.Core.Path.{◌≡◌, refl, sym, ap, subst, ◌∙◌}
-use mathlib.Core.Option.{some}
+use Rattle.std.specs.Prelude.{None, Some}
 use mathlib.Core.List.{List}
 use lib.ListN.{length, take, drop, length-drop}
 use lib.Seq.{length-take-le, take-add, take-length}
@@ -10,18 +10,16 @@ use Rattle.spec.specs.Numbers.{page_down}
 use Rattle.spec.specs.Book.{frame_count, frame_of}
 use Rattle.spec.specs.Frames.{Store, put, pokes, store}
 use Rattle.spec_laws.proofs.Pokes.{pokes-append, pokes-page}
-use Rattle.spec.specs.declared.Found.TheVariants.{At, Nothing}
-use Rattle.book.specs.Answers.{found_of}
 use Rattle.pagealloc.specs.Lent.{Mapped}
 use Rattle.book.proofs.Searches.{Framed, page-found}
 use Rattle.pagealloc.proofs.Copying.{not-missing}
 
 -- the frame of an address's page
-pub frame_at : (book : List ℕ) (n a page k : ℕ) → page ≡ page_down a → At k ≡ found_of (frame_of book n page) → Framed book n (page_down a) k
-frame_at book n a page k e h = subst (λ (p : ℕ). Framed book n p k) e (page-found book n page k (At k) h refl)
+pub frame_at : (book : List ℕ) (n a page k : ℕ) → page ≡ page_down a → frame_of book n page ≡ Some k → Framed book n (page_down a) k
+frame_at book n a page k e h = subst (λ (p : ℕ). Framed book n p k) e (page-found book n page k h)
 
 -- in a range that a process has, it is found
-pub not-missed : {P : Type 0} (book : List ℕ) (n addr size i page : ℕ) → Mapped book n (page_down addr) (addr + size) → i < size → page ≡ page_down (addr + i) → Nothing ≡ found_of (frame_of book n page) → P
+pub not-missed : {P : Type 0} (book : List ℕ) (n addr size i page : ℕ) → Mapped book n (page_down addr) (addr + size) → i < size → page ≡ page_down (addr + i) → frame_of book n page ≡ None → P
 not-missed book n addr size i page mapped h e miss =
     let there = mapped page (omega arith) (omega arith) (omega arith) in
     not-missing (frame_of book n page) there.0 there.1 miss
@@ -34,7 +32,7 @@ write-none m n addr bytes = refl
 
 -- the next bytes, within one page
 pub write-turn : (m : Store) (f g book bytes : List ℕ) (n addr i e k at : ℕ) → length f ≡ 4096 * frame_count book → store f book ≡ pokes m n addr (take i bytes) → i ≤ e → e ≤ length bytes
-    → frame_of book n (page_down (addr + i)) ≡ some k → (addr + i) % 4096 + (e - i) ≤ 4096 → at ≡ 4096 * k + (addr + i) % 4096 → g ≡ put f at (take (e - i) (drop i bytes))
+    → frame_of book n (page_down (addr + i)) ≡ Some k → (addr + i) % 4096 + (e - i) ≤ 4096 → at ≡ 4096 * k + (addr + i) % 4096 → g ≡ put f at (take (e - i) (drop i bytes))
     → store g book ≡ pokes m n addr (take e bytes)
 write-turn m f g book bytes n addr i e k at fits so l h found room ea eg =
     let s : List ℕ = take (e - i) (drop i bytes) in

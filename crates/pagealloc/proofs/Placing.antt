@@ -4,7 +4,7 @@ use native.Mathlib.Omega.{arith}
 use native.Mathlib.Nat.{not-suc-le-zero}
 use mathlib.Core.Path.{◌≡◌, refl, sym, ap, ◌∙◌}
 use mathlib.Core.Bool.{Bool, false}
-use mathlib.Core.Option.{Option, some}
+use Rattle.std.specs.Prelude.{Option, None, Some}
 use mathlib.Core.List.{List, [], ◌∷◌, append-nil}
 use lib.Dec.{eqb}
 use lib.ListN.{length}
@@ -12,21 +12,18 @@ use borrow.Author.Tests.{eqb-true, eqb-false}
 use Rattle.spec.specs.Numbers.{zero_page}
 use Rattle.spec.specs.Book.{word_of, frame_count, holders, highest, is_free, free_frame, segment}
 use Rattle.spec.specs.Frames.{Store, enter, put, Page, pages_from, pages_of, hold, place, store}
-use Rattle.spec.specs.declared.Found.TheVariants.{At, Nothing}
 use Rattle.spec.proofs.Bools.{split}
 use Rattle.spec.proofs.Search.{hit, miss, highest-none}
 use Rattle.spec.proofs.Enter.{enter-length, enter-count, holders-here, holders-else}
 use Rattle.spec_laws.proofs.Lists.{by_order}
 use Rattle.spec_laws.proofs.Place.{place_none}
-use Rattle.book.specs.Answers.{found_of}
-use Rattle.book.proofs.Searches.{found_at, found_none}
 use Rattle.pagealloc.specs.Lent.{Passed}
 
 -- ---- one page
 
 -- bytes put into frame k, and its mapping entered, hold a page there
 pub held : (f b f' b' : List ℕ) (k at owner page perm w : ℕ) (bytes : List ℕ) → at ≡ 4096 * k → f' ≡ put f at bytes → w ≡ word_of page owner perm → b' ≡ enter b k owner w 1
-    → store f' b' ≡ hold (store f b) owner (record { page = page; perm = perm; bytes = bytes }) (some k)
+    → store f' b' ≡ hold (store f b) owner (record { page = page; perm = perm; bytes = bytes }) (Some k)
 held f b f' b' k at owner page perm w bytes ea ef ew eb = rw (eb, ef, ew, ea)
 
 pub zero_same : (page : ℕ) → zero_page 0 ≡ zero_page page
@@ -44,46 +41,43 @@ highest-from t (suc b) c h f =
     (λ q. let ne : c ≡ suc b → ⊥ = eqb-false c (suc b) q in rw (f b (omega arith) (omega arith)) (highest-from t b c (omega arith) (λ k l u. f k l (omega arith))))
 
 -- nothing above the highest passes
-highest-above : (t : ℕ → Bool) (c k : ℕ) → highest t c ≡ some k → (j : ℕ) → k < j → j < c → t j ≡ false
+highest-above : (t : ℕ → Bool) (c k : ℕ) → highest t c ≡ Some k → (j : ℕ) → k < j → j < c → t j ≡ false
 highest-above t zero k e j l u = absurd (not-suc-le-zero u)
 highest-above t (suc c) k e j l u =
     split (t c)
-    (λ q. let s : some c ≡ some k = rw q at e in let w : c ≡ k = cc in absurd (omega arith))
+    (λ q. let s : Some c ≡ Some k = rw q at e in let w : c ≡ k = cc in absurd (omega arith))
     (λ q. split (eqb j c)
     (λ p. rw (eqb-true j c p) q)
     (λ p. let ne : j ≡ c → ⊥ = eqb-false j c p in highest-above t c k (rw q at e) j l (omega arith)))
 
 module _ (book : List ℕ) (c : ℕ) (passed : Passed c book) where
   -- the frame found is the highest free frame
-  pub free-found : (k : ℕ) → At k ≡ found_of (highest (is_free book) c) → (k < frame_count book) × (free_frame book ≡ some k)
+  pub free-found : (k : ℕ) → highest (is_free book) c ≡ Some k → (k < frame_count book) × (free_frame book ≡ Some k)
   free-found k e =
-      let f = found_at (highest (is_free book) c) k e in
-      (omega (arith, (hit (is_free book) c k f).0), highest-from (is_free book) (frame_count book) c passed.0 passed.1 ∙ f)
+      (omega (arith, (hit (is_free book) c k e).0), highest-from (is_free book) (frame_count book) c passed.0 passed.1 ∙ e)
 
-  pub free-word : (k : ℕ) → At k ≡ found_of (highest (is_free book) c) → holders book k ≡ 0
-  free-word k e = eqb-true (holders book k) 0 (hit (is_free book) c k (found_at (highest (is_free book) c) k e)).1
+  pub free-word : (k : ℕ) → highest (is_free book) c ≡ Some k → holders book k ≡ 0
+  free-word k e = eqb-true (holders book k) 0 (hit (is_free book) c k e).1
 
   -- once it is taken, no frame from it on is free
-  pub passed-taken : (k n w : ℕ) → n ≤ 16 → At k ≡ found_of (highest (is_free book) c) → Passed k (enter book k n w 1)
+  pub passed-taken : (k n w : ℕ) → n ≤ 16 → highest (is_free book) c ≡ Some k → Passed k (enter book k n w 1)
   passed-taken k n w hi e =
-      let f = found_at (highest (is_free book) c) k e in
       let low : k < frame_count book = (free-found k e).0 in
       let l = enter-count book k n w 1 in (
         omega arith,
         λ j u v. split (eqb j k)
             (λ q. rw (eqb-true j k q, holders-here book k n w 1 low hi) refl)
             (λ q. let ne : j ≡ k → ⊥ = eqb-false j k q in
-            rw (holders-else book k n w 1 low hi j ne) (later f j (omega arith) (omega arith))),
+            rw (holders-else book k n w 1 low hi j ne) (later e j (omega arith) (omega arith))),
       )
     where
-      later : highest (is_free book) c ≡ some k → (j : ℕ) → k < j → j < frame_count book → is_free book j ≡ false
+      later : highest (is_free book) c ≡ Some k → (j : ℕ) → k < j → j < frame_count book → is_free book j ≡ false
       later f j u v = by_order j c (λ l. highest-above (is_free book) c k f j u l) (λ l. passed.1 j l v)
 
   -- where none is found, no frame is free
-  pub passed_none : Nothing ≡ found_of (highest (is_free book) c) → Passed 0 book
+  pub passed_none : highest (is_free book) c ≡ None → Passed 0 book
   passed_none e =
-      let f = found_none (highest (is_free book) c) e in
-      (omega arith, λ k u v. by_order k c (λ l. miss (is_free book) c f k l) (λ l. passed.1 k l v))
+      (omega arith, λ k u v. by_order k c (λ l. miss (is_free book) c e k l) (λ l. passed.1 k l v))
 
 -- ---- a run of pages
 
@@ -108,8 +102,8 @@ module _ (f : ℕ → List ℕ) (perm owner end first : ℕ) (m t : Store) (page
   one = append-nil (run f perm end first)
 
   -- the next page takes the highest free frame
-  pub ran-turn : end % 4096 ≡ 0 → page < end → (k : ℕ) → At k ≡ found_of (highest (is_free t.book) c) → (u : Store)
-      → u ≡ hold t owner (record { page = page; perm = perm; bytes = f page }) (some k) → length u.frames ≡ length t.frames
+  pub ran-turn : end % 4096 ≡ 0 → page < end → (k : ℕ) → highest (is_free t.book) c ≡ Some k → (u : Store)
+      → u ≡ hold t owner (record { page = page; perm = perm; bytes = f page }) (Some k) → length u.frames ≡ length t.frames
       → Ran f perm owner end first m u (page + 4096) k
   unfolding place
   ran-turn ae h k e u eu l =
@@ -132,7 +126,7 @@ module _ (f : ℕ → List ℕ) (perm owner end first : ℕ) (m t : Store) (page
       }
 
   -- no frame is left
-  pub ran-full : Nothing ≡ found_of (highest (is_free t.book) c) → (t ≡ place m owner (pages_of f (segment first end perm ∷ []))) × Passed 0 t.book
+  pub ran-full : highest (is_free t.book) c ≡ None → (t ≡ place m owner (pages_of f (segment first end perm ∷ []))) × Passed 0 t.book
   ran-full e =
       let none_left = passed_none t.book c ran.passed e in
       (sym (ap (place m owner) one ∙ ran.rest ∙ place_none t owner (run f perm end page) (highest-none (is_free t.book) (frame_count t.book) (λ k h. none_left.1 k (omega arith) h))), none_left)

@@ -1,8 +1,7 @@
 -- Which frames are free, and which pages a process has. Functions that place and write pages ask these of their callers, who have
 -- counted frames and checked ranges.
 -- Assumes nothing.
-use Rattle.std.specs.Prelude.{ℕ, ◌%◌, ◌≤◌, ◌<◌, ◌≡◌, false, List}
-use Rattle.std.proofs.Math.Option.{some}
+use Rattle.std.specs.Prelude.{ℕ, ◌%◌, ◌≤◌, ◌<◌, ◌≡◌, false, List, Some}
 use Rattle.spec.specs.Book.{frame_count, is_free, frame_of}
 
 -- frames are looked at from the top down: no frame from c on is free
@@ -11,4 +10,4 @@ Passed c book = (c ≤ frame_count book) × ((k : ℕ) → c ≤ k → k < frame
 
 -- a process has every page from `low` up to, but not including, `high`
 abbrev pub Mapped : List ℕ → ℕ → ℕ → ℕ → Type 0
-Mapped book n low high = (page : ℕ) → page % 4096 ≡ 0 → low ≤ page → page < high → (k : ℕ) × (frame_of book n page ≡ some k)
+Mapped book n low high = (page : ℕ) → page % 4096 ≡ 0 → low ≤ page → page < high → (k : ℕ) × (frame_of book n page ≡ Some k)

@@ -2,28 +2,26 @@
 // function answers the next such frame, so that a run of pages goes on where the one before it stopped and a whole image is
 // placed in one pass over the book. Where no frame is free, nothing is placed: callers have counted the free frames.
 
-ghost use Rattle.std.specs.Prelude.{◌≡◌, [], ◌∷◌, ◌+◌, ◌*◌, ◌%◌, ◌^◌, ◌≤◌, ◌<◌, length};
-ghost use Rattle.std.proofs.Math.Option.{some};
+ghost use Rattle.std.specs.Prelude.{◌≡◌, [], ◌∷◌, ◌+◌, ◌*◌, ◌%◌, ◌^◌, ◌≤◌, ◌<◌, length, Some};
 ghost use Rattle.spec.specs.Numbers.{page_bytes, zero_page};
 ghost use Rattle.spec.specs.Book.{frame_count, holders, is_free, highest, segment};
 ghost use Rattle.spec.specs.Frames.{enter, pages_of, hold, place, frame_bytes, store};
-ghost use Rattle.book.specs.Answers.{found_of};
 ghost use Rattle.pagealloc.specs.Lent.{Passed};
 ghost use Rattle.pagealloc.specs.Contents.{file_at};
 
 // The highest free frame below frame `c`, as `allocate_physpage`, which leaves the book as it is.
-pub fn free_below(book: &[u64], c: usize) -> spec::Found
+pub fn free_below(book: &[u64], c: usize) -> Option<usize>
     requires { c ≤ frame_count book.now }
-    ensures { result ≡ found_of (highest (is_free book.now) c) }
+    ensures { result ≡ highest (is_free book.now) c }
 {
     let mut i = c;
     while 0 < i {
         i -= 1;
         if book[17 * i + 16] == 0 {
-            return spec::Found::At(i);
+            return Some(i);
         }
     }
-    spec::Found::Nothing
+    None
 }
 
 // Frame `k` gets mapping `w` in the owner's place, its only one.
@@ -39,7 +37,7 @@ fn take_frame(book: &mut [u64], k: usize, owner: u64, w: u64)
 // Frame `k` becomes a data page of zeros.
 fn hold_zeroed(frames: &mut [u8], book: &mut [u64], k: usize, owner: u64, page: u64)
     requires { (length frames.old ≡ 4096 * frame_count book.old) × (k < frame_count book.old) × (1 ≤ owner) × (owner ≤ 16) × (page < 2 ^ 63) }
-    ensures { store frames.new book.new ≡ hold (store frames.old book.old) owner (record { page = page; perm = 3; bytes = zero_page page }) (some k) }
+    ensures { store frames.new book.new ≡ hold (store frames.old book.old) owner (record { page = page; perm = 3; bytes = zero_page page }) (Some k) }
 {
     crate::pages::zero_frame(frames, crate::frames::frame_addr(k));
     take_frame(book, k, owner, book::pack(page, owner, spec::DATA));
@@ -63,7 +61,7 @@ pub fn map_zeroed(
     let mut page = range.start;
     let mut c = top;
     while page < end {
-        let spec::Found::At(k) = free_below(book, c) else {
+        let Some(k) = free_below(book, c) else {
             return 0;
         };
         hold_zeroed(frames, book, k, owner, page);
@@ -86,7 +84,7 @@ fn hold_loaded(
 )
     requires frames_len { (length frames.old ≡ 4096 * frame_count book.old) × (k < frame_count book.old) × (1 ≤ owner) × (owner ≤ 16) × (perm < 16) × (page < 2 ^ 63) }
     requires file_bound { vaddr + length file.now < 2 ^ 64 }
-    ensures { store frames.new book.new ≡ hold (store frames.old book.old) owner (record { page = page; perm = perm; bytes = page_bytes (file_at vaddr file.now) page }) (some k) }
+    ensures { store frames.new book.new ≡ hold (store frames.old book.old) owner (record { page = page; perm = perm; bytes = page_bytes (file_at vaddr file.now) page }) (Some k) }
 {
     crate::pages::load_frame(frames, crate::frames::frame_addr(k), page, vaddr, file);
     take_frame(book, k, owner, book::pack(page, owner, perm));
@@ -114,7 +112,7 @@ pub fn load_segment(
     let mut page = range.start;
     let mut c = top;
     while page < end {
-        let spec::Found::At(k) = free_below(book, c) else {
+        let Some(k) = free_below(book, c) else {
             return 0;
         };
         hold_loaded(frames, book, k, owner, perm, page, vaddr, file);
@@ -136,7 +134,7 @@ pub fn hold_copied(
 )
     requires frames_len { (length frames.old ≡ 4096 * frame_count book.old) × (k < frame_count book.old) × (holders book.old k ≡ 0) }
     requires from_bound { (from < frame_count book.old) × (holders book.old from ≡ 0 → ⊥) × (1 ≤ child) × (child ≤ 16) × (perm < 16) × (page < 2 ^ 63) }
-    ensures { store frames.new book.new ≡ hold (store frames.old book.old) child (record { page = page; perm = perm; bytes = frame_bytes frames.old (some from) }) (some k) }
+    ensures { store frames.new book.new ≡ hold (store frames.old book.old) child (record { page = page; perm = perm; bytes = frame_bytes frames.old (Some from) }) (Some k) }
 {
     crate::pages::copy_frame(
         frames,

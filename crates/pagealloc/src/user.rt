@@ -25,7 +25,7 @@ pub fn write_user(frames: &mut [u8], book: &[u64], owner: u64, addr: u64, bytes:
     while i < bytes.len() {
         let a = addr + (i as u64);
         let offset = a % spec::PAGE_SIZE_4K;
-        let spec::Found::At(k) = book::frame_of(book, owner, mem::page_down(a)) else {
+        let Some(k) = book::frame_of(book, owner, mem::page_down(a)) else {
             return;
         };
         let e = i + crate::frames::least((spec::PAGE_SIZE_4K - offset) as usize, bytes.len() - i);

@@ -2,7 +2,7 @@
 use native.Mathlib.Omega.{arith}
 use mathlib.Core.Path.{◌≡◌, refl, sym, ap, ◌∙◌}
 use mathlib.Core.Bool.{true}
-use mathlib.Core.Option.{some}
+use Rattle.std.specs.Prelude.{Some}
 use Rattle.spec.specs.Book.{free}
 use Rattle.spec.specs.Segment.{Break, ibrk}
 use Rattle.spec.specs.Machine.{break, outcome_of, plainly, weigh_break, call}
@@ -34,12 +34,12 @@ module _ (c : Else-e-ne0) where
 
 -- where the rule has answered
 module _ (c : After-ibrk-b) where
-  rule : break_of c.ibrk-b.result ≡ ibrk c.args.setup (some (view (state (goal.at.After-ibrk-b c).Else-e-ne0) c.args.number).bss) c.args.addr (free c.args.book.now)
+  rule : break_of c.ibrk-b.result ≡ ibrk c.args.setup (Some (view (state (goal.at.After-ibrk-b c).Else-e-ne0) c.args.number).bss) c.args.addr (free c.args.book.now)
   rule =
       break-rule c.args.setup (break_of c.ibrk-b.result) _ _ _ _ _ c.ibrk-b.ensures (ap (λ (p : Proc). p.bss) c.proc_at-p.ensures) c.free_count-free.ensures
 
   -- an answer of the rule is the call's
-  answers : (t : State) (a : Answer) → weigh_break (ibrk c.args.setup (some (view (state (goal.at.After-ibrk-b c).Else-e-ne0) c.args.number).bss) c.args.addr (free c.args.book.now)) ≡ a
+  answers : (t : State) (a : Answer) → weigh_break (ibrk c.args.setup (Some (view (state (goal.at.After-ibrk-b c).Else-e-ne0) c.args.number).bss) c.args.addr (free c.args.book.now)) ≡ a
       → t ≡ leave (state (goal.at.After-ibrk-b c).Else-e-ne0) (call c.args.number (break c.args.addr)) (outcome_of a)
       → Does (state (goal.at.After-ibrk-b c).Else-e-ne0) (call c.args.number (break c.args.addr)) t (plainly a)
   answers t a w l =

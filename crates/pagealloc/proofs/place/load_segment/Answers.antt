@@ -20,12 +20,12 @@ returns-in_default c =
     let a = c.args in
     let g = a.recorded in
     let p = ran-full (page_bytes (file_at a.vaddr a.file.now)) g.perm a.owner g.range.end g.range.start (store a.frames.now a.book.now) (store l.frames l.book) l.page l.c
-    (omega arith) l.invariant (sym c.in_default.is ∙ c.free_below.ensures) in record { book_after = p.0; passed_2 = p.1 }
+    (omega arith) l.invariant (sym c.free_below.ensures ∙ c.in_default.is) in record { book_after = p.0; passed_2 = p.1 }
 
 pub hold_loaded-requires : goal.hold_loaded-requires
 hold_loaded-requires c =
     let l = c.loop-page in
-    let e = free-found l.book l.c l.invariant.passed c.in-At.k (sym c.in-At.is ∙ c.free_below.ensures) in
+    let e = free-found l.book l.c l.invariant.passed c.in-Some.k (sym c.free_below.ensures ∙ c.in-Some.is) in
     record { frames_len = omega arith; file_bound = omega arith }
 
 pub loop-page-preserved : goal.loop-page-preserved
@@ -34,7 +34,7 @@ loop-page-preserved c =
     let a = c.args in
     let g = a.recorded in
     ran-turn (page_bytes (file_at a.vaddr a.file.now)) g.perm a.owner g.range.end g.range.start (store a.frames.now a.book.now) (store l.frames l.book) l.page l.c
-    (omega arith) l.invariant c.requires.start_value.1 (omega arith) c.in-At.k (sym c.in-At.is ∙ c.free_below.ensures) _
+    (omega arith) l.invariant c.requires.start_value.1 (omega arith) c.in-Some.k (sym c.free_below.ensures ∙ c.in-Some.is) _
     c.hold_loaded.ensures c.hold_loaded.auto.frames
 
 pub returns : goal.returns

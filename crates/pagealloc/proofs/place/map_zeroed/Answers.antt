@@ -17,12 +17,12 @@ returns-in_default c =
     let a = c.args in
     let l = c.loop-page in
     let p = ran-full zero_page 3 a.owner a.range.end a.range.start (store a.frames.now a.book.now) (store l.frames l.book) l.page l.c
-    (omega arith) l.invariant (sym c.in_default.is ∙ c.free_below.ensures) in record { book_after = p.0; passed_2 = p.1 }
+    (omega arith) l.invariant (sym c.free_below.ensures ∙ c.in_default.is) in record { book_after = p.0; passed_2 = p.1 }
 
 pub hold_zeroed-requires : goal.hold_zeroed-requires
 hold_zeroed-requires c =
     let l = c.loop-page in
-    let e = free-found l.book l.c l.invariant.passed c.in-At.k (sym c.in-At.is ∙ c.free_below.ensures) in
+    let e = free-found l.book l.c l.invariant.passed c.in-Some.k (sym c.free_below.ensures ∙ c.in-Some.is) in
     omega arith
 
 pub loop-page-preserved : goal.loop-page-preserved
@@ -30,7 +30,7 @@ loop-page-preserved c =
     let l = c.loop-page in
     let a = c.args in
     ran-turn zero_page 3 a.owner a.range.end a.range.start (store a.frames.now a.book.now) (store l.frames l.book) l.page l.c
-    (omega arith) l.invariant c.requires.start_value.1 (omega arith) c.in-At.k (sym c.in-At.is ∙ c.free_below.ensures) _
+    (omega arith) l.invariant c.requires.start_value.1 (omega arith) c.in-Some.k (sym c.free_below.ensures ∙ c.in-Some.is) _
     c.hold_zeroed.ensures c.hold_zeroed.auto.frames
 
 pub returns : goal.returns
