@@ -5,21 +5,17 @@
 use Rattle.std.specs.Prelude.{ℕ, ◌+◌, ◌*◌, ◌-◌, ◌/◌, ◌^◌, Bool, List, [], ◌∷◌, ◌++◌, length}
 use Rattle.spec.specs.Tests.{◌isnt◌, ◌below◌, ◌⇒◌else◌, sum}
 use Rattle.spec.specs.Numbers.{le_bytes}
-use Rattle.spec.specs.Exec.{args_of, strings, args_error}
+use Rattle.spec.specs.Exec.{args_of, args_error}
 use Rattle.spec.specs.declared.UserRegs.{UserRegs}
 use Rattle.spec.specs.declared.Setup.{Setup}
-use Rattle.exec_args.specs.declared.args.ArgsSize.{ArgsSize}
 
 -- a number, or the highest of 64 bits where it is above that
 abbrev pub saturated : ℕ → ℕ
 saturated n = n below 2 ^ 64 ⇒ n else 2 ^ 64 - 1
 
--- `args_size`: 1 for lengths that don't sum to their bytes, or the arguments' refusal; or 0 with the size of the strings
-unfoldable pub args_size : Setup → List ℕ → List ℕ → ArgsSize
-args_size setup bytes lengths =
-    sum lengths isnt length bytes ⇒ record { error = 1; strings = 0 } else
-    args_error setup (args_of bytes lengths) isnt 0 ⇒ record { error = args_error setup (args_of bytes lengths); strings = 0 } else
-    record { error = 0; strings = length (strings (args_of bytes lengths)) }
+-- `args_size`'s refusal: 1 for lengths that don't sum to their bytes, or the arguments' own, or 0
+unfoldable pub size_error : Setup → List ℕ → List ℕ → ℕ
+size_error setup bytes lengths = sum lengths isnt length bytes ⇒ 1 else args_error setup (args_of bytes lengths)
 
 -- the specification's `pointers`, by the lengths of arguments
 abbrev pub pointers_by : ℕ → List ℕ → List ℕ

@@ -1,24 +1,18 @@
 // The arguments of a program, as r9's exec.rs checks them: their size, where a push of them goes, and the registers. Arguments are bytes
 // and lengths, where the Rust has `&[&[u8]]`.
 
-ghost use Rattle.std.specs.Prelude.{◌≡◌, false, length};
+ghost use Rattle.std.specs.Prelude.{◌≡◌, false, length, IfOk};
 ghost use Rattle.spec.specs.Tests.{◌is◌, has, sum};
-ghost use Rattle.spec.specs.Exec.{stack_size};
-ghost use Rattle.exec_args.specs.Sizes.{saturated, args_size, below_zero_by, registers_by};
+ghost use Rattle.spec.specs.Refusals.{number_of};
+ghost use Rattle.spec.specs.Exec.{args_of, strings, stack_size};
+ghost use Rattle.exec_args.specs.Sizes.{saturated, size_error, below_zero_by, registers_by};
 
-use spec::Setup;
+use spec::{Refusal, Setup};
 
 // The highest number of 64 bits, and how many words of 8 bytes have a size that they hold.
 const MAX: u64 = 0xffff_ffff_ffff_ffff;
 
 const MAX_WORDS: u64 = 0x1fff_ffff_ffff_ffff;
-
-// What args_size comes to: the number of a refusal, or 0 with the size of the strings, NULs included.
-#[derive(Clone, Copy)]
-pub struct ArgsSize {
-    pub error: u64,
-    pub strings: u64,
-}
 
 // Whether the lengths of arguments sum to their bytes. The sum isn't made, since it may pass 64 bits: what is left of the bytes is.
 pub fn lengths_fit(bytes: &[u8], lengths: &[u64]) -> bool
@@ -70,32 +64,24 @@ pub fn stack_size(strings: u64, nargs: u64) -> u64
 
 // Checks that arguments can be pushed onto a stack, and tells the size of their strings. Arguments may use at most a quarter of
 // the stack, and may not hold a NUL.
-pub fn args_size(setup: Setup, bytes: &[u8], lengths: &[u64]) -> ArgsSize
-    ensures { result ≡ args_size setup bytes.now lengths.now }
+pub fn args_size(setup: Setup, bytes: &[u8], lengths: &[u64]) -> Result<u64, Refusal>
+    ensures number { number_of result ≡ size_error setup bytes.now lengths.now }
+    ensures size { IfOk result (λ n. n ≡ length (strings (args_of bytes.now lengths.now))) }
 {
     let limit = setup.ustksize / 4;
     if !lengths_fit(bytes, lengths) {
-        return ArgsSize {
-            error: spec::SIZES,
-            strings: 0,
-        };
+        return Err(Refusal::Sizes);
     }
     // The arguments are the bytes, so a NUL in one of them is a NUL there.
     if has_nul(bytes) {
-        return ArgsSize {
-            error: spec::EBADARG,
-            strings: 0,
-        };
+        return Err(Refusal::BadArg);
     }
     let nargs = lengths.len() as u64;
     let strings = bytes.len() as u64 + nargs;
     if stack_size(strings, nargs) > limit {
-        return ArgsSize {
-            error: spec::ENOVMEM,
-            strings: 0,
-        };
+        return Err(Refusal::NoMemory);
     }
-    ArgsSize { error: 0, strings }
+    Ok(strings)
 }
 
 // Whether a push of arguments below `top` would go below address 0, given their strings' size. The Rust would panic or wrap.

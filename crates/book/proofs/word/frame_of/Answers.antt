@@ -1,7 +1,7 @@
 -- `frame_of` meets its contract.
 use Prim.Native.Nat.{ℕ}
 use native.Mathlib.Omega.{arith}
-use mathlib.Core.Path.{sym, ap, ◌∙◌}
+use mathlib.Core.Path.{sym, ◌∙◌}
 use mathlib.Core.Bool.{Bool}
 use Rattle.spec.specs.Book.{mapping, owns}
 use Rattle.book.proofs.Searches.{highest-here, highest-less, highest-end, key-owns, key-not}
