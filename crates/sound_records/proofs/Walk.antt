@@ -1,9 +1,10 @@
 -- A walk over a list from place to place, for tests that go by recursion on the list.
 use Prim.Native.Nat.{ℕ, ◌+◌, ◌<◌, ◌≤◌}
 use native.Mathlib.Numerals.{add-one}
-use mathlib.Core.Path.{◌≡◌, refl, sym, ◌∙◌}
+use mathlib.Core.Path.{◌≡◌, refl, ap, sym, ◌∙◌}
 use mathlib.Core.Bool.{Bool, true, false, not, ◌&&◌}
-use mathlib.Core.List.{List, map}
+use mathlib.Core.List.{List, [], ◌∷◌, map}
+use Rattle.std.specs.List.{list_all}
 use lib.Dec.{leb, ltb}
 use lib.ListN.{length, get_or, drop, drop_of_length-le, length-map}
 use lib.Seq.{drop-cons}
@@ -23,16 +24,10 @@ at_most a b = split (leb a b)
     (λ q. rw (q, le-ltb b a (leb-true a b q)) refl)
     (λ q. rw (q, lt-ltb b a (leb-false a b q)) refl)
 
--- one element further
-module _ {A : Type 0} (t : A → Bool) (l : List A) (i : ℕ) where
-  pub all-stop : (d : A) → i < length l → t (get_or l i d) ≡ false → all t (drop i l) ≡ false
-  all-stop d h e = rw (drop-cons l i d h, e)
-
-  pub all_go : (d : A) → i < length l → t (get_or l i d) ≡ true → all t (drop i l) ≡ all t (drop (i + 1) l)
-  all_go d h e = rw (add-one, drop-cons l i d h, e)
-
-  pub all_end : length l ≤ i → all t (drop i l) ≡ true
-  all_end h = rw (drop_of_length-le l h)
+-- the specification's test of each element is that of a chain of iterators
+pub all-list : {A : Type 0} (t : A → Bool) (l : List A) → all t l ≡ list_all t l
+all-list t [] = refl
+all-list t (x ∷ l) = ap (λ (b : Bool). t x && b) (all-list t l)
 
 module _ (setup : Setup) where
   module _ (low : ℕ) (bss : VirtRange) (l : List UserSegment) (i : ℕ) (h : i < length l) where

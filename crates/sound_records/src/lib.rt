@@ -3,69 +3,33 @@
 
 #![tactic(auto)]
 
-ghost use Rattle.std.specs.Prelude.{◌≡◌, ◌≤◌, drop};
+ghost use Rattle.std.specs.Prelude.{◌≡◌};
 ghost use Rattle.spec.specs.Tests.{◌is◌, all};
-ghost use Rattle.spec.specs.Book.{same_segment, unused, lives as livesOf, stack};
+ghost use Rattle.spec.specs.Book.{unused, lives as livesOf};
 ghost use Rattle.spec.specs.Sound.{bss_ok};
 ghost use Rattle.sound_records.specs.Records.{image_test, shaped, passes};
 
 use spec::{DATA, Proc, Procs, Setup, TEXT, UserSegment, VirtRange};
 
-// An unused place of a record is zero.
-fn is_unused(s: UserSegment) -> bool
-    ensures { result ≡ unused s }
+// Whether all of some places of a record are unused.
+fn all_unused(segments: &[UserSegment]) -> bool
+    ensures { result ≡ all unused segments.now }
 {
-    (s.range.start == 0) & (s.range.end == 0) & (s.perm == 0)
-}
-
-// The whole stack as data.
-fn is_stack(setup: Setup, s: UserSegment) -> bool
-    ensures { result ≡ same_segment s (stack setup) }
-{
-    let start = s.range.start;
-    let end = s.range.end;
-    let perm = s.perm;
-    let top = setup.ustktop;
-    (start == setup::stack_start(setup)) & (end == top) & (perm == DATA)
-}
-
-// Whether all places of a record from `from` on are unused.
-fn rest_unused(segments: [UserSegment; 16], from: usize) -> bool
-    requires { from ≤ 16 }
-    ensures { result ≡ all unused (drop from segments) }
-{
-    let mut i = from;
-    while i < 16 {
-        let s = segments[i];
-        if !is_unused(s) {
-            return false;
-        }
-        i += 1;
-    }
-    true
+    segments.iter().all(|s| *s == UserSegment::default())
 }
 
 // Whether all bytes of a name are zero.
-fn no_name(text: [u8; 28]) -> bool
-    ensures { result ≡ all (λ b. b is 0) text }
+fn no_name(text: &[u8]) -> bool
+    ensures { result ≡ all (λ b. b is 0) text.now }
 {
-    let mut i = 0;
-    while i < 28 {
-        if text[i] != 0 {
-            return false;
-        }
-        i += 1;
-    }
-    true
+    text.iter().all(|&b| b == 0)
 }
 
 // A process lives unless its record is all zero.
 pub fn lives(p: Proc) -> bool
     ensures { result ≡ livesOf p }
 {
-    let segments = p.segments;
-    let text = p.text;
-    !(rest_unused(segments, 0) & no_name(text) & (p.bss.start == 0) & (p.bss.end == 0))
+    !(all_unused(&p.segments) && no_name(&p.text) && p.bss == VirtRange::default())
 }
 
 // A segment of the image: page-aligned, non-empty, from `low` on and at most at limit, and with a permission.
@@ -107,20 +71,16 @@ fn bss_ok(setup: Setup, low: u64, bss: VirtRange) -> bool
 fn is_shaped(setup: Setup, p: Proc) -> bool
     ensures { result ≡ shaped setup setup.utzero p.bss p.segments }
 {
-    let segments = p.segments;
-    let bss = p.bss;
+    let stack = setup::stack(setup);
     let mut low = setup.utzero;
-    let mut i = 0;
-    while i < 16 {
-        let s = segments[i];
-        if is_stack(setup, s) {
-            return rest_unused(segments, i + 1) & bss_ok(setup, low, bss);
+    for (i, s) in p.segments.iter().enumerate() {
+        if *s == stack {
+            return all_unused(&p.segments[i + 1..]) && bss_ok(setup, low, p.bss);
         }
-        if !image_ok(setup, low, s) {
+        if !image_ok(setup, low, *s) {
             return false;
         }
         low = s.range.end;
-        i += 1;
     }
     false
 }
@@ -129,23 +89,12 @@ fn is_shaped(setup: Setup, p: Proc) -> bool
 fn record_ok(setup: Setup, p: Proc) -> bool
     ensures { result ≡ passes setup p }
 {
-    if is_shaped(setup, p) {
-        return true;
-    }
-    !lives(p)
+    is_shaped(setup, p) || !lives(p)
 }
 
 // Whether all records are.
 pub fn records_ok(setup: Setup, procs: Procs) -> bool
     ensures { result ≡ all (passes setup) procs.all }
 {
-    let mut i = 0;
-    while i < 16 {
-        let p = procs.all[i];
-        if !record_ok(setup, p) {
-            return false;
-        }
-        i += 1;
-    }
-    true
+    procs.all.iter().all(|p| record_ok(setup, *p))
 }

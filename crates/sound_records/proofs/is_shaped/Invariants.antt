@@ -1,12 +1,8 @@
 -- `is_shaped` meets its contract: what is left to test is the places from i on, with `low` where the place before ended.
-use Prim.Native.Nat.{◌≤◌, ◌-◌}
 use mathlib.Core.Path.{◌≡◌}
-use lib.ListN.{length, drop}
+use lib.ListN.{drop}
 use Rattle.sound_records.specs.Records.{shaped}
 use Rattle.sound_records.proofs.is_shaped.Given as goal
 
 abbrev pub invariant-loop-i : goal.invariant-loop-i
-invariant-loop-i l = (l.i ≤ 16) × (length l.segments ≡ 16) × (shaped l.setup l.setup.utzero l.bss l.segments ≡ shaped l.setup l.low l.bss (drop l.i l.segments))
-
-abbrev pub decreases-loop-i : goal.decreases-loop-i
-decreases-loop-i l = 16 - l.i
+invariant-loop-i l = shaped l.setup l.setup.utzero l.fn.p.bss l.fn.p.segments ≡ shaped l.setup l.low l.fn.p.bss (drop l.i l.fn.p.segments)
