@@ -5,7 +5,7 @@ use native.Mathlib.Omega.{arith}
 use native.Mathlib.Nat.{not-suc-le-zero, le_of_suc-le-suc}
 use mathlib.Core.Path.{◌≡◌, refl, sym, ap, ◌∙◌}
 use mathlib.Core.Bool.{true, false}
-use mathlib.Core.Option.{none, some}
+use Rattle.std.specs.Prelude.{None, Some}
 use mathlib.Core.List.{List, [], ◌∷◌, ◌++◌, append_assoc}
 use lib.ListN.{length, get_or, replicate, length-append, get_or-append}
 use lib.Seq.{get_or_at}
@@ -37,14 +37,14 @@ each-made P (g ∷ gs) f = (f 0 (omega arith), each-made P gs (λ j h. f (suc j)
 -- ---- addresses in disjoint segments
 
 -- one that some segment holds has a permission, that of the only one
-pub perm_at_lem : (gs : List UserSegment) (a q : ℕ) → perm_at gs a ≡ some q → (j : ℕ) × (j < length gs) × (in_segment a (get_or gs j zero_segment) ≡ true) × ((get_or gs j zero_segment).perm ≡ q)
-perm_at_lem [] a q e = some-none none q e refl
+pub perm_at_lem : (gs : List UserSegment) (a q : ℕ) → perm_at gs a ≡ Some q → (j : ℕ) × (j < length gs) × (in_segment a (get_or gs j zero_segment) ≡ true) × ((get_or gs j zero_segment).perm ≡ q)
+perm_at_lem [] a q e = some-none None q e refl
 perm_at_lem (g ∷ gs) a q e =
     split (in_segment a g)
-    (λ i. let s : some g.perm ≡ some q = rw i at e in let w : g.perm ≡ q = cc in (0, omega arith, i, w))
+    (λ i. let s : Some g.perm ≡ Some q = rw i at e in let w : g.perm ≡ q = cc in (0, omega arith, i, w))
     (λ i. let r = perm_at_lem gs a q (rw i at e) in (suc r.0, omega (arith, r.1), r.2, r.3))
 
-pub at-perm : (gs : List UserSegment) → Pieces gs → (j a : ℕ) → j < length gs → in_segment a (get_or gs j zero_segment) ≡ true → perm_at gs a ≡ some (get_or gs j zero_segment).perm
+pub at-perm : (gs : List UserSegment) → Pieces gs → (j a : ℕ) → j < length gs → in_segment a (get_or gs j zero_segment) ≡ true → perm_at gs a ≡ Some (get_or gs j zero_segment).perm
 at-perm [] d j a h i = absurd (not-suc-le-zero h)
 at-perm (g ∷ gs) d zero a h i = perm-here g gs a i
 at-perm (g ∷ gs) d (suc j) a h i =
@@ -176,10 +176,10 @@ module _ (setup : Setup) (ok : SetupOk setup) where
 
 -- ---- an address in a place, and in a part
 
-pub place-gives : (setup : Setup) (p : Proc) → WholeProc p → Parts setup p → (j a : ℕ) → j < 16 → in_segment a (get_or p.segments j zero_segment) ≡ true → perm_at (pieces_of p) a ≡ some (get_or p.segments j zero_segment).perm
+pub place-gives : (setup : Setup) (p : Proc) → WholeProc p → Parts setup p → (j a : ℕ) → j < 16 → in_segment a (get_or p.segments j zero_segment) ≡ true → perm_at (pieces_of p) a ≡ Some (get_or p.segments j zero_segment).perm
 place-gives setup p w f j a h i =
     let e : get_or (parts p) j zero_segment ≡ get_or p.segments j zero_segment = get_or-append p.segments (bss_segment p.bss ∷ []) zero_segment j (omega (arith, w.segments)) in
-    sym (f.same a) ∙ at-perm (parts p) f.apart j a (omega (arith, parts-long p w.segments)) (rw e i) ∙ ap (λ (g : UserSegment). some g.perm) e
+    sym (f.same a) ∙ at-perm (parts p) f.apart j a (omega (arith, parts-long p w.segments)) (rw e i) ∙ ap (λ (g : UserSegment). Some g.perm) e
 
 -- a part that holds an address is the place itself
 holds-seat : (g : UserSegment) (a : ℕ) → in_segment a (seat g) ≡ true → seat g ≡ g
@@ -206,12 +206,12 @@ module _ (setup : Setup) where
     holds : (j a : ℕ) → j < 17 → in_segment a (part p j) ≡ true → part p j ≡ get_or (parts p) j zero_segment
     holds j a h i = let e = part-is p w.segments j h in e ∙ holds-seat (get_or (parts p) j zero_segment) a (rw e at i)
 
-    pub part_gives : (j a : ℕ) → j < 17 → in_segment a (part p j) ≡ true → perm_at (pieces_of p) a ≡ some (part p j).perm
+    pub part_gives : (j a : ℕ) → j < 17 → in_segment a (part p j) ≡ true → perm_at (pieces_of p) a ≡ Some (part p j).perm
     part_gives j a h i =
         let e = holds j a h i in
-        sym (f.same a) ∙ at-perm (parts p) f.apart j a (long j h) (rw e at i) ∙ ap (λ (g : UserSegment). some g.perm) (sym e)
+        sym (f.same a) ∙ at-perm (parts p) f.apart j a (long j h) (rw e at i) ∙ ap (λ (g : UserSegment). Some g.perm) (sym e)
 
-    pub gives_part : (a q : ℕ) → perm_at (pieces_of p) a ≡ some q → (j : ℕ) × (j < 17) × (in_segment a (part p j) ≡ true) × ((part p j).perm ≡ q)
+    pub gives_part : (a q : ℕ) → perm_at (pieces_of p) a ≡ Some q → (j : ℕ) × (j < 17) × (in_segment a (part p j) ≡ true) × ((part p j).perm ≡ q)
     gives_part a q e =
         let r = perm_at_lem (parts p) a q (f.same a ∙ e) in
         let h : r.0 < 17 = rw (parts-long p w.segments) at r.1 in

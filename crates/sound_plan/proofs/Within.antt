@@ -8,7 +8,7 @@ use lib.ListN.{get_or}
 use borrow.Author.Tests.{ltb-true, leb-true, eqb-true, lt-ltb, le-leb, eq-eqb}
 use Rattle.spec.specs.Book.{owner_of}
 use Rattle.spec.proofs.Bools.{both}
-use Rattle.sound_plan.specs.Plan.{owner, hits, nth, rank, PartOf, Plan}
+use Rattle.sound_plan.specs.Plan.{owner, hits, nth, rank, Plan}
 use Rattle.sound_plan.proofs.Ranks.{base-up, nth-at}
 
 pub record Hit (tags bases : List ℕ) (w k : ℕ) : Type 0 where
@@ -54,6 +54,3 @@ pub record Found (tags bases : List ℕ) (w k : ℕ) : Type 0 where
 
 pub found_part : (tags bases : List ℕ) → Plan tags bases → (w k : ℕ) → k < 272 → hits tags bases w k ≡ true → Found tags bases w k
 found_part tags bases plan w k h e = record { there = h; has = e; fact = hit-fact tags bases w k e; below = rank_below tags bases plan w k h e; most = plan.most }
-
-pub part-found : (tags bases : List ℕ) → Plan tags bases → (w k : ℕ) → PartOf tags bases w k → (k ≡ 272 → ⊥) → Found tags bases w k
-part-found tags bases plan w k s ne = let h : k < 272 = omega (arith, s.within) in found_part tags bases plan w k h (s.found h)

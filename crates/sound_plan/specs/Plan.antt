@@ -2,7 +2,7 @@
 -- has a tag, the word of its first page, and a base, how many pages the parts before it have. A page's rank is its place in the
 -- order of the parts.
 -- Assumes nothing.
-use Rattle.std.specs.Prelude.{ℕ, zero, suc, ◌+◌, ◌*◌, ◌-◌, ◌/◌, ◌%◌, ◌<◌, ◌≤◌, ◌≡◌, Bool, true, false, ◌&&◌, List, length, get_or, leb}
+use Rattle.std.specs.Prelude.{ℕ, zero, suc, ◌+◌, ◌*◌, ◌-◌, ◌/◌, ◌%◌, ◌<◌, ◌≤◌, ◌≡◌, Bool, true, false, ◌&&◌, List, length, get_or, leb, Option, None, Some}
 use Rattle.spec.specs.Tests.{◌is◌, ◌below◌, ◌⇒◌else◌}
 use Rattle.spec.specs.Numbers.{max_top, bytes_from}
 use Rattle.spec.specs.Book.{word_of, owner_of, segment, zero_segment, bss_segment, proc_at}
@@ -121,11 +121,10 @@ nth tags bases t = nth_of (λ k. get_or tags k 0) (λ k. get_or bases k 0) 272 t
 abbrev pub rank : List ℕ → List ℕ → ℕ → ℕ → ℕ
 rank tags bases w k = get_or bases k 0 + (w - get_or tags k 0) / 4096
 
--- the part r that a word is of, or 272 where it is of no part of its owner
-pub record PartOf (tags bases : List ℕ) (w r : ℕ) : Type 0 where
-  pub within : r ≤ 272
-  pub found : r < 272 → hits tags bases w r ≡ true
-  pub none : r ≡ 272 → (k : ℕ) → k < 272 → owner k ≡ owner_of w → hits tags bases w k ≡ false
+-- the part that a word is of, or none where it is of no part of its owner
+abbrev pub PartOf : List ℕ → List ℕ → ℕ → Option ℕ → Type 0
+PartOf tags bases w (Some k) = (k < 272) × (hits tags bases w k ≡ true)
+PartOf tags bases w None = (k : ℕ) → k < 272 → owner k ≡ owner_of w → hits tags bases w k ≡ false
 
 -- the later of two places, k + step and k, whose tag is at most w
 abbrev pub later : List ℕ → ℕ → ℕ → ℕ → ℕ
