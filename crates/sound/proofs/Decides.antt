@@ -3,7 +3,7 @@ use Prim.Native.Nat.{ℕ, ◌+◌, ◌-◌, ◌*◌, ◌/◌, ◌%◌, ◌<◌, 
 use native.Mathlib.Omega.{arith}
 use mathlib.Core.Path.{◌≡◌, refl, sym, ap, subst, ◌∙◌}
 use mathlib.Core.Bool.{Bool, true}
-use mathlib.Core.Option.{Option, none, some}
+use Rattle.std.specs.Prelude.{Option, None, Some}
 use mathlib.Core.List.{List}
 use lib.ListN.{length, get_or}
 use Rattle.spec.specs.Tests.{all}
@@ -33,7 +33,7 @@ use Rattle.sound.proofs.Planning.{Good, Made, base-total, rank-hits, rank-good, 
 
 -- ---- ranks whose words stand in places are no more than the places
 
-pub few-matched : (b : List ℕ) (word : ℕ → ℕ) (N T : ℕ) → ((t u : ℕ) → t < T → u < T → word t ≡ word u → t ≡ u) → ((t : ℕ) → t < T → place_with b N (word t) ≡ none → ⊥) → T ≤ N
+pub few-matched : (b : List ℕ) (word : ℕ → ℕ) (N T : ℕ) → ((t u : ℕ) → t < T → u < T → word t ≡ word u → t ≡ u) → ((t : ℕ) → t < T → place_with b N (word t) ≡ None → ⊥) → T ≤ N
 few-matched b word N T apart full = numbered N T place (λ t h. (holds t h).0) (λ t u h l e. apart t u h l (sym (holds t h).1 ∙ ap (place_at b) e ∙ (holds u l).1))
   where
     place : ℕ → ℕ
@@ -99,11 +99,11 @@ module _ {setup : Setup} {ps : Procs} {tags bases : List ℕ} {total : ℕ} (m :
         let g = subst (Good setup) r.2 (rank-good m r.0 r.1) in
         record { owner = own k n l v nz; perm = g.perm; page = g.page }
 
-    gives : (k n : ℕ) → k < frame_count b → valid n ≡ true → ¬ (mapping b k n ≡ 0) → perm_at (pieces_of (proc_at ps n)) (page_of (mapping b k n)) ≡ some (perm_of (mapping b k n))
+    gives : (k n : ℕ) → k < frame_count b → valid n ≡ true → ¬ (mapping b k n ≡ 0) → perm_at (pieces_of (proc_at ps n)) (page_of (mapping b k n)) ≡ Some (perm_of (mapping b k n))
     gives k n l v nz =
         let r = ranked k n l v nz in
-        let g = subst (λ (w : ℕ). perm_at (pieces_of (proc_at ps (owner_of w))) (page_of w) ≡ some (perm_of w)) r.2 (rank-gives m r.0 r.1) in
-        subst (λ (o : ℕ). perm_at (pieces_of (proc_at ps o)) (page_of (mapping b k n)) ≡ some (perm_of (mapping b k n))) (own k n l v nz) g
+        let g = subst (λ (w : ℕ). perm_at (pieces_of (proc_at ps (owner_of w))) (page_of w) ≡ Some (perm_of w)) r.2 (rank-gives m r.0 r.1) in
+        subst (λ (o : ℕ). perm_at (pieces_of (proc_at ps o)) (page_of (mapping b k n)) ≡ Some (perm_of (mapping b k n))) (own k n l v nz) g
 
     -- no word stands twice
     same_index : (i j : ℕ) → i < 16 * frame_count b → j < 16 * frame_count b → (place_at b i ≡ 0 → ⊥) → place_at b i ≡ place_at b j → i ≡ j
@@ -115,7 +115,7 @@ module _ {setup : Setup} {ps : Procs} {tags bases : List ℕ} {total : ℕ} (m :
     -- an owner's page has one permission, so one word
     once : (n j k : ℕ) → valid n ≡ true → j < frame_count b → k < frame_count b → ¬ (mapping b j n ≡ 0) → ¬ (mapping b k n ≡ 0) → page_of (mapping b j n) ≡ page_of (mapping b k n) → j ≡ k
     once n j k v lj lk uj uk p =
-        let q : some (perm_of (mapping b j n)) ≡ some (perm_of (mapping b k n)) = sym (gives j n lj v uj) ∙ ap (perm_at (pieces_of (proc_at ps n))) p ∙ gives k n lk v uk in
+        let q : Some (perm_of (mapping b j n)) ≡ Some (perm_of (mapping b k n)) = sym (gives j n lj v uj) ∙ ap (perm_at (pieces_of (proc_at ps n))) p ∙ gives k n lk v uk in
         let r : perm_of (mapping b j n) ≡ perm_of (mapping b k n) = cc in
         let w : mapping b j n ≡ mapping b k n = one_word (mapping b j n) (mapping b k n) (own j n lj v uj ∙ sym (own k n lk v uk)) p r in
         let e = same_index (16 * j + (n - 1)) (16 * k + (n - 1)) (index j n lj v) (index k n lk v) (λ z. uj (sym (is-place j n v) ∙ z)) (is-place j n v ∙ w ∙ sym (is-place k n v)) in
@@ -131,8 +131,8 @@ module _ {setup : Setup} {ps : Procs} {tags bases : List ℕ} {total : ℕ} (m :
     exact n page v al = go (frame_of b n page) refl (perm_at (pieces_of (proc_at ps n)) page) refl
       where
         go : (f : Option ℕ) → frame_of b n page ≡ f → (o : Option ℕ) → perm_at (pieces_of (proc_at ps n)) page ≡ o → book_perm b n page ≡ perm_at (pieces_of (proc_at ps n)) page
-        go none e none h = ap (perm_in b n) e ∙ sym h
-        go none e (some q) h =
+        go None e None h = ap (perm_in b n) e ∙ sym h
+        go None e (Some q) h =
             let t = gives-rank m n page q v al h in
             let o = option-some (place_with b (16 * frame_count b) (nth tags bases t.0)) (full t.0 t.1) in
             let f = with-found b (nth tags bases t.0) (16 * frame_count b) o.0 o.1 in
@@ -143,7 +143,7 @@ module _ {setup : Setup} {ps : Procs} {tags bases : List ℕ} {total : ℕ} (m :
             let at : o.0 % 16 + 1 ≡ n = sym (own (o.0 / 16) (o.0 % 16 + 1) l (valid-test (o.0 % 16 + 1) (omega arith) (omega arith)) nz) ∙ ap owner_of w ∙ u.1 in
             let w' : mapping b (o.0 / 16) n ≡ word_of page n q = ap (mapping b (o.0 / 16)) (sym at) ∙ w in
             absurd (frame-none b n page e (o.0 / 16) l (record { used = λ z. used-word page n q (valid-means n v).0 (sym w' ∙ z); owner = ap owner_of w' ∙ u.1; page = ap page_of w' ∙ u.0 }))
-        go (some k) e o h =
+        go (Some k) e o h =
             let f = frame_found b n page k e in
             ap (perm_in b n) e ∙ sym (gives k n f.0 v f.1.used) ∙ ap (perm_at (pieces_of (proc_at ps n))) f.1.page
 
@@ -168,7 +168,7 @@ module _ {setup : Setup} {ps : Procs} {tags bases : List ℕ} {total : ℕ} (m :
         go k n l v nz =
             let w : ℕ = mapping b k n in
             let g = h.words k n l v nz in
-            let e : perm_at (pieces_of (proc_at ps n)) (page_of w) ≡ some (perm_of w) = sym (s.exact n (page_of w) v (omega arith)) ∙ ap (perm_in b n) (frame_is b n (page_of w) k (once-means b h n v) l (record { used = nz; owner = g.owner; page = refl })) in
+            let e : perm_at (pieces_of (proc_at ps n)) (page_of w) ≡ Some (perm_of w) = sym (s.exact n (page_of w) v (omega arith)) ∙ ap (perm_in b n) (frame_is b n (page_of w) k (once-means b h n v) l (record { used = nz; owner = g.owner; page = refl })) in
             let r = gives-rank m n (page_of w) (perm_of w) v (omega arith) e in
             (r.0, r.1, r.2 ∙ ap (λ (o : ℕ). word_of (page_of w) o (perm_of w)) (sym g.owner) ∙ sym (repack w))
 
@@ -201,10 +201,10 @@ module _ {setup : Setup} {ps : Procs} {tags bases : List ℕ} {total : ℕ} (m :
         let g = rank-good m t ht in
         let n : ℕ = owner_of w in
         let v = valid-test n g.owner.0 g.owner.1 in
-        let e : book_perm b n (page_of w) ≡ some (perm_of w) = s.exact n (page_of w) v (omega arith) ∙ rank-gives m t ht in
+        let e : book_perm b n (page_of w) ≡ Some (perm_of w) = s.exact n (page_of w) v (omega arith) ∙ rank-gives m t ht in
         let k = frame-perm b n (page_of w) (perm_of w) e in
         let f = frame_found b n (page_of w) k.0 k.1 in
-        let q : some (perm_of (mapping b k.0 n)) ≡ some (perm_of w) = sym (ap (perm_in b n) k.1) ∙ e in
+        let q : Some (perm_of (mapping b k.0 n)) ≡ Some (perm_of w) = sym (ap (perm_in b n) k.1) ∙ e in
         let r : perm_of (mapping b k.0 n) ≡ perm_of w = cc in
         let same : mapping b k.0 n ≡ w = repack (mapping b k.0 n) ∙ ap (λ (a : ℕ). word_of a (owner_of (mapping b k.0 n)) (perm_of (mapping b k.0 n))) f.1.page ∙ ap (λ (a : ℕ). word_of (page_of w) a (perm_of (mapping b k.0 n))) f.1.owner ∙ ap (word_of (page_of w) n) r ∙ sym (repack w) in
         with-missing b w (16 * frame_count b) (16 * k.0 + (n - 1)) (fewer k.0 n (frame_count b) f.0 g.owner.0 g.owner.1) (place_of b k.0 n g.owner.0 g.owner.1 ∙ same) z

@@ -3,12 +3,10 @@ use Prim.Native.Nat.{ℕ, ◌+◌, ◌-◌, ◌*◌, ◌/◌, ◌%◌, ◌<◌, 
 use native.Mathlib.Omega.{arith}
 use mathlib.Core.Path.{◌≡◌, refl, sym, ap, ap₂, ◌∙◌, subst}
 use mathlib.Core.Bool.{true}
-use mathlib.Core.Option.{Option, none, some}
+use Rattle.std.specs.Prelude.{Option, None, Some, SomeIff}
 use mathlib.Core.List.{List}
 use lib.ListN.{get_or}
-use borrow.Author.Tests.{ne_eqb}
 use Rattle.spec.specs.Book.{owner_of, page_of, valid, frame_count, mapping, frame_of}
-use Rattle.spec.specs.declared.Found.TheVariants.{At, Nothing}
 use Rattle.spec.proofs.Bools.{within-test}
 use Rattle.spec_laws.proofs.Frame.{frame_found, once-means, frame_is}
 use Rattle.sound_plan.specs.Plan.{owner, hits, nth, rank}
@@ -16,28 +14,39 @@ use Rattle.sound_plan.proofs.Within.{hit-fact, rank_below, rank-word, hit-owner}
 use Rattle.sound_table.specs.Table.{place_at, place_with, entry, first_of}
 use Rattle.sound_table.proofs.Pass.{with-found, option-some}
 use Rattle.sound_table.proofs.Counting.{rank-own}
-use Rattle.book.specs.Answers.{found_of}
-use Rattle.sound.specs.Ready.{answer_of, Ready}
+use Rattle.sound.specs.declared.Lookup.{Lookup}
+use Rattle.sound.specs.Ready.{Ready}
 
 -- a frame as an entry
 abbrev pub frame_entry : Option ℕ → ℕ
-frame_entry none = 0
-frame_entry (some k) = k + 1
+frame_entry None = 0
+frame_entry (Some k) = k + 1
 
--- a frame's entry answers the frame
-pub answer-entry : (o : Option ℕ) → answer_of (frame_entry o) ≡ found_of o
-answer-entry none = refl
-answer-entry (some i) = let d : i + 1 - 1 ≡ i = omega arith in rw (ne_eqb (i + 1) 0 (λ z. omega arith)) (ap At d)
+-- an entry as an answer
+pub answer : (r o : Option ℕ) (e : ℕ) → e ≡ frame_entry o → SomeIff r (1 ≤ e) (e - 1) → r ≡ o
+answer None None e is s = refl
+answer None (Some i) e is s = absurd (s (omega arith))
+answer (Some j) None e is s = absurd (omega (arith, s.0))
+answer (Some j) (Some i) e is s = ap Some (omega (arith, s.1))
 
-pub found_none : (o : Option ℕ) → ((i : ℕ) → o ≡ some i → ⊥) → Nothing ≡ found_of o
-found_none none f = refl
-found_none (some i) f = absurd (f i refl)
+pub found_none : (o : Option ℕ) → ((i : ℕ) → o ≡ Some i → ⊥) → None ≡ o
+found_none None f = refl
+found_none (Some i) f = absurd (f i refl)
 
 -- the place of process n in frame k
 pub place_of : (book : List ℕ) (k n : ℕ) → 1 ≤ n → n ≤ 16 → place_at book (16 * k + (n - 1)) ≡ mapping book k n
 place_of book k n l h = ap₂ (mapping book) (omega arith) (omega arith)
 
-module _ (b : List ℕ) (number : ℕ) (tags bases table : List ℕ) (r : Ready b number tags bases table) where
+module _ (b : List ℕ) (number : ℕ) (l : Lookup) (r : Ready b number l) where
+  abbrev tags : List ℕ
+  tags = l.plan.tags
+
+  abbrev bases : List ℕ
+  bases = l.plan.bases
+
+  abbrev table : List ℕ
+  table = l.table
+
   -- the entry of a rank of the process is its page's frame
   pub lookup : (w k : ℕ) → k < 272 → hits tags bases w k ≡ true → owner_of w ≡ number → get_or table (rank tags bases w k - first_of bases number) 0 ≡ frame_entry (frame_of b (owner_of w) (page_of w))
   lookup w k hk e of =
@@ -66,7 +75,7 @@ module _ (b : List ℕ) (number : ℕ) (tags bases table : List ℕ) (r : Ready 
           sym (ap (λ (n : ℕ). frame_entry (frame_of b n (page_of w))) ow ∙ ap frame_entry f)
 
   -- a page that has a frame is of one of its owner's parts
-  pub frame-hits : (n page i : ℕ) → 1 ≤ n → n ≤ 16 → frame_of b n page ≡ some i
+  pub frame-hits : (n page i : ℕ) → 1 ≤ n → n ≤ 16 → frame_of b n page ≡ Some i
       → (k : ℕ) × (k < 272) × (owner k ≡ n) × (page % 4096 ≡ 0) × (hits tags bases (page + 16 * n + get_or tags k 0 % 16) k ≡ true)
   frame-hits n page i lo hi e =
       let m = frame_found b n page i e in

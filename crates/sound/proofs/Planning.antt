@@ -3,7 +3,7 @@ use Prim.Native.Nat.{ℕ, ◌+◌, ◌-◌, ◌*◌, ◌/◌, ◌%◌, ◌<◌, 
 use native.Mathlib.Omega.{arith}
 use mathlib.Core.Path.{◌≡◌, refl, sym, ap, ◌∙◌}
 use mathlib.Core.Bool.{true}
-use mathlib.Core.Option.{some}
+use Rattle.std.specs.Prelude.{Some}
 use mathlib.Core.List.{List}
 use lib.ListN.{get_or}
 use borrow.Author.Tests.{eqb-true, eqb-false}
@@ -142,16 +142,16 @@ module _ {setup : Setup} {ps : Procs} {tags bases : List ℕ} {total : ℕ} (m :
       }
 
   -- its page is its owner's, with its permission
-  pub rank-gives : (t : ℕ) → t < base 272 → perm_at (pieces_of (proc_at ps (owner_of (nth tags bases t)))) (page_of (nth tags bases t)) ≡ some (perm_of (nth tags bases t))
+  pub rank-gives : (t : ℕ) → t < base 272 → perm_at (pieces_of (proc_at ps (owner_of (nth tags bases t)))) (page_of (nth tags bases t)) ≡ Some (perm_of (nth tags bases t))
   rank-gives t h =
       let x = rank-of t h in
       let n : ℕ = owner x.k in
       ap (λ (x : ℕ). perm_at (pieces_of (proc_at ps x)) (page_of (nth tags bases t))) x.apart.owner-is
       ∙ part_gives setup (proc_at ps n) (m.whole.each (n - 1)) (facts n (valid-owner x.k x.there)) (perms n (valid-owner x.k x.there)) (x.k % 17) (page_of (nth tags bases t)) (omega arith) x.inside
-      ∙ ap some (sym x.apart.perm_is)
+      ∙ ap Some (sym x.apart.perm_is)
 
   -- and each page that a record calls for has a rank
-  pub gives-rank : (n page q : ℕ) → valid n ≡ true → page % 4096 ≡ 0 → perm_at (pieces_of (proc_at ps n)) page ≡ some q → (t : ℕ) × (t < base 272) × (nth tags bases t ≡ word_of page n q) × (q ≤ 3)
+  pub gives-rank : (n page q : ℕ) → valid n ≡ true → page % 4096 ≡ 0 → perm_at (pieces_of (proc_at ps n)) page ≡ Some q → (t : ℕ) × (t < base 272) × (nth tags bases t ≡ word_of page n q) × (q ≤ 3)
   gives-rank n page q v al e = (base k + r, below, word, rw g.3 at has-perm.high)
     where
       g : (j : ℕ) × (j < 17) × (in_segment page (part (proc_at ps n) j) ≡ true) × ((part (proc_at ps n) j).perm ≡ q)

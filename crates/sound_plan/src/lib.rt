@@ -11,6 +11,7 @@ ghost use Rattle.sound_plan.specs.Plan.{seat as seatOf, max_pages, SmallParts, L
 use spec::{DATA, MAX_TOP, Proc, Procs, UserSegment, VirtRange};
 
 // The plan of all pages: the tag of each part, and its base, with the count of all pages after the last. It is zeros before it is laid.
+#[derive(Drop)]
 pub struct Plan {
     pub tags: [u64; 272],
     pub bases: [u64; 273],

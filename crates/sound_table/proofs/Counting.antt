@@ -3,7 +3,7 @@ use Prim.Native.Nat.{ℕ, zero, suc, ◌+◌, ◌-◌, ◌*◌, ◌/◌, ◌%◌
 use native.Mathlib.Omega.{arith}
 use mathlib.Core.Path.{◌≡◌, refl, sym, ap, ◌∙◌}
 use mathlib.Core.Bool.{true}
-use mathlib.Core.Option.{Option, none, some}
+use Rattle.std.specs.Prelude.{Option, None, Some}
 use mathlib.Core.List.{List}
 use lib.Dec.{eqb, leb}
 use lib.ListN.{length, get_or, get_or-eq_default}
@@ -52,8 +52,8 @@ numbered (suc N) (suc T) f below apart = let h = numbered N T g g-below g-apart 
 
 -- the number of a place
 abbrev pub place_number : Option ℕ → ℕ
-place_number none = 0
-place_number (some i) = i
+place_number None = 0
+place_number (Some i) = i
 
 -- a rank from base a on and below base a + d is of one of these d parts
 find : (base : ℕ → ℕ) (a d t : ℕ) → base a ≤ t → t < base (a + d) → (k : ℕ) × (a ≤ k) × (k < a + d) × (base k ≤ t) × (t < base (k + 1))

@@ -4,7 +4,7 @@ use native.Mathlib.Omega.{arith}
 use native.Mathlib.Numerals.{add-one}
 use mathlib.Core.Path.{◌≡◌, refl, sym, ap, ◌∙◌}
 use mathlib.Core.Bool.{true}
-use mathlib.Core.Option.{Option, none, some}
+use Rattle.std.specs.Prelude.{Option, None, Some}
 use mathlib.Core.List.{List}
 use lib.Dec.{eqb}
 use lib.ListN.{length, get_or}
@@ -22,11 +22,11 @@ use Rattle.sound_plan.proofs.Within.{rank_below, rank-word}
 -- ---- the frame of a word
 
 module _ (b : List ℕ) (w : ℕ) where
-  pub with_none : place_with b 0 w ≡ none
+  pub with_none : place_with b 0 w ≡ None
   unfolding place_with
   with_none = refl
 
-  pub with-here : (n : ℕ) → place_at b n ≡ w → place_with b (n + 1) w ≡ some n
+  pub with-here : (n : ℕ) → place_at b n ≡ w → place_with b (n + 1) w ≡ Some n
   unfolding place_with
   with-here n e = rw (add-one n) (rw (eq-eqb _ _ e) refl)
 
@@ -34,25 +34,25 @@ module _ (b : List ℕ) (w : ℕ) where
   unfolding place_with
   with-past n e = rw (add-one n) (rw (ne_eqb _ _ e) refl)
 
-  pub with-found : (n i : ℕ) → place_with b n w ≡ some i → (i < n) × (place_at b i ≡ w)
+  pub with-found : (n i : ℕ) → place_with b n w ≡ Some i → (i < n) × (place_at b i ≡ w)
   unfolding place_with
   with-found n i e = let h = hit (λ k. place_at b k is w) n i e in (h.0, eqb-true _ _ h.1)
 
-  pub with-missing : (n i : ℕ) → i < n → place_at b i ≡ w → place_with b n w ≡ none → ⊥
+  pub with-missing : (n i : ℕ) → i < n → place_at b i ≡ w → place_with b n w ≡ None → ⊥
   unfolding place_with
   with-missing n i h e z = eqb-false _ _ (miss (λ k. place_at b k is w) n z i h) e
 
-pub option-some : (o : Option ℕ) → (o ≡ none → ⊥) → (i : ℕ) × (o ≡ some i)
-option-some none f = absurd (f refl)
-option-some (some i) f = (i, refl)
+pub option-some : (o : Option ℕ) → (o ≡ None → ⊥) → (i : ℕ) × (o ≡ Some i)
+option-some None f = absurd (f refl)
+option-some (Some i) f = (i, refl)
 
-pub taken-some : (o : Option ℕ) → (taken o ≡ 0 → ⊥) → (i : ℕ) × (o ≡ some i)
-taken-some none f = absurd (f refl)
-taken-some (some i) f = (i, refl)
+pub taken-some : (o : Option ℕ) → (taken o ≡ 0 → ⊥) → (i : ℕ) × (o ≡ Some i)
+taken-some None f = absurd (f refl)
+taken-some (Some i) f = (i, refl)
 
-pub taken_none : (o : Option ℕ) → taken o ≡ 0 → o ≡ none
-taken_none none e = refl
-taken_none (some i) e = absurd (omega arith)
+pub taken_none : (o : Option ℕ) → taken o ≡ 0 → o ≡ None
+taken_none None e = refl
+taken_none (Some i) e = absurd (omega arith)
 
 -- ---- one word more
 
@@ -142,7 +142,7 @@ module _ (b tags bases : List ℕ) where
             word : place_at b n ≡ nth tags bases at
             word = sym (rank-word tags bases plan (place_at b n) k hk e)
 
-            found : (t : ℕ) → t ≡ at → place_with b (n + 1) (nth tags bases t) ≡ some n
+            found : (t : ℕ) → t ≡ at → place_with b (n + 1) (nth tags bases t) ≡ Some n
             found t q = with-here b (nth tags bases t) n (word ∙ ap (nth tags bases) (sym q))
 
             others : (t : ℕ) → t < get_or bases 272 0 → (t ≡ at → ⊥) → place_with b (n + 1) (nth tags bases t) ≡ place_with b n (nth tags bases t)

@@ -9,6 +9,7 @@ use lib.ListN.{set, replicate, length-set, length-replicate}
 use lib.Seq.{get_or-set_same, get_or-set_other}
 use borrow.Author.Tests.{eqb-true, eqb-false}
 use Rattle.spec.proofs.Bools.{split, clash}
+use Rattle.std.specs.Prelude.{None}
 use Rattle.sound_plan.specs.Plan.{hits, rank, PartOf, Plan}
 use Rattle.sound_plan.proofs.Within.{Found, rank_below, rank-word, hit-owner}
 use Rattle.sound_table.proofs.Bits.{zeros}
@@ -16,10 +17,10 @@ use Rattle.sound_table.specs.Table.{bit_of, BitSet, Stored, Entered, Hints}
 
 module _ (tags bases : List ℕ) (plan : Plan tags bases) (first count : ℕ) (bits table : List ℕ) (w k : ℕ) where
   -- no part has the word
-  pub entered-none : (r : ℕ) → PartOf tags bases w r → r ≡ 272 → Entered tags bases first count bits table bits table w k false
-  entered-none r s e = record {
+  pub entered-none : PartOf tags bases w None → Entered tags bases first count bits table bits table w k false
+  entered-none s = record {
     yes = λ q. absurd (false≢true q);
-    no = λ q p h x z. clash (hits tags bases w p) x (s.none e p h (hit-owner tags bases plan w p h x));
+    no = λ q p h x z. clash (hits tags bases w p) x (s p h (hit-owner tags bases plan w p h x));
   }
 
   -- its rank is taken

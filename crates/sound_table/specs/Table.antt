@@ -2,8 +2,7 @@
 -- taken in order, frame after frame, sixteen to a frame. A mapping that is of no part's page, or whose rank is taken, ends the pass: the
 -- book is torn.
 -- Assumes nothing.
-use Rattle.std.specs.Prelude.{ℕ, ◌+◌, ◌*◌, ◌-◌, ◌/◌, ◌%◌, ◌^◌, ◌<◌, ◌≤◌, ◌≡◌, Bool, true, false, List, length, get_or}
-use Rattle.std.proofs.Math.Option.{Option, none, some}
+use Rattle.std.specs.Prelude.{ℕ, ◌+◌, ◌*◌, ◌-◌, ◌/◌, ◌%◌, ◌^◌, ◌<◌, ◌≤◌, ◌≡◌, Bool, true, false, List, length, get_or, Option, None, Some}
 use Rattle.spec.specs.Tests.{◌is◌, ◌isnt◌, ◌below◌, ◌⇒◌else◌}
 use Rattle.spec.specs.Numbers.{bytes_from}
 use Rattle.spec.specs.Book.{highest, owner_of, valid, frame_count, mapping, holders}
@@ -20,13 +19,13 @@ place_with book n w = highest (λ i. place_at book i is w) n
 
 -- its frame as a table's entry: 1 more than its number, or 0
 abbrev pub entry : Option ℕ → ℕ
-entry none = 0
-entry (some i) = i / 16 + 1
+entry None = 0
+entry (Some i) = i / 16 + 1
 
 -- whether there is one, as a bit
 abbrev pub taken : Option ℕ → ℕ
-taken none = 0
-taken (some i) = 1
+taken None = 0
+taken (Some i) = 1
 
 -- of the first n places each is 0 or has a part's page, and none stands twice
 pub record Planned (book tags bases : List ℕ) (n : ℕ) : Type 0 where
@@ -35,7 +34,7 @@ pub record Planned (book tags bases : List ℕ) (n : ℕ) : Type 0 where
 
 -- each rank's word stands in the book
 abbrev pub Full : List ℕ → List ℕ → List ℕ → Type 0
-Full book tags bases = (t : ℕ) → t < get_or bases 272 0 → place_with book (16 * frame_count book) (nth tags bases t) ≡ none → ⊥
+Full book tags bases = (t : ℕ) → t < get_or bases 272 0 → place_with book (16 * frame_count book) (nth tags bases t) ≡ None → ⊥
 
 -- the first rank of a process's pages, and how many they are: none of a number that no process has
 abbrev pub first_of : List ℕ → ℕ → ℕ
@@ -115,10 +114,10 @@ pub record Entered (tags bases : List ℕ) (first count : ℕ) (bits table bits'
   pub yes : r ≡ true → (p : ℕ) × (p < 272) × (hits tags bases w p ≡ true) × (bit_of bits (rank tags bases w p) ≡ 0) × BitSet bits bits' (rank tags bases w p) × Stored first count table later (rank tags bases w p) (k + 1)
   pub no : r ≡ false → (p : ℕ) → p < 272 → hits tags bases w p ≡ true → bit_of bits (rank tags bases w p) ≡ 0 → ⊥
 
--- the same by one part only: 1 is yes and 0 no, and r is 2 where that part has not the word
-pub record Near (tags bases : List ℕ) (first count : ℕ) (bits table bits' later : List ℕ) (w k r : ℕ) : Type 0 where
-  pub found : (r ≡ 2 → ⊥) → Entered tags bases first count bits table bits' later w k (r is 1)
-  pub none : r ≡ 2 → (bits' ≡ bits) × (later ≡ table)
+-- the same by one part only, or none where that part has not the word
+abbrev pub Near : List ℕ → List ℕ → ℕ → ℕ → List ℕ → List ℕ → List ℕ → List ℕ → ℕ → ℕ → Option Bool → Type 0
+Near tags bases first count bits table bits' later w k (Some r) = Entered tags bases first count bits table bits' later w k r
+Near tags bases first count bits table bits' later w k None = (bits' ≡ bits) × (later ≡ table)
 
 -- for each owner and permission a part
 pub record Hints (hints : List ℕ) : Type 0 where

@@ -9,10 +9,11 @@ mod rows;
 ghost use Rattle.std.specs.Prelude.{◌≡◌, true, ◌+◌, ◌-◌, ◌*◌, ◌/◌, ◌%◌, ◌^◌, ◌<◌, ◌≤◌, length};
 ghost use Rattle.spec.specs.Tests.{◌is◌, all_below};
 ghost use Rattle.spec.specs.Book.{owner_of, frame_count};
-ghost use Rattle.sound_plan.specs.Plan.{Plan, Rising, hits};
+ghost use Rattle.sound_plan.specs.Plan.{Plan as IsPlan, Rising, hits};
 ghost use Rattle.sound_table.specs.Rows.{Single, Singles};
 ghost use Rattle.sound_table.specs.Table.{Planned, FramedAll, Hints, Takes, Stored, Entered, Near, Noted, Passes, Passed, Marked, Blank, marked, first_of, count_of};
 
+use sound_plan::Plan;
 use spec::DATA;
 
 // A word without its owner: all mappings of one frame agree on it.
@@ -69,8 +70,7 @@ fn store(table: &mut [u16; 1024], own: u64, pages: u64, rank: u64, k: usize)
 // Takes the rank of the page that w, a word of part p, names, and enters frame `k` for it if it is of the process that makes the call,
 // whose `pages` pages have the ranks from `own` on. The answer is no where the rank is taken already.
 fn enter(
-    tags: &[u64; 272],
-    bases: &[u64; 273],
+    plan: &Plan,
     bits: &mut [u64; 256],
     table: &mut [u16; 1024],
     own: u64,
@@ -79,11 +79,11 @@ fn enter(
     w: u64,
     k: usize,
 ) -> bool
-    requires p_bound { (p < 272) × (k < 1024) × Plan tags.now bases.now × (hits tags.now bases.now w p ≡ true) }
+    requires p_bound { (p < 272) × (k < 1024) × IsPlan plan.now.tags plan.now.bases × (hits plan.now.tags plan.now.bases w p ≡ true) }
     requires bits_len { (length bits.old ≡ 256) × (length table.old ≡ 1024) × (pages ≤ 1024) }
-    ensures { Entered tags.now bases.now own pages bits.old table.old bits.new table.new w k result }
+    ensures { Entered plan.now.tags plan.now.bases own pages bits.old table.old bits.new table.new w k result }
 {
-    let rank = bases[p] + (w - tags[p]) / 4096;
+    let rank = plan.bases[p] + (w - plan.tags[p]) / 4096;
     if !take(bits, rank) {
         return false;
     }
@@ -91,11 +91,9 @@ fn enter(
     true
 }
 
-// The same where the word is of the part that the last word with its owner and permission was of, as it mostly is: 1 is
-// yes and 0 no. Where it is not, the answer is 2.
+// The same where the word is of the part that the last word with its owner and permission was of, as it mostly is.
 fn mark_near(
-    tags: &[u64; 272],
-    bases: &[u64; 273],
+    plan: &Plan,
     bits: &mut [u64; 256],
     table: &mut [u16; 1024],
     own: u64,
@@ -103,25 +101,21 @@ fn mark_near(
     hints: &[usize; 272],
     w: u64,
     k: usize,
-) -> usize
-    requires k_bound { (k < 1024) × Plan tags.now bases.now × Hints hints.now × (w % 4096 < 272) }
+) -> Option<bool>
+    requires k_bound { (k < 1024) × IsPlan plan.now.tags plan.now.bases × Hints hints.now × (w % 4096 < 272) }
     requires bits_len { (length bits.old ≡ 256) × (length table.old ≡ 1024) × (pages ≤ 1024) }
-    ensures { Near tags.now bases.now own pages bits.old table.old bits.new table.new w k result }
+    ensures { Near plan.now.tags plan.now.bases own pages bits.old table.old bits.new table.new w k result }
 {
     let hint = hints[hint_at(w)];
-    if sound_plan::hits(tags, bases, hint, w) {
-        if enter(tags, bases, bits, table, own, pages, hint, w, k) {
-            return 1;
-        }
-        return 0;
+    if !plan.hits(hint, w) {
+        return None;
     }
-    2
+    Some(enter(plan, bits, table, own, pages, hint, w, k))
 }
 
 // The same by a search for the part, which is the hint from then on. Where no part has the word, the answer is no.
 fn mark_far(
-    tags: &[u64; 272],
-    bases: &[u64; 273],
+    plan: &Plan,
     bits: &mut [u64; 256],
     table: &mut [u16; 1024],
     own: u64,
@@ -130,23 +124,21 @@ fn mark_far(
     w: u64,
     k: usize,
 ) -> bool
-    requires k_bound { (k < 1024) × Plan tags.now bases.now × Hints hints.old × (w % 4096 < 272) }
+    requires k_bound { (k < 1024) × IsPlan plan.now.tags plan.now.bases × Hints hints.old × (w % 4096 < 272) }
     requires bits_len { (length bits.old ≡ 256) × (length table.old ≡ 1024) × (pages ≤ 1024) }
-    ensures entered { Entered tags.now bases.now own pages bits.old table.old bits.new table.new w k result }
+    ensures entered { Entered plan.now.tags plan.now.bases own pages bits.old table.old bits.new table.new w k result }
     ensures hints { Hints hints.new }
 {
-    let p = sound_plan::part_of(tags, bases, w);
-    if p == 272 {
+    let Some(p) = plan.part_of(w) else {
         return false;
-    }
+    };
     hints[hint_at(w)] = p;
-    enter(tags, bases, bits, table, own, pages, p, w, k)
+    enter(plan, bits, table, own, pages, p, w, k)
 }
 
 // The same with the hint tried first.
 fn mark_word(
-    tags: &[u64; 272],
-    bases: &[u64; 273],
+    plan: &Plan,
     bits: &mut [u64; 256],
     table: &mut [u16; 1024],
     own: u64,
@@ -155,24 +147,22 @@ fn mark_word(
     w: u64,
     k: usize,
 ) -> bool
-    requires k_bound { (k < 1024) × Plan tags.now bases.now × Hints hints.old × (w % 4096 < 272) }
+    requires k_bound { (k < 1024) × IsPlan plan.now.tags plan.now.bases × Hints hints.old × (w % 4096 < 272) }
     requires bits_len { (length bits.old ≡ 256) × (length table.old ≡ 1024) × (pages ≤ 1024) }
-    ensures entered { Entered tags.now bases.now own pages bits.old table.old bits.new table.new w k result }
+    ensures entered { Entered plan.now.tags plan.now.bases own pages bits.old table.old bits.new table.new w k result }
     ensures hints { Hints hints.new }
 {
-    let r = mark_near(tags, bases, bits, table, own, pages, hints, w, k);
-    if r != 2 {
-        return r == 1;
+    match mark_near(plan, bits, table, own, pages, hints, w, k) {
+        Some(entered) => entered,
+        None => mark_far(plan, bits, table, own, pages, hints, w, k),
     }
-    mark_far(tags, bases, bits, table, own, pages, hints, w, k)
 }
 
 // The pass over frame `k`, place by place: each mapping stands in its owner's place, all agree on page and permission, data stands
 // alone, and the count is theirs.
 fn mark_frame(
     book: &[u64],
-    tags: &[u64; 272],
-    bases: &[u64; 273],
+    plan: &Plan,
     bits: &mut [u64; 256],
     table: &mut [u16; 1024],
     own: u64,
@@ -180,9 +170,9 @@ fn mark_frame(
     hints: &mut [usize; 272],
     k: usize,
 ) -> bool
-    requires k_bound { (k < 1024) × (k < frame_count book.now) × Plan tags.now bases.now × Hints hints.old }
-    requires planned { Planned book.now tags.now bases.now (16 * k) × Noted book.now tags.now bases.now own pages bits.old table.old (16 * k) }
-    ensures passes { Passes book.now tags.now bases.now own pages bits.new table.new k result }
+    requires k_bound { (k < 1024) × (k < frame_count book.now) × IsPlan plan.now.tags plan.now.bases × Hints hints.old }
+    requires planned { Planned book.now plan.now.tags plan.now.bases (16 * k) × Noted book.now plan.now.tags plan.now.bases own pages bits.old table.old (16 * k) }
+    ensures passes { Passes book.now plan.now.tags plan.now.bases own pages bits.new table.new k result }
     ensures hints { Hints hints.new }
 {
     let first = 17 * k;
@@ -208,7 +198,7 @@ fn mark_frame(
             }
             base = b;
             seen += 1;
-            if !mark_word(tags, bases, bits, table, own, pages, hints, w, k) {
+            if !mark_word(plan, bits, table, own, pages, hints, w, k) {
                 return false;
             }
         }
@@ -220,8 +210,7 @@ fn mark_frame(
 // only mapping's two tries are written out: mark_word, used twice, would be compiled as a call, which took 1.1 times as long.
 fn mark_row(
     book: &[u64],
-    tags: &[u64; 272],
-    bases: &[u64; 273],
+    plan: &Plan,
     bits: &mut [u64; 256],
     table: &mut [u16; 1024],
     own: u64,
@@ -230,29 +219,27 @@ fn mark_row(
     w: u64,
     k: usize,
 ) -> bool
-    requires k_bound { (k < 1024) × (k < frame_count book.now) × Plan tags.now bases.now × Hints hints.old × Single book.now k w }
-    requires planned { Planned book.now tags.now bases.now (16 * k) × Noted book.now tags.now bases.now own pages bits.old table.old (16 * k) }
-    ensures passes { Passes book.now tags.now bases.now own pages bits.new table.new k result }
+    requires k_bound { (k < 1024) × (k < frame_count book.now) × IsPlan plan.now.tags plan.now.bases × Hints hints.old × Single book.now k w }
+    requires planned { Planned book.now plan.now.tags plan.now.bases (16 * k) × Noted book.now plan.now.tags plan.now.bases own pages bits.old table.old (16 * k) }
+    ensures passes { Passes book.now plan.now.tags plan.now.bases own pages bits.new table.new k result }
     ensures hints { Hints hints.new }
 {
     if w == 0 {
-        return mark_frame(book, tags, bases, bits, table, own, pages, hints, k);
+        return mark_frame(book, plan, bits, table, own, pages, hints, k);
     }
     if w == 1 {
         return true;
     }
-    let r = mark_near(tags, bases, bits, table, own, pages, hints, w, k);
-    if r != 2 {
-        return r == 1;
+    match mark_near(plan, bits, table, own, pages, hints, w, k) {
+        Some(entered) => entered,
+        None => mark_far(plan, bits, table, own, pages, hints, w, k),
     }
-    mark_far(tags, bases, bits, table, own, pages, hints, w, k)
 }
 
 // The pass over the `count` frames from `from` on, of which the words were found.
 fn mark_block(
     book: &[u64],
-    tags: &[u64; 272],
-    bases: &[u64; 273],
+    plan: &Plan,
     bits: &mut [u64; 256],
     table: &mut [u16; 1024],
     own: u64,
@@ -262,17 +249,16 @@ fn mark_block(
     from: usize,
     count: usize,
 ) -> bool
-    requires count_bound { (count ≤ 128) × (from + count ≤ 1024) × (from + count ≤ frame_count book.now) × Plan tags.now bases.now × Hints hints.old × Singles book.now words.now from count }
-    requires planned { Planned book.now tags.now bases.now (16 * from) × Noted book.now tags.now bases.now own pages bits.old table.old (16 * from) × FramedAll book.now from }
-    ensures passed { Passed book.now tags.now bases.now own pages bits.new table.new (from + count) result }
+    requires count_bound { (count ≤ 128) × (from + count ≤ 1024) × (from + count ≤ frame_count book.now) × IsPlan plan.now.tags plan.now.bases × Hints hints.old × Singles book.now words.now from count }
+    requires planned { Planned book.now plan.now.tags plan.now.bases (16 * from) × Noted book.now plan.now.tags plan.now.bases own pages bits.old table.old (16 * from) × FramedAll book.now from }
+    ensures passed { Passed book.now plan.now.tags plan.now.bases own pages bits.new table.new (from + count) result }
     ensures hints { Hints hints.new }
 {
     let mut i = 0;
     while i < count {
         if !mark_row(
             book,
-            tags,
-            bases,
+            plan,
             bits,
             table,
             own,
@@ -301,15 +287,14 @@ fn block(left: usize) -> usize
 // The pass, block by block. The answer is no where a frame is torn, a mapping is of no part's page, or its rank is taken already.
 fn mark_all(
     book: &[u64],
-    tags: &[u64; 272],
-    bases: &[u64; 273],
+    plan: &Plan,
     bits: &mut [u64; 256],
     table: &mut [u16; 1024],
     own: u64,
     pages: u64,
 ) -> bool
-    requires { (length book.now ≤ 17408) × Plan tags.now bases.now × Noted book.now tags.now bases.now own pages bits.old table.old 0 }
-    ensures { Passed book.now tags.now bases.now own pages bits.new table.new (frame_count book.now) result }
+    requires { (length book.now ≤ 17408) × IsPlan plan.now.tags plan.now.bases × Noted book.now plan.now.tags plan.now.bases own pages bits.old table.old 0 }
+    ensures { Passed book.now plan.now.tags plan.now.bases own pages bits.new table.new (frame_count book.now) result }
 {
     let mut words = [0u64; 128];
     let mut hints = [0usize; 272];
@@ -320,7 +305,7 @@ fn mark_all(
         let count = block(frames - k);
         last = crate::rows::singles(book, &mut words, k, count, last);
         if !mark_block(
-            book, tags, bases, bits, table, own, pages, &mut hints, &words, k, count,
+            book, plan, bits, table, own, pages, &mut hints, &words, k, count,
         ) {
             return false;
         }
@@ -392,23 +377,22 @@ fn count_of(bases: &[u64; 273], number: u64) -> u64
 // `number`; it comes in as zeros.
 pub fn mark(
     book: &[u64],
-    tags: &[u64; 272],
-    bases: &[u64; 273],
+    plan: &Plan,
     table: &mut [u16; 1024],
     number: u64,
 ) -> bool
-    requires { (length book.now ≤ 17408) × Plan tags.now bases.now × Blank table.old × (length table.old ≡ 1024) × (length bases.now ≡ 273) }
-    ensures { Marked book.now tags.now bases.now number table.new result }
+    requires { (length book.now ≤ 17408) × IsPlan plan.now.tags plan.now.bases × Blank table.old × (length table.old ≡ 1024) }
+    ensures { Marked book.now plan.now.tags plan.now.bases number table.new result }
 {
     let mut bits = [0u64; 256];
-    let pages = count_of(bases, number);
+    let pages = count_of(&plan.bases, number);
     let frames = (book.len() / 17) as u64;
     if frames < pages {
         return false;
     }
-    let own = first_of(bases, number);
-    if !mark_all(book, tags, bases, &mut bits, table, own, pages) {
+    let own = first_of(&plan.bases, number);
+    if !mark_all(book, plan, &mut bits, table, own, pages) {
         return false;
     }
-    all_marked(&bits, bases[272] as usize)
+    all_marked(&bits, plan.bases[272] as usize)
 }

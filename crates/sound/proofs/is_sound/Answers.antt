@@ -1,6 +1,7 @@
 -- `is_sound` meets its contract: each no is given where the book isn't sound, and what the last test answers decides.
 use Prim.Native.Nat.{◌+◌, ◌-◌, ◌≤◌}
 use native.Mathlib.Omega.{arith}
+use borrow.Author.Rules.{rules}
 use mathlib.Core.Path.{◌≡◌, sym, ◌∙◌}
 use mathlib.Core.Bool.{true, false≢true}
 use Rattle.spec.specs.Tests.{all}
@@ -12,7 +13,7 @@ use Rattle.sound_records.proofs.Whole.{whole-procs}
 use Rattle.sound_plan.proofs.Passing.{small-parts}
 use Rattle.sound.proofs.Planning.{plan}
 use Rattle.sound.proofs.Decides.{records-of, made, total_of, decided, sound-exact}
-use Rattle.sound.proofs.LookedUp.{tags-long, bases-long, table-long, table-blank, filled}
+use Rattle.sound.proofs.LookedUp.{table-blank, filled}
 use Rattle.sound.proofs.is_sound.Goals as goal
 use Rattle.sound.proofs.is_sound.Goals.{Else-not-records_ok, Start}
 
@@ -31,7 +32,7 @@ pub lay_all-total-requires : goal.lay_all-total-requires
 lay_all-total-requires c =
     let ps = c.args.procs in
     let w = whole (goal.at.lay_all-total-requires c).Start in
-    (λ i h. small-parts c.args.setup c.requires.setup_ok (proc_at ps (i + 1)) (w.each (i + 1 - 1)) (all-at (passes c.args.setup) zero_proc ps.all (pass (goal.at.lay_all-total-requires c).Else-not-records_ok) (i + 1 - 1) (omega (arith, w.records))), tags-long c.requires.book_len_bound.1, bases-long c.requires.book_len_bound.1)
+    λ i h. small-parts c.args.setup c.requires.setup_ok (proc_at ps (i + 1)) (w.each (i + 1 - 1)) (all-at (passes c.args.setup) zero_proc ps.all (pass (goal.at.lay_all-total-requires c).Else-not-records_ok) (i + 1 - 1) (omega (arith, w.records)))
 
 pub returns-then-places-total : goal.returns-then-places-total
 returns-then-places-total c =
@@ -41,7 +42,7 @@ returns-then-places-total c =
 pub mark-requires : goal.mark-requires
 mark-requires c =
     let ps = c.args.procs in
-    (omega arith, plan (made c.args.setup c.requires.setup_ok ps (whole (goal.at.mark-requires c).Start) (pass (goal.at.mark-requires c).Else-not-records_ok) _ _ _ c.lay_all-total.ensures) (omega arith), table-blank c.requires.book_len_bound.1, table-long c.requires.book_len_bound.1, c.lay_all-total.ensures.bases-long)
+    (omega arith, plan (made c.args.setup c.requires.setup_ok ps (whole (goal.at.mark-requires c).Start) (pass (goal.at.mark-requires c).Else-not-records_ok) _ _ _ c.lay_all-total.ensures) (omega arith), table-blank c.requires.book_len_bound.1, search rules)
 
 pub returns : goal.returns
 returns c =
@@ -49,4 +50,4 @@ returns c =
     let most : c.lay_all-total.result ≤ 16384 = omega arith in
     let x = made c.args.setup c.requires.setup_ok ps (whole (goal.at.returns c).Start) (pass (goal.at.returns c).Else-not-records_ok) _ _ _ c.lay_all-total.ensures in
     let r = decided ps _ _ _ x most _ _ _ _ c.mark.ensures in
-    record { value = sound-exact c.args.setup c.requires.setup_ok _ _ (whole (goal.at.returns c).Start) _ r; filled = λ q. filled ps _ _ _ x most _ _ _ _ c.mark.ensures q (r.0 q) }
+    record { value = sound-exact c.args.setup c.requires.setup_ok _ _ (whole (goal.at.returns c).Start) _ r; filled = λ q. filled ps _ _ x most _ _ _ c.mark.ensures q (r.0 q) }

@@ -1,6 +1,7 @@
 -- `mark` meets its contract.
 use Prim.Native.Nat.{ℕ, ◌+◌, ◌≤◌}
 use native.Mathlib.Omega.{arith}
+use borrow.Author.Rules.{rules}
 use mathlib.Core.Path.{sym, ap₂, subst}
 use lib.ListN.{get_or, length-replicate}
 use Rattle.sound_table.proofs.Bits.{bits_none}
@@ -10,20 +11,20 @@ use Rattle.sound_table.proofs.Marks.{marked-no, marked_all, noted_of}
 use Rattle.sound_table.proofs.mark.Goals as goal
 
 pub count_of-pages-requires : goal.count_of-pages-requires
-count_of-pages-requires c = (c.requires.4, c.requires.1.rising)
+count_of-pages-requires c = ((search rules), c.requires.1.rising)
 
 pub returns-then-frames-pages : goal.returns-then-frames-pages
 returns-then-frames-pages c =
-    marked-no _ _ _ _ _ (λ p all full. omega (arith, few-all c.args.tags.now c.args.bases.now c.requires.1 c.requires.4 c.args.book.now all full c.args.number, c.count_of-pages.ensures, c.if-frames-pages.true))
+    marked-no _ _ _ _ _ (λ p all full. omega (arith, few-all c.args.plan.now.tags c.args.plan.now.bases c.requires.1 (search rules) c.args.book.now all full c.args.number, c.count_of-pages.ensures, c.if-frames-pages.true))
 
 pub first_of-own-requires : goal.first_of-own-requires
-first_of-own-requires c = c.requires.4
+first_of-own-requires c = (search rules)
 
 pub mark_all-requires : goal.mark_all-requires
 mark_all-requires c =
     let own = c.first_of-own in
     let pages = c.count_of-pages in
-    let in-plan : own.result + pages.result ≤ get_or c.args.bases.now 272 0 = subst (λ (x : ℕ). x ≤ get_or c.args.bases.now 272 0) (sym (ap₂ ◌+◌ own.ensures pages.ensures)) (inside _ _ c.requires.1 c.requires.4 c.args.number) in
+    let in-plan : own.result + pages.result ≤ get_or c.args.plan.now.bases 272 0 = subst (λ (x : ℕ). x ≤ get_or c.args.plan.now.bases 272 0) (sym (ap₂ ◌+◌ own.ensures pages.ensures)) (inside _ _ c.requires.1 (search rules) c.args.number) in
     (c.requires.0, c.requires.1, noted-none _ _ _ _ _ _ _ bits_none c.requires.2 in-plan (omega arith) (length-replicate {A = ℕ} 256 0) c.requires.3)
 
 pub returns-then-not-mark_all : goal.returns-then-not-mark_all

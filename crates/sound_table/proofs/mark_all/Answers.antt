@@ -24,7 +24,7 @@ less k r n h some = let s = some (omega arith) in omega arith
 pub loop-k-init : goal.loop-k-init
 loop-k-init c =
     let b = c.args.book.now in
-    (omega arith, refl, planned-none b c.args.tags.now c.args.bases.now, c.requires.2, λ k l. absurd (omega arith), hints-none, length-replicate {A = ℕ} 128 0, omega arith)
+    (omega arith, refl, planned-none b c.args.plan.now.tags c.args.plan.now.bases, c.requires.2, λ k l. absurd (omega arith), hints-none, length-replicate {A = ℕ} 128 0, omega arith)
 
 pub singles-last-requires : goal.singles-last-requires
 singles-last-requires c =

@@ -12,13 +12,10 @@ hits-requires c = (c.requires.k_bound.2.parts c.hint_at.result, c.requires.k_bou
 
 pub enter-requires : goal.enter-requires
 enter-requires c =
-    record { p_bound = (c.requires.k_bound.2.parts _, c.requires.k_bound.0, c.requires.k_bound.1, sym c.hits.ensures ∙ c.if-hits.true); bits_len = c.requires.bits_len }
+    record { p_bound = (c.requires.k_bound.2.parts _, c.requires.k_bound.0, c.requires.k_bound.1, sym c.hits.ensures ∙ c.if-not-hits.false); bits_len = c.requires.bits_len }
 
-pub returns-then-enter : goal.returns-then-enter
-returns-then-enter c = record { found = λ ne. subst (Entered _ _ _ _ _ _ _ _ _ _) c.if-enter.true c.enter.ensures; none = λ e. absurd (omega arith) }
-
-pub returns-then-hits : goal.returns-then-hits
-returns-then-hits c = record { found = λ ne. subst (Entered _ _ _ _ _ _ _ _ _ _) c.if-enter.false c.enter.ensures; none = λ e. absurd (omega arith) }
+pub returns-then-not-hits : goal.returns-then-not-hits
+returns-then-not-hits c = (refl, refl)
 
 pub returns : goal.returns
-returns c = record { found = λ ne. absurd (ne refl); none = λ e. (refl, refl) }
+returns c = c.enter.ensures
