@@ -1,2 +1,2 @@
--- What the declared types of this crate stand for in the specification.
+-- A break's result in the terms of the specification.
 pub mod Rule

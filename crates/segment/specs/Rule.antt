@@ -1,16 +1,13 @@
--- An optional bss and a break's result, as the specification has them. The code has an enum of its own, since Rattle has no
--- `Option`.
+-- A break's result, as the specification has it: a refusal hands the bss back as it was.
 -- Assumes nothing.
-use Rattle.std.proofs.Math.Option.{Option, none, some}
-use Rattle.spec.specs.declared.VirtRange.{VirtRange}
+use Rattle.std.specs.Prelude.{Result, Ok, Err}
+use Rattle.std.proofs.Math.Option.{Option, some}
+use Rattle.spec.specs.Refusals.{refusal_number}
 use Rattle.spec.specs.Segment.{Break}
-use Rattle.segment.specs.declared.Bss.{Bss}
-use Rattle.segment.specs.declared.Bss.TheVariants.{Unset, Set}
-use Rattle.segment.specs.declared.Break.{Break as Result}
+use Rattle.spec.specs.declared.Refusal.{Refusal}
+use Rattle.spec.specs.declared.VirtRange.{VirtRange}
+use Rattle.segment.specs.declared.Break.{Break as Moved}
 
-abbrev pub opt_of : Bss → Option VirtRange
-opt_of Unset = none
-opt_of (Set range) = some range
-
-abbrev pub break_of : Result → Break
-break_of b = record { error = b.error; value = b.value; bss = opt_of b.bss }
+abbrev pub break_of : Option VirtRange → Result Moved Refusal → Break
+break_of bss (Ok b) = record { error = 0; value = b.value; bss = some b.bss }
+break_of bss (Err r) = record { error = refusal_number r; value = 0; bss = bss }

@@ -1,33 +1,33 @@
 -- The code's lines and answers in the specification's terms.
 -- Assumes nothing.
-use Rattle.std.specs.Prelude.{ℕ, not, List, length, take, drop}
+use Rattle.std.specs.Prelude.{ℕ, not, Result, Ok, Err, List, length, take, drop}
 use Rattle.std.proofs.Math.Option.{Option, none, some}
 use Rattle.spec.specs.Tests.{◌is◌, ◌isnt◌, ◌⇒◌else◌, same, ascii}
 use Rattle.spec.specs.Flags.{built_in}
 use Rattle.spec.specs.Numbers.{setup_ok}
 use Rattle.spec.specs.SetupText.{Line as Lined, Read, digits_line, unread, on_line}
 use Rattle.spec.specs.declared.Setup.{Setup}
+use Rattle.spec.specs.declared.Refusal.{Refusal}
+use Rattle.spec.specs.Refusals.{refusal_number}
 use Rattle.setup.specs.declared.setup_read.Line.{Line}
-use Rattle.setup.specs.declared.setup_read.Line.TheVariants.{Is, Bad}
-use Rattle.setup.specs.declared.setup_read.SetupRead.{SetupRead}
 
--- a line found at the front of bytes: its number, and the bytes behind it
-abbrev pub said : List ℕ → Line → Option Lined
-said s (Is n next) = some (record { number = n; rest = drop next s })
-said s Bad = none
+-- a line found: its number, and the bytes behind it
+abbrev pub said : Option Line → Option Lined
+said none = none
+said (some l) = some (record { number = l.number; rest = l.rest.now })
 
--- where it ends
-abbrev pub end_of : Line → ℕ
-end_of (Is n next) = next
-end_of Bad = 0
+abbrev pub said_line : Result Line Refusal → Option Lined
+said_line (Ok l) = said (some l)
+said_line (Err _) = none
 
 -- the specification's line, by the name with its `=`
 abbrev pub line_named : List ℕ → List ℕ → Option Lined
 line_named begins bytes = same ◌is◌ (take (length begins) bytes) begins ⇒ digits_line (drop (length begins) bytes) else none
 
 -- an answer
-abbrev pub told : SetupRead → Read
-told a = record { error = a.number; setup = a.setup }
+abbrev pub told : Result Setup Refusal → Read
+told (Ok setup) = record { error = 0; setup = setup }
+told (Err r) = unread (refusal_number r)
 
 -- what four numbers come to, with so many bytes behind the fourth line
 abbrev pub judged_as : Setup → ℕ → Read

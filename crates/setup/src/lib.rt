@@ -10,10 +10,11 @@ ghost use Rattle.std.specs.Prelude.{◌≡◌, ◌-◌};
 ghost use Rattle.spec.specs.Flags.{row_ok, flags_ok};
 ghost use Rattle.spec.specs.Numbers.{deposit as depositOf, limit as limitOf, arg_limit, setup_ok, setup_error};
 ghost use Rattle.spec.specs.Book.{stack as stack_of};
+ghost use Rattle.spec.specs.Refusals.{number_of};
 
 pub use setup_put::{numbers_into, setup_into};
-pub use setup_read::{SetupRead, read_setup};
-use spec::{MAX_TOP, Setup};
+pub use setup_read::read_setup;
+use spec::{MAX_TOP, Refusal, Setup};
 
 // The largest stack.
 const LARGEST: u64 = 65536;
@@ -128,18 +129,15 @@ pub fn flags_ok(flags: [u8; 8]) -> bool
         & row_ok(0, flags[0])
 }
 
-// What a setup is refused with: 38 for its numbers, 39 for its flag table, or 0.
-pub fn setup_error(setup: Setup) -> u64
-    ensures { result ≡ setup_error setup }
+// Whether a setup is accepted: its numbers, then its flag table.
+pub fn check(setup: Setup) -> Result<(), Refusal>
+    ensures { number_of result ≡ setup_error setup }
 {
-    let flags = setup.flags;
-    let numbers = setup_ok(setup);
-    let table = flags_ok(flags);
-    if !numbers {
-        return spec::SETUP;
+    if !setup_ok(setup) {
+        return Err(Refusal::SetupNumbers);
     }
-    if !table {
-        return spec::FLAGS;
+    if !flags_ok(setup.flags) {
+        return Err(Refusal::FlagTable);
     }
-    0
+    Ok(())
 }

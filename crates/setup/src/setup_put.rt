@@ -6,7 +6,7 @@ ghost use Rattle.text.specs.Text.{Puts};
 ghost use Rattle.spec.specs.SetupText.{numbers_text};
 ghost use Rattle.setup.specs.Text.{lines_text, limits_text, setup_in, numbers_in};
 
-use spec::Setup;
+use spec::{Refusal, Setup};
 use text::put_field;
 
 // Room for the longest texts: four lines of numbers of twenty digits, and six.
@@ -46,15 +46,15 @@ fn put_numbers(bytes: &[u8], out: &mut [u8]) -> usize
     ensures { Puts out.old 0 (numbers_text bytes.now) out.new result }
 {
     if bytes.len() > FILE_MAX {
-        return put_field(out, 0, b"refused=", spec::SETUP_LINES);
+        return put_field(out, 0, b"refused=", u64::from(Refusal::SetupLines));
     }
-    let read = crate::setup_read::read_setup(bytes);
-    if read.number != 0 {
-        return put_field(out, 0, b"refused=", read.number);
+    match crate::setup_read::read_setup(bytes) {
+        Ok(setup) => {
+            let a = put_setup(out, setup);
+            put_limits(out, a, setup)
+        }
+        Err(e) => put_field(out, 0, b"refused=", u64::from(e)),
     }
-    let setup = read.setup;
-    let a = put_setup(out, setup);
-    put_limits(out, a, setup)
 }
 
 // Puts the four lines of a setup, and answers their length. A buffer without room for the longest is left as it is, and the answer is 0.

@@ -1,54 +1,30 @@
 // The machine numbers in a file (request 5): four lines, `UTZERO=65536` and so on, read into a setup. A number has at most 15 digits,
 // so that it never passes 64 bits.
 
-ghost use Rattle.std.specs.Prelude.{◌≡◌, ◌-◌, ◌≤◌, length};
-ghost use Rattle.spec.specs.SetupText.{digits, decimal_from, digits_line, unread, read_setup};
-ghost use Rattle.setup.specs.Said.{said, end_of, line_named, told, judged_as, on_fourth, on_third, on_second};
+ghost use Rattle.std.specs.Prelude.{◌≡◌, ◌≤◌, length, IfErr};
+ghost use Rattle.spec.specs.SetupText.{digits, decimal_from, digits_line, read_setup};
+ghost use Rattle.setup.specs.Said.{said, said_line, line_named, told};
+ghost use Rattle.spec.specs.declared.Refusal.{Refusal};
 
-use spec::Setup;
-use text::begins;
+use spec::{Refusal, Setup};
 
-// A line's number and the place behind it, or bytes that are not as described.
+// A line's number, and the bytes behind it.
 #[derive(Clone, Copy)]
-pub enum Line {
-    Is { number: u64, next: usize },
-    Bad,
-}
-
-// What reading comes to: 37, 38, or 0 with the setup, whose flag table is the built-in one; a refusal has zeros.
-#[repr(C)]
-#[derive(Clone, Copy)]
-pub struct SetupRead {
-    pub number: u64,
-    pub setup: Setup,
-}
-
-// What a byte adds to a number.
-fn digit(b: u8) -> u64
-    ensures { result ≡ b - 48 }
-{
-    if b < 48 {
-        return 0;
-    }
-    (b - 48) as u64
+struct Line<'a> {
+    number: u64,
+    rest: &'a [u8],
 }
 
 // How many digits bytes begin with.
 fn count(s: &[u8]) -> usize
     ensures { (result ≤ length s.now) × (result ≡ length (digits s.now)) }
 {
-    let mut i = 0;
-    while i < s.len() {
-        let b = s[i];
-        if b < 48 {
+    for (i, b) in s.iter().enumerate() {
+        if !b.is_ascii_digit() {
             return i;
         }
-        if b > 57 {
-            return i;
-        }
-        i += 1;
     }
-    i
+    s.len()
 }
 
 // The number that digits stand for.
@@ -56,136 +32,66 @@ fn value(s: &[u8]) -> u64
     requires { length s.now ≤ 15 }
     ensures { result ≡ decimal_from 0 s.now }
 {
-    let mut n: u64 = 0;
-    let mut i = 0;
-    while i < s.len() {
-        let d = digit(s[i]);
-        n = 10 * n + d;
-        i += 1;
+    let mut n = 0;
+    for b in s {
+        n = 10 * n + u64::from(b.saturating_sub(b'0'));
     }
     n
 }
 
 // One to 15 digits, the first not 0, closed by one line feed.
-fn digits_line(s: &[u8]) -> Line
-    ensures { (end_of result ≤ length s.now) × (said s.now result ≡ digits_line s.now) }
+fn digits_line(s: &[u8]) -> Option<Line>
+    ensures { said result ≡ digits_line s.now }
 {
     let k = count(s);
     if k == 0 {
-        return Line::Bad;
+        return None;
     }
     if k > 15 {
-        return Line::Bad;
+        return None;
     }
-    if s[0] == 48 {
-        return Line::Bad;
+    if s[0] == b'0' {
+        return None;
     }
-    if k == s.len() {
-        return Line::Bad;
-    }
-    if s[k] != 10 {
-        return Line::Bad;
+    if s.get(k) != Some(&b'\n') {
+        return None;
     }
     let number = value(&s[..k]);
-    Line::Is {
+    Some(Line {
         number,
-        next: k + 1,
-    }
+        rest: &s[k + 1..],
+    })
 }
 
 // A name with its `=`, and the digits' line behind it.
-fn read_line(s: &[u8], name: &[u8]) -> Line
-    ensures { (end_of result ≤ length s.now) × (said s.now result ≡ line_named name.now s.now) }
+fn read_line<'a>(s: &'a [u8], name: &[u8]) -> Result<Line<'a>, Refusal>
+    ensures said { said_line result ≡ line_named name.now s.now }
+    ensures error { IfErr result (λ e. e ≡ Refusal.SetupLines) }
 {
-    if s.len() < name.len() {
-        return Line::Bad;
-    }
-    if !begins(s, name) {
-        return Line::Bad;
-    }
-    let k = name.len();
-    let rest = &s[k..];
-    let Line::Is { number, next } = digits_line(rest) else {
-        return Line::Bad;
-    };
-    Line::Is {
-        number,
-        next: k + next,
-    }
-}
-
-// A refusal.
-fn refused(number: u64) -> SetupRead
-    ensures { told result ≡ unread number }
-{
-    SetupRead {
-        number,
-        setup: Setup {
-            utzero: 0,
-            ustktop: 0,
-            ustksize: 0,
-            uaddrtop: 0,
-            flags: [0u8; 8],
-        },
-    }
-}
-
-// What four numbers, and whether bytes stand behind the fourth's line, come to.
-fn judged(setup: Setup, left: usize) -> SetupRead
-    ensures { told result ≡ judged_as setup left }
-{
-    if left != 0 {
-        return refused(spec::SETUP_LINES);
-    }
-    if !crate::setup_ok(setup) {
-        return refused(spec::SETUP);
-    }
-    SetupRead { number: 0, setup }
-}
-
-// What the fourth line comes to, after three numbers.
-fn fourth_line(s: &[u8], utzero: u64, ustktop: u64, ustksize: u64) -> SetupRead
-    ensures { told result ≡ on_fourth utzero ustktop ustksize s.now }
-{
-    let Line::Is { number, next } = read_line(s, b"UADDRTOP=") else {
-        return refused(spec::SETUP_LINES);
-    };
-    let setup = Setup {
-        utzero,
-        ustktop,
-        ustksize,
-        uaddrtop: number,
-        flags: crate::BUILT_IN,
-    };
-    judged(setup, s.len() - next)
-}
-
-// What the third and the fourth come to, after two numbers.
-fn third_line(s: &[u8], utzero: u64, ustktop: u64) -> SetupRead
-    ensures { told result ≡ on_third utzero ustktop s.now }
-{
-    let Line::Is { number, next } = read_line(s, b"USTKSIZE=") else {
-        return refused(spec::SETUP_LINES);
-    };
-    fourth_line(&s[next..], utzero, ustktop, number)
-}
-
-// What all but the first come to, after its number.
-fn second_line(s: &[u8], utzero: u64) -> SetupRead
-    ensures { told result ≡ on_second utzero s.now }
-{
-    let Line::Is { number, next } = read_line(s, b"USTKTOP=") else {
-        return refused(spec::SETUP_LINES);
-    };
-    third_line(&s[next..], utzero, number)
+    let rest = s.strip_prefix(name).ok_or(Refusal::SetupLines)?;
+    digits_line(rest).ok_or(Refusal::SetupLines)
 }
 
 // Reads the machine numbers: four lines in their order, with no byte behind the fourth; then the conditions.
-pub fn read_setup(bytes: &[u8]) -> SetupRead
+pub fn read_setup(bytes: &[u8]) -> Result<Setup, Refusal>
     ensures { told result ≡ read_setup bytes.now }
 {
-    let Line::Is { number, next } = read_line(bytes, b"UTZERO=") else {
-        return refused(spec::SETUP_LINES);
+    let a = read_line(bytes, b"UTZERO=")?;
+    let b = read_line(a.rest, b"USTKTOP=")?;
+    let c = read_line(b.rest, b"USTKSIZE=")?;
+    let d = read_line(c.rest, b"UADDRTOP=")?;
+    if !d.rest.is_empty() {
+        return Err(Refusal::SetupLines);
+    }
+    let setup = Setup {
+        utzero: a.number,
+        ustktop: b.number,
+        ustksize: c.number,
+        uaddrtop: d.number,
+        flags: crate::BUILT_IN,
     };
-    second_line(&bytes[next..], number)
+    if !crate::setup_ok(setup) {
+        return Err(Refusal::SetupNumbers);
+    }
+    Ok(setup)
 }

@@ -9,5 +9,3 @@ use Rattle.setup.proofs.setup_read.count.Given as goal
 abbrev pub invariant-loop-i : goal.invariant-loop-i
 invariant-loop-i l = (l.i ≤ length l.s) × (length (digits l.s) ≡ l.i + length (digits (drop l.i l.s)))
 
-abbrev pub decreases-loop-i : goal.decreases-loop-i
-decreases-loop-i l = length l.s - l.i

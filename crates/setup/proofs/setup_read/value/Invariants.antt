@@ -6,8 +6,6 @@ use lib.ListN.{length, drop}
 use Rattle.spec.specs.SetupText.{decimal_from}
 use Rattle.setup.proofs.setup_read.value.Given as goal
 
-abbrev pub invariant-loop-i : goal.invariant-loop-i
-invariant-loop-i l = (l.i ≤ length l.s) × (l.n + 23 ≤ 23 * 10 ^ l.i) × (decimal_from 0 l.s ≡ decimal_from l.n (drop l.i l.s))
+abbrev pub invariant-loop-b : goal.invariant-loop-b
+invariant-loop-b l = (l.b-index ≤ length l.s) × (l.n + 23 ≤ 23 * 10 ^ l.b-index) × (decimal_from 0 l.s ≡ decimal_from l.n (drop l.b-index l.s))
 
-abbrev pub decreases-loop-i : goal.decreases-loop-i
-decreases-loop-i l = length l.s - l.i

@@ -1,2 +1,0 @@
--- `ibrk`'s rule, case by case.
-pub mod Cases
