@@ -2,7 +2,7 @@
 -- Assumes nothing.
 use mathlib.Core.Path.{◌≡◌, refl, sym, ap, ◌∙◌}
 use mathlib.Core.Bool.{true, false}
-use mathlib.Core.Option.{Option, none, some}
+use Rattle.std.specs.Prelude.{None, Some}
 use mathlib.Core.List.{List, [], ◌∷◌}
 use Prim.Native.Nat.{ℕ, zero, suc, ◌+◌, ◌*◌, ◌-◌, ◌^◌, ◌≤◌, ◌<◌}
 use native.Mathlib.Numerals.{add-one}
@@ -12,13 +12,12 @@ use lib.ListN.{length, get_or, take, drop, length-drop, drop_of_length-le}
 use lib.Seq.{drop-cons, drop-drop, take_all}
 use borrow.Author.Tests.{eq-eqb, ne_eqb}
 use Rattle.spec.specs.Tests.{within, ascii}
-use Rattle.spec.specs.SetupText.{Line as Lined, Read, digits, decimal_from, digits_line, unread, on_line, read_setup}
+use Rattle.spec.specs.SetupText.{Read, digits, decimal_from, digits_line, unread, on_line, read_setup}
 use Rattle.spec.specs.Numbers.{setup_ok}
 use Rattle.spec.specs.declared.Setup.{Setup}
 use Rattle.text.proofs.Starts.{starts}
-use Rattle.setup.specs.Said.{said, end_of, line_named, judged_as, on_second}
-use Rattle.setup.specs.declared.setup_read.Line.{Line}
-use Rattle.setup.specs.declared.setup_read.Line.TheVariants.{Is, Bad}
+use Rattle.spec.specs.Flags.{built_in}
+use Rattle.setup.specs.Said.{line_named, judged_as}
 use Rattle.spec.proofs.Bools.{split, within-test, within-not}
 
 -- ---- digits
@@ -58,24 +57,24 @@ digits-first [] h = absurd (omega arith)
 digits-first (b ∷ s) h = split (within 48 58 b) (λ q. rw q) (λ q. absurd (let z = rw q at h in omega arith))
 
 module _ (s : List ℕ) (k : ℕ) (e : k ≡ length (digits s)) where
-  pub line-none : k ≡ 0 → none ≡ digits_line s
+  pub line-none : k ≡ 0 → None ≡ digits_line s
   line-none h = rw (← e, within-not 1 16 k (λ l g. omega arith))
 
-  pub line-long : 15 < k → none ≡ digits_line s
+  pub line-long : 15 < k → None ≡ digits_line s
   line-long h = rw (← e, within-not 1 16 k (λ l g. omega arith))
 
   first : 0 < k → get_or (digits s) 0 48 ≡ get_or s 0 0
   first l = digits-first s (omega arith)
 
-  pub line-zero : 0 < k → k ≤ 15 → get_or s 0 0 ≡ 48 → none ≡ digits_line s
+  pub line-zero : 0 < k → k ≤ 15 → get_or s 0 0 ≡ 48 → None ≡ digits_line s
   line-zero l h z = rw (← e, within-test 1 16 k l (omega arith), eq-eqb (get_or (digits s) 0 48) 48 (first l ∙ z))
 
-  pub line-open : 0 < k → k ≤ 15 → (get_or s 0 0 ≡ 48 → ⊥) → (get_or s k 0 ≡ 10 → ⊥) → none ≡ digits_line s
+  pub line-open : 0 < k → k ≤ 15 → (get_or s 0 0 ≡ 48 → ⊥) → (get_or s k 0 ≡ 10 → ⊥) → None ≡ digits_line s
   line-open l h z f =
       rw (← e, within-test 1 16 k l (omega arith), ne_eqb (get_or (digits s) 0 48) 48 (λ q. z (sym (first l) ∙ q)), ne_eqb (get_or s k 0) 10 f)
 
   pub line-is : 0 < k → k ≤ 15 → (get_or s 0 0 ≡ 48 → ⊥) → get_or s k 0 ≡ 10 → (n : ℕ) → n ≡ decimal_from 0 (take k s)
-      → some (record { number = n; rest = drop (k + 1) s }) ≡ digits_line s
+      → Some (record { number = n; rest = drop (k + 1) s }) ≡ digits_line s
   line-is l h z f n v =
       let t : decimal_from 0 (digits s) ≡ n = ap (decimal_from 0) (sym (digits-take s) ∙ ap (λ (i : ℕ). take i s) (sym e)) ∙ sym v in
       rw (← e, within-test 1 16 k l (omega arith), ne_eqb (get_or (digits s) 0 48) 48 (λ q. z (sym (first l) ∙ q)), eq-eqb (get_or s k 0) 10 f, t)
@@ -89,27 +88,15 @@ get_d_past (x ∷ s) (suc i) h = get_d_past s i (omega arith)
 -- ---- a line with its name
 
 module _ (name s : List ℕ) where
-  pub named_other : starts name s ≡ false → none ≡ line_named name s
+  pub named_other : starts name s ≡ false → None ≡ line_named name s
   named_other e = rw e
 
-  pub named-bad : starts name s ≡ true → none ≡ digits_line (drop (length name) s) → none ≡ line_named name s
+  pub named-bad : starts name s ≡ true → None ≡ digits_line (drop (length name) s) → None ≡ line_named name s
   named-bad e d = rw e d
 
-  pub named-is : (n k : ℕ) → starts name s ≡ true → some (record { number = n; rest = drop k (drop (length name) s) }) ≡ digits_line (drop (length name) s)
-      → some (record { number = n; rest = drop (length name + k) s }) ≡ line_named name s
+  pub named-is : (n k : ℕ) → starts name s ≡ true → Some (record { number = n; rest = drop k (drop (length name) s) }) ≡ digits_line (drop (length name) s)
+      → Some (record { number = n; rest = drop (length name + k) s }) ≡ line_named name s
   named-is n k e d = rw (e, ← drop-drop k (length name) s) d
-
--- ---- the code's lines
-
-module _ (r : Line) where
-  pub end_is : (n k m : ℕ) → r ≡ Is n k → end_of r ≤ m → k ≤ m
-  end_is n k m e h = rw e at h
-
-  pub said-is : (s : List ℕ) (o : Option Lined) (n k : ℕ) → r ≡ Is n k → said s r ≡ o → some (record { number = n; rest = drop k s }) ≡ o
-  said-is s o n k e h = rw e at h
-
-  pub said-bad : (s : List ℕ) (o : Option Lined) → r ≡ Bad → said s r ≡ o → none ≡ o
-  said-bad s o e h = rw e at h
 
 -- the bytes from a place on, as they are lent
 pub part-is : (s : List ℕ) (k : ℕ) → take (length s - k) (drop k s) ≡ drop k s
@@ -118,22 +105,18 @@ part-is s k = take_all (length s - k) (drop k s) (simp length-drop (omega arith)
 pub length_part : (s : List ℕ) (k : ℕ) → length (take (length s - k) (drop k s)) ≡ length s - k
 length_part s k = rw (part-is s k) (length-drop k s)
 
-module _ (name s : List ℕ) (r : Line) (t : starts name s ≡ true)
-    (d : said (take (length s - length name) (drop (length name) s)) r ≡ digits_line (take (length s - length name) (drop (length name) s))) where
-  pub read-bad : r ≡ Bad → none ≡ line_named name s
-  read-bad e = named-bad name s t (said-bad r (drop (length name) s) (digits_line (drop (length name) s)) e (rw (part-is s (length name)) at d))
-
-  pub read_is : (n k : ℕ) → r ≡ Is n k → some (record { number = n; rest = drop (length name + k) s }) ≡ line_named name s
-  read_is n k e = named-is name s n k t (said-is r (drop (length name) s) (digits_line (drop (length name) s)) n k e (rw (part-is s (length name)) at d))
-
 -- ---- four lines
 
-module _ (o : Option Lined) (f : Lined → Read) (s : List ℕ) (r : Line) (d : said s r ≡ o) where
-  pub lines-bad : r ≡ Bad → unread 37 ≡ on_line o f
-  lines-bad e = ap (λ (x : Option Lined). on_line x f) (said-bad r s o e d)
+-- what the lines that are left come to, after the numbers of those read
+abbrev pub on_fourth : ℕ → ℕ → ℕ → List ℕ → Read
+on_fourth a b c s =
+    on_line (line_named (ascii "UADDRTOP=") s) (λ d. judged_as (record { utzero = a; ustktop = b; ustksize = c; uaddrtop = d.number; flags = built_in }) (length d.rest))
 
-  pub lines-is : (n k : ℕ) → r ≡ Is n k → f (record { number = n; rest = drop k s }) ≡ on_line o f
-  lines-is n k e = ap (λ (x : Option Lined). on_line x f) (said-is r s o n k e d)
+abbrev pub on_third : ℕ → ℕ → List ℕ → Read
+on_third a b s = on_line (line_named (ascii "USTKSIZE=") s) (λ c. on_fourth a b c.number c.rest)
+
+abbrev pub on_second : ℕ → List ℕ → Read
+on_second a s = on_line (line_named (ascii "USTKTOP=") s) (λ b. on_third a b.number b.rest)
 
 pub on-first : (s : List ℕ) → on_line (line_named (ascii "UTZERO=") s) (λ a. on_second a.number a.rest) ≡ read_setup s
 unfolding read_setup

@@ -2,7 +2,7 @@
 -- Assumes nothing.
 use mathlib.Core.Path.{◌≡◌, refl, sym, ap, ap₂, subst, ◌∙◌}
 use mathlib.Core.Bool.{true, false}
-use mathlib.Core.Option.{Option, none, some}
+use Rattle.std.specs.Prelude.{Option, None, Some}
 use mathlib.Core.List.{List, [], ◌∷◌, ◌++◌, append_assoc, append-nil}
 use Prim.Native.Nat.{ℕ, zero, suc, ◌+◌, ◌*◌, ◌-◌, ◌/◌, ◌%◌, ◌^◌, ◌≤◌, ◌<◌}
 use native.Mathlib.Nat.{pow-suc, pow-le-pow_right}
@@ -18,8 +18,8 @@ use Rattle.spec.specs.Numbers.{setup_ok}
 use Rattle.spec.specs.SetupText.{Line as Lined, Read, digits, decimal_from, digits_line, setup_text, read_setup, on_line}
 use Rattle.spec.specs.declared.Setup.{Setup}
 use Rattle.spec.proofs.Bools.{split, clash, both, and-test, within-means}
-use Rattle.setup.specs.Said.{line_named, judged_as, on_second, on_third, on_fourth}
-use Rattle.setup.proofs.Lines.{on-first, digits-take, get_d_past}
+use Rattle.setup.specs.Said.{line_named, judged_as}
+use Rattle.setup.proofs.Lines.{on_second, on_third, on_fourth, on-first, digits-take, get_d_past}
 use Rattle.setup.proofs.Written.{short, round_trip, line-2, line-3, line-4, text-lines}
 
 -- ---- digits are the text of their number
@@ -96,13 +96,13 @@ parted s e =
 abbrev Says : List ℕ → Lined → Type 0
 Says s l = short l.number × (s ≡ decimal l.number ++ 10 ∷ l.rest)
 
-never : {P : Type 0} (l : Lined) → none ≡ some l → P
+never : {P : Type 0} (l : Lined) → None ≡ Some l → P
 never l e = absurd (let z : ◌≡◌ {A = ℕ} 0 1 = cc in omega arith)
 
-inner : (a l : Lined) → some a ≡ some l → a ≡ l
+inner : (a l : Lined) → Some a ≡ Some l → a ≡ l
 inner a l e = cc
 
-line-says : (s : List ℕ) (l : Lined) → digits_line s ≡ some l → Says s l
+line-says : (s : List ℕ) (l : Lined) → digits_line s ≡ Some l → Says s l
 line-says s l e =
     split (within 1 16 (length (digits s)))
     (λ q. split (get_or (digits s) 0 48 is 48)
@@ -121,7 +121,7 @@ same-means [] (y ∷ ys) e = clash false e refl
 same-means (x ∷ xs) [] e = clash false e refl
 same-means (x ∷ xs) (y ∷ ys) e = let b = both (x is y) (same ◌is◌ xs ys) e in ap₂ (λ (a : ℕ) (l : List ℕ). a ∷ l) (eqb-true x y b.0) (same-means xs ys b.1)
 
-named-says : (name s : List ℕ) (l : Lined) → line_named name s ≡ some l → short l.number × (s ≡ name ++ (decimal l.number ++ 10 ∷ l.rest))
+named-says : (name s : List ℕ) (l : Lined) → line_named name s ≡ Some l → short l.number × (s ≡ name ++ (decimal l.number ++ 10 ∷ l.rest))
 named-says name s l e =
     split (same ◌is◌ (take (length name) s) name)
     (λ q. let d = line-says (drop (length name) s) l (rw q at e) in
@@ -130,9 +130,9 @@ named-says name s l e =
 
 -- ---- four lines
 
-on-cases : (o : Option Lined) (f : Lined → Read) → ((on_line o f).error ≡ 37 → ⊥) → (l : Lined) × (o ≡ some l) × ((f l).error ≡ 37 → ⊥)
-on-cases none f h = absurd (h refl)
-on-cases (some l) f h = (l, refl, h)
+on-cases : (o : Option Lined) (f : Lined → Read) → ((on_line o f).error ≡ 37 → ⊥) → (l : Lined) × (o ≡ Some l) × ((f l).error ≡ 37 → ⊥)
+on-cases None f h = absurd (h refl)
+on-cases (Some l) f h = (l, refl, h)
 
 nothing_left : (s : Setup) (rest : List ℕ) → ((judged_as s (length rest)).error ≡ 37 → ⊥) → rest ≡ []
 nothing_left s [] h = refl
@@ -152,11 +152,11 @@ abbrev setup_of : Lined → Lined → Lined → Lined → Setup
 setup_of a b c d = record { utzero = a.number; ustktop = b.number; ustksize = c.number; uaddrtop = d.number; flags = built_in }
 
 module _ (name s : List ℕ) (a : Lined) (x : List ℕ) where
-  line_before : line_named name s ≡ some a → a.rest ≡ x → short a.number × (s ≡ name ++ (decimal a.number ++ 10 ∷ x))
+  line_before : line_named name s ≡ Some a → a.rest ≡ x → short a.number × (s ≡ name ++ (decimal a.number ++ 10 ∷ x))
   line_before e r = let p = named-says name s a e in (p.0, p.1 ∙ ap (λ (y : List ℕ). name ++ (decimal a.number ++ 10 ∷ y)) r)
 
-four-lines : (bytes : List ℕ) (a b c d : Lined) → line_named (ascii "UTZERO=") bytes ≡ some a → line_named (ascii "USTKTOP=") a.rest ≡ some b
-    → line_named (ascii "USTKSIZE=") b.rest ≡ some c → line_named (ascii "UADDRTOP=") c.rest ≡ some d → d.rest ≡ [] → TextOf bytes (setup_of a b c d)
+four-lines : (bytes : List ℕ) (a b c d : Lined) → line_named (ascii "UTZERO=") bytes ≡ Some a → line_named (ascii "USTKTOP=") a.rest ≡ Some b
+    → line_named (ascii "USTKSIZE=") b.rest ≡ Some c → line_named (ascii "UADDRTOP=") c.rest ≡ Some d → d.rest ≡ [] → TextOf bytes (setup_of a b c d)
 four-lines bytes a b c d ea eb ec ed z =
     let pd = line_before (ascii "UADDRTOP=") c.rest d [] ed z in
     let pc = line_before (ascii "USTKSIZE=") b.rest c (line-4 (decimal d.number)) ec pd.1 in
@@ -173,19 +173,19 @@ four-lines bytes a b c d ea eb ec ed z =
 
 -- bytes that aren't 37 are such a text
 module _ (bytes : List ℕ) where
-  step-4 : (a b c : Lined) → line_named (ascii "UTZERO=") bytes ≡ some a → line_named (ascii "USTKTOP=") a.rest ≡ some b → line_named (ascii "USTKSIZE=") b.rest ≡ some c
+  step-4 : (a b c : Lined) → line_named (ascii "UTZERO=") bytes ≡ Some a → line_named (ascii "USTKTOP=") a.rest ≡ Some b → line_named (ascii "USTKSIZE=") b.rest ≡ Some c
       → ((on_fourth a.number b.number c.number c.rest).error ≡ 37 → ⊥) → (s : Setup) × TextOf bytes s
   step-4 a b c ea eb ec h =
       let four = on-cases (line_named (ascii "UADDRTOP=") c.rest) (λ (d : Lined). judged_as (setup_of a b c d) (length d.rest)) h in
       (setup_of a b c four.0, four-lines bytes a b c four.0 ea eb ec four.1 (nothing_left (setup_of a b c four.0) four.0.rest four.2))
 
-  step-3 : (a b : Lined) → line_named (ascii "UTZERO=") bytes ≡ some a → line_named (ascii "USTKTOP=") a.rest ≡ some b
+  step-3 : (a b : Lined) → line_named (ascii "UTZERO=") bytes ≡ Some a → line_named (ascii "USTKTOP=") a.rest ≡ Some b
       → ((on_third a.number b.number b.rest).error ≡ 37 → ⊥) → (s : Setup) × TextOf bytes s
   step-3 a b ea eb h =
       let three = on-cases (line_named (ascii "USTKSIZE=") b.rest) (λ (l : Lined). on_fourth a.number b.number l.number l.rest) h in
       step-4 a b three.0 ea eb three.1 three.2
 
-  step-2 : (a : Lined) → line_named (ascii "UTZERO=") bytes ≡ some a → ((on_second a.number a.rest).error ≡ 37 → ⊥) → (s : Setup) × TextOf bytes s
+  step-2 : (a : Lined) → line_named (ascii "UTZERO=") bytes ≡ Some a → ((on_second a.number a.rest).error ≡ 37 → ⊥) → (s : Setup) × TextOf bytes s
   step-2 a ea h =
       let two = on-cases (line_named (ascii "USTKTOP=") a.rest) (λ (l : Lined). on_third a.number l.number l.rest) h in
       step-3 a two.0 ea two.1 two.2

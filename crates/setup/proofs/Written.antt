@@ -3,7 +3,7 @@
 -- Assumes nothing.
 use mathlib.Core.Path.{◌≡◌, refl, sym, ap, ◌∙◌}
 use mathlib.Core.Bool.{Bool, true}
-use mathlib.Core.Option.{Option, some}
+use Rattle.std.specs.Prelude.{Option, Some}
 use mathlib.Core.List.{List, [], ◌∷◌, ◌++◌, append_assoc}
 use Prim.Native.Nat.{ℕ, zero, suc, ◌+◌, ◌*◌, ◌-◌, ◌/◌, ◌%◌, ◌^◌, ◌≤◌, ◌<◌}
 use native.Mathlib.Nat.{pow-suc}
@@ -20,8 +20,8 @@ use Rattle.spec.specs.declared.Setup.{Setup}
 use Rattle.spec.proofs.Bools.{split, both, and-test, within-test}
 use Rattle.spec.proofs.Flags.{built-in-ok}
 use Rattle.spec.proofs.Setups.{setup-means}
-use Rattle.setup.specs.Said.{line_named, judged_as, on_second, on_third, on_fourth}
-use Rattle.setup.proofs.Lines.{on-first}
+use Rattle.setup.specs.Said.{line_named, judged_as}
+use Rattle.setup.proofs.Lines.{on_second, on_third, on_fourth, on-first}
 
 -- ---- a number as it is written
 
@@ -99,13 +99,13 @@ digits-end : (ds rest : List ℕ) → all (within 48 58) ds ≡ true → digits 
 digits-end [] rest p = refl
 digits-end (d ∷ ds) rest p = let h = both (within 48 58 d) (all (within 48 58) ds) p in rw (h.0, digits-end ds rest h.1)
 
-line-back : (ds rest : List ℕ) (n : ℕ) → Written ds n → some (record { number = n; rest = rest }) ≡ digits_line (ds ++ 10 ∷ rest)
+line-back : (ds rest : List ℕ) (n : ℕ) → Written ds n → Some (record { number = n; rest = rest }) ≡ digits_line (ds ++ 10 ∷ rest)
 line-back ds rest n w =
     rw (digits-end ds rest w.digits-only, within-test 1 16 (length ds) w.some-digits (omega (arith, w.few)), ne_eqb (get_or ds 0 48) 48 w.first, get_or-append_seam ds 10 rest 0, w.value, drop-append-add ds (10 ∷ rest) 1)
 
 -- ---- four lines read back
 
-on_some : (o : Option Lined) (f : Lined → Read) (l : Lined) → some l ≡ o → on_line o f ≡ f l
+on_some : (o : Option Lined) (f : Lined → Read) (l : Lined) → Some l ≡ o → on_line o f ≡ f l
 on_some o f l e = ap (λ (x : Option Lined). on_line x f) (sym e)
 
 -- the text of four numbers in digits: as the specification has it, and line behind line

@@ -130,6 +130,7 @@ pub fn flags_ok(flags: [u8; 8]) -> bool
 }
 
 // Whether a setup is accepted: its numbers, then its flag table.
+#[tactic(auto, unfolding(spec::specs::Numbers::setup_error))]
 pub fn check(setup: Setup) -> Result<(), Refusal>
     ensures { number_of result ≡ setup_error setup }
 {

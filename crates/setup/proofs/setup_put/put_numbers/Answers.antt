@@ -3,6 +3,7 @@
 use mathlib.Core.Path.{sym, ap, ◌∙◌}
 use native.Mathlib.Omega.{arith}
 use Rattle.spec.specs.SetupText.{Read}
+use Rattle.spec.proofs.Refused.{refused-not-0}
 use Rattle.text.proofs.Behind.{behind, same_text}
 use Rattle.setup.proofs.Texts.{refused-text, long-file, short-file, shown-text}
 use Rattle.setup.proofs.setup_put.put_numbers.Goals as goal
@@ -10,19 +11,19 @@ use Rattle.setup.proofs.setup_put.put_numbers.Goals as goal
 pub returns-then-bytes-gt-FILE_MAX : goal.returns-then-bytes-gt-FILE_MAX
 returns-then-bytes-gt-FILE_MAX c =
     let bytes = c.args.bytes.now in
-    same_text (refused-text bytes 37 (long-file bytes c.if-bytes-gt-FILE_MAX.true) (λ z. omega arith)) c.put_field.ensures.puts
+    let e = c.from.ensures in
+    same_text (refused-text bytes c.from.result (e ∙ long-file bytes c.if-bytes-gt-FILE_MAX.true) (λ z. omega arith)) c.put_field.ensures.puts
 
-pub returns-then-read-ne0 : goal.returns-then-read-ne0
-returns-then-read-ne0 c =
+pub returns-in-Err : goal.returns-in-Err
+returns-in-Err c =
     let bytes = c.args.bytes.now in
-    let read = c.read_setup-read in
-    let same = read.ensures ∙ sym (short-file bytes c.if-bytes-gt-FILE_MAX.false) in
-    same_text (refused-text bytes read.result.number (ap (λ (r : Read). r.error) same) c.if-read-ne0.true) c.put_field-then-read-ne0.ensures.puts
+    let same = c.in-Err.ensures ∙ sym (short-file bytes c.if-bytes-gt-FILE_MAX.false) in
+    let e = c.from-in-Err.ensures in
+    same_text (refused-text bytes c.from-in-Err.result (e ∙ ap (λ (r : Read). r.error) same) (λ z. refused-not-0 c.in-Err.e (sym e ∙ z))) c.put_field-in-Err.ensures.puts
 
-pub returns : goal.returns
-returns c =
+pub returns-in-Ok : goal.returns-in-Ok
+returns-in-Ok c =
     let bytes = c.args.bytes.now in
-    let read = c.read_setup-read in
-    let same = read.ensures ∙ sym (short-file bytes c.if-bytes-gt-FILE_MAX.false) in
-    same_text (shown-text bytes read.result.setup (sym c.if-read-ne0.false ∙ ap (λ (r : Read). r.error) same) (ap (λ (r : Read). r.setup) same))
+    let same = c.in-Ok.ensures ∙ sym (short-file bytes c.if-bytes-gt-FILE_MAX.false) in
+    same_text (shown-text bytes c.in-Ok.setup (ap (λ (r : Read). r.error) same) (ap (λ (r : Read). r.setup) same))
     (behind c.put_setup-a.ensures.puts c.put_limits.ensures)
