@@ -1,3 +1,1 @@
-pub mod Join
-pub mod Same
 pub mod Align

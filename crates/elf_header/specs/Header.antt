@@ -1,18 +1,10 @@
--- What the ELF header's fields are and what is checked of them; the number of a verdict. The code reads a header once and then
+-- What the ELF header's fields are and what is checked of them; the permission that flags stand for. The code reads a header once and then
 -- checks what it read, so that checks 13 to 20 are stated over the fields.
 -- Assumes nothing.
-use Rattle.std.specs.Prelude.{ℕ, ◌+◌, ◌*◌, ◌%◌, ◌||◌, List}
-use Rattle.spec.specs.Tests.{◌isnt◌, ◌above◌, ◌⇒◌else◌}
+use Rattle.std.specs.Prelude.{ℕ, ◌+◌, ◌*◌, ◌%◌, ◌||◌, List, get_or, Option, None, Some}
+use Rattle.spec.specs.Tests.{◌is◌, ◌isnt◌, ◌above◌, ◌⇒◌else◌}
 use Rattle.spec.specs.Numbers.{le}
-use Rattle.spec.specs.Elf.{error_number}
 use Rattle.elf_header.specs.declared.header.Ehdr.{Ehdr}
-use Rattle.elf_header.specs.declared.header.Verdict.{Verdict}
-use Rattle.elf_header.specs.declared.header.Verdict.TheVariants.{Fine, Refused}
-
--- the number of a verdict, 0 where nothing is refused
-abbrev pub verdict_number : Verdict → ℕ
-verdict_number Fine = 0
-verdict_number (Refused e) = error_number e
 
 -- the fields of the ELF header
 abbrev pub ehdr_of : List ℕ → Ehdr
@@ -41,3 +33,7 @@ fields_error n h =
     h.entry % 4 isnt 0 ⇒ 19 else
     h.phoff + 56 * h.phnum above n ⇒ 20 else
     0
+
+-- what a header's flags stand for under a flag table: a permission, or nothing where its row has 0
+abbrev pub flag_at : List ℕ → ℕ → Option ℕ
+flag_at flags bits = get_or flags (bits % 8) 0 is 0 ⇒ None else Some (get_or flags (bits % 8) 0)

@@ -1,15 +1,22 @@
-// The fields of an ELF-64 image, as r9's elf.rs reads them: numbers of one to eight bytes, the magic, the permission that flags
-// stand for under a flag table, and the number of each refusal. They are the only functions that read an image's bytes by place.
+// The fields of an ELF-64 image, as r9's elf.rs reads them: numbers of one to eight bytes, the magic, and the permission that flags
+// stand for under a flag table. They are the only functions that read an image's bytes by place.
 
-ghost use Rattle.std.specs.Prelude.{◌≡◌, ◌+◌, ◌%◌, ◌≤◌, length, take, get_or};
+ghost use Rattle.std.specs.Prelude.{◌≡◌, ◌+◌, ◌%◌, ◌≤◌, length, take, drop, get_or};
 ghost use Rattle.spec.specs.Tests.{same, ◌is◌};
-ghost use Rattle.spec.specs.Numbers.{le};
-ghost use Rattle.spec.specs.Elf.{error_number, magic};
-
-use spec::ElfError;
+ghost use Rattle.spec.specs.Numbers.{le, be};
+ghost use Rattle.spec.specs.Elf.{magic};
+ghost use Rattle.elf_header.specs.Header.{flag_at};
 
 // The first four bytes of an ELF file.
 pub const MAGIC: [u8; 4] = [127, 69, 76, 70];
+
+// The N bytes at a place.
+fn bytes_at<const N: usize>(b: &[u8], off: usize) -> [u8; N]
+    requires { off + N ≤ length b.now }
+    ensures { result ≡ take N (drop off b.now) }
+{
+    <[u8; N]>::try_from(&b[off..off + N]).unwrap()
+}
 
 // The byte at a place.
 pub fn u8_at(b: &[u8], off: usize) -> u8
@@ -24,27 +31,29 @@ pub fn u16_at(b: &[u8], off: usize) -> u16
     requires { off + 2 ≤ length b.now }
     ensures { result ≡ le 2 b.now off }
 {
-    let low = u8_at(b, off) as u16;
-    let high = u8_at(b, off + 1) as u16;
-    low + high * 256
+    u16::from_le_bytes(bytes_at(b, off))
 }
 
 pub fn u32_at(b: &[u8], off: usize) -> u32
     requires { off + 4 ≤ length b.now }
     ensures { result ≡ le 4 b.now off }
 {
-    let low = u16_at(b, off) as u32;
-    let high = u16_at(b, off + 2) as u32;
-    low + high * 65536
+    u32::from_le_bytes(bytes_at(b, off))
 }
 
 pub fn u64_at(b: &[u8], off: usize) -> u64
     requires { off + 8 ≤ length b.now }
     ensures { result ≡ le 8 b.now off }
 {
-    let low = u32_at(b, off) as u64;
-    let high = u32_at(b, off + 4) as u64;
-    low + high * 4294967296
+    u64::from_le_bytes(bytes_at(b, off))
+}
+
+// The big-endian number of four bytes at a place.
+pub fn be32_at(b: &[u8], off: usize) -> u32
+    requires { off + 4 ≤ length b.now }
+    ensures { result ≡ be 4 b.now off }
+{
+    u32::from_be_bytes(bytes_at(b, off))
 }
 
 // Whether an image starts with the magic.
@@ -52,47 +61,17 @@ pub fn has_magic(image: &[u8]) -> bool
     requires { 4 ≤ length image.now }
     ensures { result ≡ same ◌is◌ (take 4 image.now) magic }
 {
-    let mut i = 0;
-    while i < 4 {
-        if image[i] != MAGIC[i] {
-            return false;
-        }
-        i += 1;
-    }
-    true
+    image.starts_with(&MAGIC)
 }
 
-// The permission that a header's flags stand for, or 0 where they are refused: the row of the flag table that their low three bits
+// The permission that a header's flags stand for, or none where they are refused: the row of the flag table that their low three bits
 // (PF_X 1, PF_W 2, PF_R 4) name. Higher bits don't count.
-pub fn perm(flags: [u8; 8], bits: u32) -> u64
-    ensures { result ≡ get_or flags (bits % 8) 0 }
+pub fn perm(flags: [u8; 8], bits: u32) -> Option<u64>
+    ensures { result ≡ flag_at flags bits }
 {
     let row = (bits % 8) as usize;
-    flags[row] as u64
-}
-
-// The number of an error in the table of refusals.
-pub fn error_number(e: ElfError) -> u64
-    ensures { result ≡ error_number e }
-{
-    match e {
-        ElfError::Truncated => 11,
-        ElfError::BadMagic => 12,
-        ElfError::NotElf64 => 13,
-        ElfError::NotLittleEndian => 14,
-        ElfError::BadVersion => 15,
-        ElfError::NotExecutable => 16,
-        ElfError::NotAarch64 => 17,
-        ElfError::BadPhentsize => 18,
-        ElfError::MisalignedEntry => 19,
-        ElfError::PhdrsOutOfRange => 20,
-        ElfError::FileszOverMemsz => 21,
-        ElfError::SegmentOutOfRange => 22,
-        ElfError::Misaligned => 23,
-        ElfError::BadAlign => 28,
-        ElfError::Overflow => 24,
-        ElfError::BadFlags => 25,
-        ElfError::Unordered => 26,
-        ElfError::EntryNotInText => 27,
+    match flags[row] {
+        0 => None,
+        perm => Some(perm as u64),
     }
 }

@@ -1,8 +1,9 @@
-// The ELF header of an image, as r9's elf.rs reads and checks it (checks 13 to 20), and what a check comes to. The image is untrusted,
+// The ELF header of an image, as r9's elf.rs reads and checks it (checks 13 to 20). The image is untrusted,
 // so that every read lies in it and no sum wraps.
 
 ghost use Rattle.std.specs.Prelude.{◌≡◌, ◌≤◌, length};
-ghost use Rattle.elf_header.specs.Header.{verdict_number, ehdr_of, fields_error};
+ghost use Rattle.spec.specs.Refusals.{elf_number};
+ghost use Rattle.elf_header.specs.Header.{ehdr_of, fields_error};
 
 use spec::ElfError;
 
@@ -21,7 +22,7 @@ pub const ET_EXEC: u16 = 2;
 pub const EM_AARCH64: u16 = 183;
 
 // The fields of the ELF header that are read.
-#[derive(Clone, Copy)]
+#[derive(Clone, Copy, Debug, PartialEq, Eq)]
 pub struct Ehdr {
     pub class: u8,
     pub encoding: u8,
@@ -33,13 +34,6 @@ pub struct Ehdr {
     pub phoff: u64,
     pub phentsize: u16,
     pub phnum: u16,
-}
-
-// What a check comes to: for Result<(), ElfError>.
-#[derive(Clone, Copy)]
-pub enum Verdict {
-    Fine,
-    Refused(ElfError),
 }
 
 // The ELF header of an image.
@@ -61,40 +55,41 @@ pub fn read_ehdr(image: &[u8]) -> Ehdr
     }
 }
 
+#[tactic(auto, using(spec::proofs::Chain::chain), unfolding(crate::specs::Header::fields_error))]
 // The checks of the ELF header's fields, after its length and its magic, in an image of n bytes.
-pub fn judge_ehdr(n: usize, h: Ehdr) -> Verdict
-    ensures { verdict_number result ≡ fields_error n h }
+pub fn judge_ehdr(n: usize, h: Ehdr) -> Result<(), ElfError>
+    ensures { elf_number result ≡ fields_error n h }
 {
     if h.class != ELFCLASS64 {
-        return Verdict::Refused(ElfError::NotElf64);
+        return Err(ElfError::NotElf64);
     }
     if h.encoding != ELFDATA2LSB {
-        return Verdict::Refused(ElfError::NotLittleEndian);
+        return Err(ElfError::NotLittleEndian);
     }
-    if (h.ident != EV_CURRENT) | (h.version != EV_CURRENT as u32) {
-        return Verdict::Refused(ElfError::BadVersion);
+    if h.ident != EV_CURRENT || h.version != EV_CURRENT as u32 {
+        return Err(ElfError::BadVersion);
     }
     if h.kind != ET_EXEC {
-        return Verdict::Refused(ElfError::NotExecutable);
+        return Err(ElfError::NotExecutable);
     }
     if h.machine != EM_AARCH64 {
-        return Verdict::Refused(ElfError::NotAarch64);
+        return Err(ElfError::NotAarch64);
     }
     if h.phentsize as usize != PHDR_SIZE {
-        return Verdict::Refused(ElfError::BadPhentsize);
+        return Err(ElfError::BadPhentsize);
     }
     // A64 instructions are 4 bytes, and a misaligned pc faults.
     if h.entry % 4 != 0 {
-        return Verdict::Refused(ElfError::MisalignedEntry);
+        return Err(ElfError::MisalignedEntry);
     }
     let phoff = h.phoff;
     let phnum = h.phnum;
     let len = n as u64;
     if phoff > len {
-        return Verdict::Refused(ElfError::PhdrsOutOfRange);
+        return Err(ElfError::PhdrsOutOfRange);
     }
     if 56 * phnum as u64 > len - phoff {
-        return Verdict::Refused(ElfError::PhdrsOutOfRange);
+        return Err(ElfError::PhdrsOutOfRange);
     }
-    Verdict::Fine
+    Ok(())
 }

@@ -4,10 +4,9 @@
 ghost use Rattle.std.specs.Prelude.{◌≡◌, ◌&&◌, [], ◌∷◌, ◌+◌, ◌≤◌, ◌<◌, length};
 ghost use Rattle.spec.specs.Tests.{◌is◌, within};
 ghost use Rattle.spec.specs.Elf.{phdr_at, phdr_error, loads, flag_perm, align_ok};
-ghost use Rattle.elf_header.specs.Header.{verdict_number};
+ghost use Rattle.spec.specs.Refusals.{elf_number};
 ghost use Rattle.elf_header.specs.Phdr.{phdr_of};
 
-use crate::header::Verdict;
 use spec::ElfError;
 
 pub const PT_LOAD: u32 = 1;
@@ -16,7 +15,7 @@ pub const PT_LOAD: u32 = 1;
 pub const LAST_PAGE: u64 = 18446744073709547520;
 
 // The fields of a program header that are read.
-#[derive(Clone, Copy)]
+#[derive(Clone, Copy, Debug, PartialEq, Eq)]
 pub struct Phdr {
     pub kind: u32,
     pub flags: u32,
@@ -48,19 +47,14 @@ fn align_ok(p: Phdr) -> bool
     ensures { result ≡ align_ok (phdr_of p) }
 {
     let align = p.align;
-    if align <= 1 {
-        return true;
-    }
-    if u64::count_ones(align) != 1 {
-        return false;
-    }
-    p.vaddr % align == p.offset % align
+    align <= 1 || align.is_power_of_two() && p.vaddr % align == p.offset % align
 }
 
+#[tactic(auto, using(spec::proofs::Chain::calls), unfolding(spec::specs::Elf::phdr_error))]
 // The checks of a program header that isn't skipped, under a flag table, in the order of r9's segment, then parse. `end` is the page end
 // of the segment before it.
-pub fn judge_phdr(flags: [u8; 8], image: &[u8], end: u64, p: Phdr) -> Verdict
-    ensures { verdict_number result ≡ phdr_error flags image.now end (phdr_of p ∷ []) }
+pub fn judge_phdr(flags: [u8; 8], image: &[u8], end: u64, p: Phdr) -> Result<(), ElfError>
+    ensures { elf_number result ≡ phdr_error flags image.now end (phdr_of p ∷ []) }
 {
     let bits = p.flags;
     let offset = p.offset;
@@ -69,42 +63,41 @@ pub fn judge_phdr(flags: [u8; 8], image: &[u8], end: u64, p: Phdr) -> Verdict
     let memsz = p.memsz;
     let aligned = align_ok(p);
     if filesz > memsz {
-        return Verdict::Refused(ElfError::FileszOverMemsz);
+        return Err(ElfError::FileszOverMemsz);
     }
     let len = image.len() as u64;
     if offset > len {
-        return Verdict::Refused(ElfError::SegmentOutOfRange);
+        return Err(ElfError::SegmentOutOfRange);
     }
     if filesz > len - offset {
-        return Verdict::Refused(ElfError::SegmentOutOfRange);
+        return Err(ElfError::SegmentOutOfRange);
     }
     if vaddr % spec::PAGE_SIZE_4K != offset % spec::PAGE_SIZE_4K {
-        return Verdict::Refused(ElfError::Misaligned);
+        return Err(ElfError::Misaligned);
     }
     if !aligned {
-        return Verdict::Refused(ElfError::BadAlign);
+        return Err(ElfError::BadAlign);
     }
     if vaddr > LAST_PAGE {
-        return Verdict::Refused(ElfError::Overflow);
+        return Err(ElfError::Overflow);
     }
     if memsz > LAST_PAGE - vaddr {
-        return Verdict::Refused(ElfError::Overflow);
+        return Err(ElfError::Overflow);
     }
-    let perm = crate::field::perm(flags, bits);
-    if perm == 0 {
-        return Verdict::Refused(ElfError::BadFlags);
+    if crate::field::perm(flags, bits).is_none() {
+        return Err(ElfError::BadFlags);
     }
     if vaddr / spec::PAGE_SIZE_4K * spec::PAGE_SIZE_4K < end {
-        return Verdict::Refused(ElfError::Unordered);
+        return Err(ElfError::Unordered);
     }
-    Verdict::Fine
+    Ok(())
 }
 
 // Whether a program header is loaded: a non-empty PT_LOAD.
 pub fn is_load(p: Phdr) -> bool
     ensures { result ≡ loads (phdr_of p) }
 {
-    (p.kind == PT_LOAD) & (p.memsz != 0)
+    p.kind == PT_LOAD && p.memsz != 0
 }
 
 // Whether an entry point lies in the file bytes of a text segment.
@@ -113,5 +106,5 @@ pub fn in_text(flags: [u8; 8], entry: u64, p: Phdr) -> bool
     ensures { result ≡ (flag_perm flags (phdr_of p) is 1 && within p.vaddr (p.vaddr + p.filesz) entry) }
 {
     let perm = crate::field::perm(flags, p.flags);
-    (perm == spec::TEXT) & (!(entry < p.vaddr) & (entry < p.vaddr + p.filesz))
+    perm == Some(spec::TEXT) && (p.vaddr..p.vaddr + p.filesz).contains(&entry)
 }
