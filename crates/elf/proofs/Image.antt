@@ -10,7 +10,7 @@ use borrow.Author.Tests.{lt-ltb, le-ltb, ltb-false}
 use Rattle.spec.specs.Tests.{◌is◌, ◌isnt◌, ◌below◌, ◌above◌, ◌⇒◌else◌, ◌or_else◌, same}
 use Rattle.spec.specs.Elf.{magic, phoff, phnum, ehdr_error, phdrs, phdr_error, segments_of, entry_in_text, elf_error}
 use Rattle.elf_header.specs.Header.{ehdr_of, fields_error}
-use Rattle.elf.specs.Reader.{scan_error, image_error}
+use Rattle.elf.specs.Scan.{scan_error, image_error}
 use Rattle.elf_header.specs.declared.header.Ehdr.{Ehdr}
 use Rattle.spec_laws.proofs.Checks.{passes, failed, or-else}
 
