@@ -17,8 +17,7 @@ use Rattle.spec.proofs.Bools.{split}
 use Rattle.spec_laws.proofs.Aouts.{aout-means}
 use Rattle.elf.specs.Reader.{CheckedLoad}
 use Rattle.elf.specs.declared.Segment.{Segment as Held}
-use Rattle.elf.specs.declared.Load.{Load}
-use Rattle.elf.specs.declared.Load.TheVariants.{Skip, Segment as Taken}
+use Rattle.std.specs.Prelude.{Option, None, Some}
 use Rattle.elf.proofs.Walk.{front, segs, segs-some, segs-all}
 use Rattle.elf.proofs.Checked.{perm_of, perm-most}
 use Rattle.elf.proofs.Image.{accepted}
@@ -69,22 +68,22 @@ few-places setup Elf image e = omega (arith, (accepted setup.flags image e).tabl
 few-places setup (Aout magic) image e = omega arith
 
 -- the file bytes of what is read lie in the image
-abbrev pub WithinLoad : ℕ → Load → Type 0
-WithinLoad n Skip = Unit {0}
-WithinLoad n (Taken g) = g.offset + g.filesz ≤ n
+abbrev pub WithinLoad : ℕ → Option Held → Type 0
+WithinLoad n None = Unit {0}
+WithinLoad n (Some g) = g.offset + g.filesz ≤ n
 
 pub within-at : (setup : Setup) (form : Form) (image : List ℕ) (i : ℕ) → read_error setup form image ≡ 0 → i < places form image → WithinLoad (length image) (load_at setup form image i)
 within-at setup Elf image i e h = go (load_at setup Elf image i) (checked-at setup.flags image i e h)
   where
-    go : (l : Load) → CheckedLoad (length image) l → WithinLoad (length image) l
-    go Skip c = tt
-    go (Taken g) c = c.within
+    go : (l : Option Held) → CheckedLoad (length image) l → WithinLoad (length image) l
+    go None c = tt
+    go (Some g) c = c.within
 within-at setup (Aout magic) image i e h =
     let o = (aout-means setup magic image e).inside in
     split (i is 0) (λ q. rw q (omega arith)) (λ q. rw q (split (data_size image + bss_size image is 0) (λ d. rw d tt) (λ d. rw d (omega arith))))
 
 -- a permission is at most 3
-pub perm_at_lem : (setup : Setup) → SetupOk setup → (form : Form) (image : List ℕ) (i : ℕ) (g : Held) → load_at setup form image i ≡ Taken g → g.perm ≤ 3
+pub perm_at_lem : (setup : Setup) → SetupOk setup → (form : Form) (image : List ℕ) (i : ℕ) (g : Held) → load_at setup form image i ≡ Some g → g.perm ≤ 3
 perm_at_lem setup ok Elf image i g e = perm-most setup.flags (phdr_at image (phoff image + 56 * i)) g ok.table e
 perm_at_lem setup ok (Aout magic) image i g e =
     let q : perm_of (aout_load setup image i) ≡ g.perm = ap perm_of e in

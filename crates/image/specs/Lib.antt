@@ -1,2 +1,3 @@
 -- What the contracts of this crate cite besides the specification.
 pub mod Places
+pub mod Readers

@@ -2,19 +2,21 @@
 // data. The image is untrusted, so that every read lies in it and no sum wraps. Header and text are one segment at UTZERO, data and bss
 // another from the next page on.
 
-ghost use Rattle.std.specs.Prelude.{◌≡◌, ◌+◌, ◌≤◌, ◌<◌, length};
-ghost use Rattle.spec.specs.Numbers.{SetupOk, be};
+ghost use Rattle.std.specs.Prelude.{◌≡◌, ◌+◌, ◌≤◌, ◌<◌, length, IfOk};
+ghost use Rattle.spec.specs.Numbers.{SetupOk};
+ghost use Rattle.spec.specs.Refusals.{number_of};
 ghost use Rattle.spec.specs.Aout.{text_end, data_size, entry, aout_error};
-ghost use Rattle.elf.specs.Reader.{CheckedLoad};
+ghost use Rattle.elf.specs.Reader.{part_of, CheckedLoad};
 ghost use Rattle.image.specs.Places.{exec_of, exec_error, aout_load};
 
-use elf::{Load, Segment};
-use spec::{ElfError, Setup};
+use elf::Segment;
+use elf_header::be32_at;
+use spec::{ElfError, Refusal, Setup};
 
 pub const EXEC_SIZE: usize = 32;
 
 // The words of the header that are read: not syms, spsz and pcsz.
-#[derive(Clone, Copy)]
+#[derive(Clone, Copy, Debug, PartialEq, Eq)]
 pub struct Exec {
     pub magic: u32,
     pub text: u32,
@@ -23,16 +25,13 @@ pub struct Exec {
     pub entry: u32,
 }
 
-// The big-endian number of four bytes at a place.
-fn be32(b: &[u8], off: usize) -> u32
-    requires { off + 4 ≤ length b.now }
-    ensures { result ≡ be 4 b.now off }
-{
-    let a = elf_header::u8_at(b, off) as u32;
-    let c = elf_header::u8_at(b, off + 1) as u32;
-    let d = elf_header::u8_at(b, off + 2) as u32;
-    let e = elf_header::u8_at(b, off + 3) as u32;
-    a * 16777216 + c * 65536 + d * 256 + e
+// An image with its header. The fields are private: no other crate makes one, or changes one.
+#[derive(Clone, Copy)]
+pub struct Aout<'a> {
+    image: &'a [u8],
+    magic: u32,
+    header: Exec,
+    pub ghost read: { header ≡ exec_of image.now },
 }
 
 // The header of an image.
@@ -41,86 +40,100 @@ fn read_exec(image: &[u8]) -> Exec
     ensures { result ≡ exec_of image.now }
 {
     Exec {
-        magic: be32(image, 0),
-        text: be32(image, 4),
-        data: be32(image, 8),
-        bss: be32(image, 12),
-        entry: be32(image, 20),
+        magic: be32_at(image, 0),
+        text: be32_at(image, 4),
+        data: be32_at(image, 8),
+        bss: be32_at(image, 12),
+        entry: be32_at(image, 20),
     }
 }
 
-// What an image is refused with whose header is `h`, after its length: another magic, text and data that leave the file, an entry that
-// is no instruction's address, or one that isn't in the text after the header; or 0.
-fn judge_exec(setup: Setup, magic: u32, n: usize, h: Exec) -> u64
+#[tactic(auto, using(spec::proofs::Chain::calls), unfolding(crate::specs::Places::exec_error))]
+// The checks of an image whose header is `h`, after its length: its magic, that text and data lie in the file, and that the entry is an
+// instruction's address in the text after the header.
+fn judge_exec(setup: Setup, magic: u32, n: usize, h: Exec) -> Result<(), Refusal>
     requires { SetupOk setup }
-    ensures { result ≡ exec_error setup magic n h }
+    ensures { number_of result ≡ exec_error setup magic n h }
 {
     let utzero = setup.utzero;
     let text = h.text as u64 + EXEC_SIZE as u64;
     let entry = h.entry as u64;
     if h.magic != magic {
-        return spec::NOT_AOUT;
+        return Err(Refusal::NotAout);
     }
     if text + h.data as u64 > n as u64 {
-        return spec::AOUT_OUT_OF_RANGE;
+        return Err(Refusal::AoutOutOfRange);
     }
     if entry % 4 != 0 {
-        return elf_header::error_number(ElfError::MisalignedEntry);
+        return Err(Refusal::Elf(ElfError::MisalignedEntry));
     }
-    if entry < utzero + EXEC_SIZE as u64 {
-        return elf_header::error_number(ElfError::EntryNotInText);
+    if !(utzero + EXEC_SIZE as u64..utzero + text).contains(&entry) {
+        return Err(Refusal::Elf(ElfError::EntryNotInText));
     }
-    if entry >= utzero + text {
-        return elf_header::error_number(ElfError::EntryNotInText);
-    }
-    0
+    Ok(())
 }
 
-// The number that an image is refused with, 42, 43, 19 or 27, or 0.
-pub fn number_of(setup: Setup, magic: u32, image: &[u8]) -> u64
+// Validates `image` as an a.out with a magic. It is refused with 42, 43, 19 or 27.
+pub fn parse<'a>(setup: Setup, magic: u32, image: &'a [u8]) -> Result<Aout<'a>, Refusal>
     requires { SetupOk setup }
-    ensures { result ≡ aout_error setup magic image.now }
+    ensures number { number_of result ≡ aout_error setup magic image.now }
+    ensures holds { IfOk result (λ aout. (aout.image ≡ image.entry) × (aout.magic ≡ magic)) }
 {
     if image.len() < EXEC_SIZE {
-        return spec::NOT_AOUT;
+        return Err(Refusal::NotAout);
     }
-    judge_exec(setup, magic, image.len(), read_exec(image))
-}
-
-// Where an image is entered.
-pub fn entry_of(image: &[u8]) -> u64
-    requires { 32 ≤ length image.now }
-    ensures { result ≡ entry image.now }
-{
-    read_exec(image).entry as u64
-}
-
-// The segments of an image: at place 0 header and text; at place 1 data with bss, unless both are 0.
-pub fn segment_of(setup: Setup, image: &[u8], i: usize) -> Load
-    requires { (32 ≤ length image.now) × (text_end image.now + data_size image.now ≤ length image.now) × SetupOk setup }
-    ensures { (result ≡ aout_load setup image.now i) × CheckedLoad (length image.now) result }
-{
-    let utzero = setup.utzero;
-    let h = read_exec(image);
-    let text = EXEC_SIZE + h.text as usize;
-    if i == 0 {
-        return Load::Segment(Segment {
-            vaddr: utzero,
-            memsz: text as u64,
-            offset: 0,
-            filesz: text,
-            perm: spec::TEXT,
-        });
-    }
-    let memsz = h.data as u64 + h.bss as u64;
-    if memsz == 0 {
-        return Load::Skip;
-    }
-    Load::Segment(Segment {
-        vaddr: mem::page_up(utzero + text as u64),
-        memsz,
-        offset: text,
-        filesz: h.data as usize,
-        perm: spec::DATA,
+    let header = read_exec(image);
+    judge_exec(setup, magic, image.len(), header)?;
+    Ok(Aout {
+        image,
+        magic,
+        header,
     })
+}
+
+impl<'a> Aout<'a> {
+    // Where the image is entered.
+    pub fn entry(&self) -> u64
+        ensures { result ≡ entry self.now.image.now }
+    {
+        self.header.entry as u64
+    }
+
+    // The segments of the image: at place 0 header and text; at place 1 data with bss, unless both are 0.
+    pub fn segment(&self, setup: Setup, i: usize) -> Option<Segment>
+        requires { (text_end self.now.image.now + data_size self.now.image.now ≤ length self.now.image.now) × SetupOk setup }
+        ensures value { result ≡ aout_load setup self.now.image.now i }
+        ensures checked { CheckedLoad (length self.now.image.now) result }
+    {
+        let utzero = setup.utzero;
+        let h = self.header;
+        let text = EXEC_SIZE + h.text as usize;
+        if i == 0 {
+            return Some(Segment {
+                vaddr: utzero,
+                memsz: text as u64,
+                offset: 0,
+                filesz: text,
+                perm: spec::TEXT,
+            });
+        }
+        let memsz = h.data as u64 + h.bss as u64;
+        if memsz == 0 {
+            return None;
+        }
+        Some(Segment {
+            vaddr: mem::page_up(utzero + text as u64),
+            memsz,
+            offset: text,
+            filesz: h.data as usize,
+            perm: spec::DATA,
+        })
+    }
+
+    // The file bytes of a segment, or none where they leave the image.
+    pub fn file(&self, g: Segment) -> &'a [u8]
+        ensures { result.now ≡ part_of self.now.image.now g.offset g.filesz }
+    {
+        elf::part(self.image, g.offset, g.filesz)
+    }
 }

@@ -1,75 +1,111 @@
 // An image in the form that the caller names (`Form`): ELF, read by crate elf, or Plan 9's a.out, read by module aout. A loader sees
 // neither: it reads where the program is entered, and at each place, counted from 0, the segment that stands there or none. Places are
-// an ELF's program headers, and two in an a.out. `number_of` reads an image; the others ask that it is accepted, so that it is checked
-// once.
+// an ELF's program headers, and two in an a.out. `parse` alone makes an `Image`, so that each has been checked.
 
 #![tactic(auto)]
 
 mod aout;
 
-ghost use Rattle.std.specs.Prelude.{◌≡◌, ◌+◌, ◌≤◌, ◌<◌, length, take, drop};
+ghost use Rattle.std.specs.Prelude.{◌≡◌, ◌+◌, ◌≤◌, ◌<◌, length, take, drop, IfOk};
 ghost use Rattle.spec.specs.Numbers.{SetupOk};
+ghost use Rattle.spec.specs.Refusals.{number_of};
 ghost use Rattle.spec.specs.Image.{read_error, program_of};
 ghost use Rattle.elf.specs.Reader.{CheckedLoad};
 ghost use Rattle.image.specs.Places.{places, load_at};
+ghost use Rattle.image.specs.Readers.{form_of, bytes_of, flags_of};
 
-use elf::{Load, Segment};
-use spec::{Form, Setup};
+use elf::{Elf, Segment};
+use spec::{Form, Refusal, Setup};
 
-// The number that an image is refused with by the reader of its form, or 0.
-pub fn number_of(setup: Setup, form: Form, image: &[u8]) -> u64
+// The reader of a form.
+#[derive(Clone, Copy)]
+pub enum Reader<'a> {
+    Elf(Elf<'a>),
+    Aout(crate::aout::Aout<'a>),
+}
+
+// A validated image, and the setup that it was checked under. The fields are private: no other crate makes one, or changes one.
+#[derive(Clone, Copy)]
+pub struct Image<'a> {
+    setup: Setup,
+    reader: Reader<'a>,
+    pub ghost setup_ok: { SetupOk setup },
+    pub ghost flags: { flags_of setup reader ≡ setup.flags },
+    pub ghost accepted: { read_error setup (form_of reader) (bytes_of reader) ≡ 0 },
+}
+
+// Validates `bytes` as an image of a form. It is refused with the number of the form's reader.
+pub fn parse<'a>(setup: Setup, form: Form, bytes: &'a [u8]) -> Result<Image<'a>, Refusal>
     requires { SetupOk setup }
-    ensures { result ≡ read_error setup form image.now }
+    ensures number { number_of result ≡ read_error setup form bytes.now }
+    ensures holds { IfOk result (λ image. (image.setup ≡ setup) × (form_of image.reader ≡ form) × (bytes_of image.reader ≡ bytes.now)) }
 {
-    let flags = setup.flags;
     match form {
-        Form::Elf => elf::number_of(flags, image),
-        Form::Aout(magic) => crate::aout::number_of(setup, magic, image),
+        Form::Elf => {
+            let elf = elf::parse(setup.flags, bytes)?;
+            Ok(Image {
+                setup,
+                reader: Reader::Elf(elf),
+            })
+        }
+        Form::Aout(magic) => {
+            let aout = crate::aout::parse(setup, magic, bytes)?;
+            Ok(Image {
+                setup,
+                reader: Reader::Aout(aout),
+            })
+        }
     }
 }
 
-// Where an accepted image is entered.
-pub fn entry_of(setup: Setup, form: Form, image: &[u8]) -> u64
-    requires { read_error setup form image.now ≡ 0 }
-    ensures { result ≡ (program_of setup form image.now).entry }
-{
-    match form {
-        Form::Elf => elf::entry_of(image),
-        Form::Aout(magic) => crate::aout::entry_of(image),
+impl<'a> Image<'a> {
+    // The setup that the image was checked under.
+    pub fn setup(&self) -> Setup
+        ensures { result ≡ self.now.setup }
+    {
+        self.setup
     }
-}
 
-// How many places for segments an accepted image has.
-pub fn count_of(setup: Setup, form: Form, image: &[u8]) -> usize
-    requires { read_error setup form image.now ≡ 0 }
-    ensures { result ≡ places form image.now }
-{
-    match form {
-        Form::Elf => elf::count_of(image),
-        Form::Aout(magic) => 2,
+    // Where the image is entered.
+    pub fn entry(&self) -> u64
+        ensures { result ≡ (program_of self.now.setup (form_of self.now.reader) (bytes_of self.now.reader)).entry }
+    {
+        match self.reader {
+            Reader::Elf(elf) => elf.entry(),
+            Reader::Aout(aout) => aout.entry(),
+        }
     }
-}
 
-// The segment at place `i` of an accepted image, or none.
-pub fn segment_of(setup: Setup, form: Form, image: &[u8], i: usize) -> Load
-    requires { (read_error setup form image.now ≡ 0) × (i < places form image.now) × SetupOk setup }
-    ensures { (result ≡ load_at setup form image.now i) × CheckedLoad (length image.now) result }
-{
-    let flags = setup.flags;
-    match form {
-        Form::Elf => elf::segment_of(flags, image, i),
-        Form::Aout(magic) => crate::aout::segment_of(setup, image, i),
+    // How many places for segments the image has.
+    pub fn places(&self) -> usize
+        ensures { result ≡ places (form_of self.now.reader) (bytes_of self.now.reader) }
+    {
+        match self.reader {
+            Reader::Elf(elf) => elf.count(),
+            Reader::Aout(_) => 2,
+        }
     }
-}
 
-// The file bytes of a segment of an accepted image.
-pub fn file_of<'a>(setup: Setup, form: Form, image: &'a [u8], g: Segment) -> &'a [u8]
-    requires { (read_error setup form image.now ≡ 0) × (g.offset + g.filesz ≤ length image.now) }
-    ensures { result.now ≡ take g.filesz (drop g.offset image.now) }
-{
-    let flags = setup.flags;
-    match form {
-        Form::Elf => elf::file_of(flags, image, g),
-        Form::Aout(magic) => elf::part(image, g.offset, g.filesz),
+    // The segment at place `i`, or none.
+    pub fn segment(&self, i: usize) -> Option<Segment>
+        requires { i < places (form_of self.now.reader) (bytes_of self.now.reader) }
+        ensures value { result ≡ load_at self.now.setup (form_of self.now.reader) (bytes_of self.now.reader) i }
+        ensures checked { CheckedLoad (length (bytes_of self.now.reader)) result }
+    {
+        match self.reader {
+            Reader::Elf(elf) => elf.segment(i),
+            Reader::Aout(aout) => aout.segment(self.setup, i),
+        }
+    }
+
+    // The file bytes of a segment.
+    pub fn file(&self, g: Segment) -> &'a [u8]
+        requires { g.offset + g.filesz ≤ length (bytes_of self.now.reader) }
+        ensures { result.now ≡ take g.filesz (drop g.offset (bytes_of self.now.reader)) }
+    {
+        match self.reader {
+            Reader::Elf(elf) => elf.file(g),
+            Reader::Aout(aout) => aout.file(g),
+        }
     }
 }
