@@ -18,12 +18,7 @@ pub struct Break {
 
 // Move the end of `bss` to `addr`, rounded up to a page, as Plan 9's ibrk, if `free` frames hold the new pages. An `addr` of 0
 // answers the bss's start. A process without a bss has none to move.
-pub fn ibrk(
-    setup: Setup,
-    bss: Option<VirtRange>,
-    addr: u64,
-    free: u64,
-) -> Result<Break, Refusal>
+pub fn ibrk(setup: Setup, bss: Option<VirtRange>, addr: u64, free: u64) -> Result<Break, Refusal>
     ensures { break_of bss result ≡ ibrk setup bss addr free }
 {
     let range = bss.ok_or(Refusal::BadArg)?;
@@ -42,7 +37,11 @@ pub fn ibrk(
         return Err(Refusal::Overlap);
     }
     // 4,096 × free may pass 64 bits: the pages that the growth touches are counted instead.
-    if newtop.saturating_sub(range.end).div_ceil(spec::PAGE_SIZE_4K) > free {
+    if newtop
+        .saturating_sub(range.end)
+        .div_ceil(spec::PAGE_SIZE_4K)
+        > free
+    {
         return Err(Refusal::NoMemory);
     }
     let bss = VirtRange {

@@ -2,7 +2,7 @@
 -- Assumes nothing.
 use mathlib.Core.Path.{◌≡◌, refl, sym, ap, ap₂, ◌∙◌}
 use mathlib.Core.Bool.{true, false}
-use mathlib.Core.Option.{Option, none, some}
+use Rattle.std.specs.Prelude.{Option, None, Some}
 use mathlib.Core.List.{List, [], ◌∷◌, ◌++◌}
 use Prim.Native.Nat.{ℕ, suc, ◌+◌, ◌-◌, ◌≤◌, ◌<◌}
 use native.Mathlib.Omega.{arith}
@@ -43,10 +43,10 @@ module _ (s : List ℕ) (row code : ℕ) where
 -- ---- the code's rows
 
 module _ (r : Row) where
-  pub row-bad : (o : Option ℕ) → r ≡ Bad → code_of r ≡ o → none ≡ o
+  pub row-bad : (o : Option ℕ) → r ≡ Bad → code_of r ≡ o → None ≡ o
   row-bad o e h = rw e at h
 
-  pub row_is : (o : Option ℕ) (c k : ℕ) → r ≡ Is c k → code_of r ≡ o → some c ≡ o
+  pub row_is : (o : Option ℕ) (c k : ℕ) → r ≡ Is c k → code_of r ≡ o → Some c ≡ o
   row_is o c k e h = rw e at h
 
   pub row-end : (row c k : ℕ) → r ≡ Is c k → end_of r ≡ line_end row r → k ≡ length (flag_line row c)
@@ -61,10 +61,10 @@ module _ (flags bytes : List ℕ) (row at : ℕ) (h : row < 8) where
   one_less : 8 - row ≡ suc (8 - (row + 1))
   one_less = omega arith
 
-  pub rows-bad : none ≡ code_at row (drop at bytes) → unread_flags ≡ read_rows row (8 - row) (take row flags) (drop at bytes)
+  pub rows-bad : None ≡ code_at row (drop at bytes) → unread_flags ≡ read_rows row (8 - row) (take row flags) (drop at bytes)
   rows-bad e = rw (one_less, ← e)
 
-  pub rows_more : (c k : ℕ) → length flags ≡ 8 → some c ≡ code_at row (drop at bytes) → k ≡ length (flag_line row c)
+  pub rows_more : (c k : ℕ) → length flags ≡ 8 → Some c ≡ code_at row (drop at bytes) → k ≡ length (flag_line row c)
       → read_rows (row + 1) (8 - (row + 1)) (take (row + 1) (set flags row c)) (drop (at + k) bytes) ≡ read_rows row (8 - row) (take row flags) (drop at bytes)
   rows_more c k n e l =
       ap₂ (λ (b s : List ℕ). read_rows (row + 1) (8 - (row + 1)) b s) (take-set flags row c (omega arith)) (sym (drop-drop k at bytes) ∙ ap (λ (i : ℕ). drop i (drop at bytes)) l)

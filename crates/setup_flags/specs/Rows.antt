@@ -1,7 +1,6 @@
 -- The code's rows and answers in the specification's terms.
 -- Assumes nothing.
-use Rattle.std.specs.Prelude.{ℕ, not, List, length}
-use Rattle.std.proofs.Math.Option.{Option, none, some}
+use Rattle.std.specs.Prelude.{ℕ, not, List, length, Option, None, Some}
 use Rattle.spec.specs.Tests.{◌isnt◌, ◌⇒◌else◌}
 use Rattle.spec.specs.Flags.{flags_ok}
 use Rattle.spec.specs.FlagsText.{FlagsRead as Read, flag_line, begins, unread_flags}
@@ -15,8 +14,8 @@ line_in s row code = begins row s code ⇒ length (flag_line row code) else 0
 
 -- a row found at the front of bytes: its code, where its line ends, and how long the line of that code is
 abbrev pub code_of : Row → Option ℕ
-code_of (Is code next) = some code
-code_of Bad = none
+code_of (Is code next) = Some code
+code_of Bad = None
 
 abbrev pub end_of : Row → ℕ
 end_of (Is code next) = next

@@ -1,0 +1,2 @@
+-- `ibrk`'s rule, case by case.
+pub mod Cases
