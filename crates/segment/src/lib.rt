@@ -37,11 +37,8 @@ pub fn ibrk(setup: Setup, bss: Option<VirtRange>, addr: u64, free: u64) -> Resul
         return Err(Refusal::Overlap);
     }
     // 4,096 × free may pass 64 bits: the pages that the growth touches are counted instead.
-    if newtop
-        .saturating_sub(range.end)
-        .div_ceil(spec::PAGE_SIZE_4K)
-        > free
-    {
+    let growth = newtop.saturating_sub(range.end);
+    if growth.div_ceil(spec::PAGE_SIZE_4K) > free {
         return Err(Refusal::NoMemory);
     }
     let bss = VirtRange {
