@@ -3,43 +3,52 @@
 
 #![tactic(auto)]
 
-ghost use Rattle.std.specs.Prelude.{◌≤◌, length};
+ghost use Rattle.std.specs.Prelude.{◌≤◌, length, IfOk};
 
-use std::io::{Error, Read};
+use std::io;
+use std::io::{Eprint, Print, Read};
+use std::process::ExitCode;
 
-// How many bytes were read, and why a read failed behind them, if one did.
-#[derive(Clone, Copy)]
-pub struct Got {
-    pub count: usize,
-    pub failed: Option<Error>,
-}
-
-// Reads to the end of the file, or until `dst` is full.
-pub fn read<R: Read>(file: &mut R, dst: &mut [u8]) -> Got
-    ensures { result.count ≤ length dst.new }
+// Reads to the end of the file, or until `dst` is full, and answers how many bytes there were.
+pub fn read<R: Read>(file: &mut R, dst: &mut [u8]) -> io::Result<usize>
+    ensures { IfOk result (λ n. n ≤ length dst.new) }
 {
     let mut n = 0;
     while n < dst.len() {
-        let rest = &mut dst[n..];
-        let more = match file.read(rest) {
-            Ok(more) => more,
-            Err(e) => {
-                return Got {
-                    count: n,
-                    failed: Some(e),
-                };
-            }
-        };
+        let more = file.read(&mut dst[n..])?;
         if more == 0 {
-            return Got {
-                count: n,
-                failed: None,
-            };
+            break;
         }
         n += more;
     }
-    Got {
-        count: n,
-        failed: None,
+    Ok(n)
+}
+
+// What a program does that prints a text of the file on standard input: the file is read to `bytes`, `text` puts its text into `out` and
+// answers the text's length, and that is written. If reading or writing fails, a line on standard error says so, and the text isn't
+// printed.
+pub fn print_text<F: FnOnce(&[u8], &mut [u8]) -> usize>(
+    rt: &(impl Print + Eprint),
+    name: &str,
+    file: &mut impl Read,
+    bytes: &mut [u8],
+    out: &mut [u8],
+    text: F,
+) -> ExitCode
+    requires callable { F.IsAlwaysCallable text }
+    requires within { (x : _) (y : _) (n : _) (z : _) → F.post text x y n z → n ≤ length z.now }
+{
+    let n = match read(file, bytes) {
+        Ok(n) => n,
+        Err(why) => {
+            let _ = eprintln!(rt; "{name}: standard input: {why}");
+            return ExitCode::FAILURE;
+        }
+    };
+    let k = text(&bytes[..n], out);
+    if let Err(why) = rt.write_all(&out[..k]) {
+        let _ = eprintln!(rt; "{name}: standard output: {why}");
+        return ExitCode::FAILURE;
     }
+    ExitCode::SUCCESS
 }
