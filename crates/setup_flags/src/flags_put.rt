@@ -98,12 +98,10 @@ fn put_table(bytes: &[u8], out: &mut [u8]) -> usize
     if bytes.len() > FILE_MAX {
         return put(out, 0, b"refused=39\n");
     }
-    let read = crate::flags_read::read_flags(bytes);
-    if read.number != 0 {
-        return put(out, 0, b"refused=39\n");
+    match crate::flags_read::read_flags(bytes) {
+        Ok(flags) => put_rows(out, flags),
+        Err(_) => put(out, 0, b"refused=39\n"),
     }
-    let flags = read.flags;
-    put_rows(out, flags)
 }
 
 // Puts the lines of a table, and answers their length. Of a table that is refused, or into a buffer without room for the longest,

@@ -6,4 +6,4 @@ mod flags_put;
 mod flags_read;
 
 pub use flags_put::{flags_into, table_into};
-pub use flags_read::{FlagsRead, read_flags};
+pub use flags_read::read_flags;
