@@ -1,29 +1,17 @@
 -- A loop that shares pages, frame after frame.
 use Prim.Native.Nat.{ℕ, ◌+◌, ◌≤◌, ◌<◌}
 use native.Mathlib.Omega.{arith}
-use native.Mathlib.Numerals.{add-one}
-use mathlib.Core.Path.{◌≡◌, sym, ap, ◌∙◌}
-use mathlib.Core.Bool.{Bool, true, false}
+use mathlib.Core.Path.{◌≡◌, ap, ◌∙◌}
 use mathlib.Core.List.{List}
-use Rattle.spec.specs.Tests.{◌isnt◌, ◌⇒◌else◌}
-use Rattle.spec.specs.Book.{perm_of, frame_count, mapping, holders}
-use Rattle.spec.specs.Frames.{enter, sweep, join, share, store}
-use Rattle.spec_laws.proofs.Share.{shares, word_for}
+use Rattle.spec.specs.Tests.{◌isnt◌}
+use Rattle.spec.specs.Book.{perm_of, frame_count, holders}
+use Rattle.spec.specs.Frames.{sweep, join, share, store}
+use Rattle.spec_laws.proofs.Share.{word_for}
 use Rattle.spec_laws.proofs.Sweep.{later-count}
 
 -- the frames before i are those after the sharing
 abbrev pub shared : ℕ → ℕ → List ℕ → ℕ → List ℕ
 shared n child book i = sweep (join n child) book i
-
--- a frame that is shared, and one that is not
-pub share-go : (n child : ℕ) (book now later : List ℕ) (i : ℕ) → now ≡ shared n child book i → shares n now i ≡ true
-    → later ≡ enter now i child (word_for child (mapping now i n)) (holders now i + 1) → later ≡ shared n child book (i + 1)
-share-go n child book now later i e g h =
-    h ∙ sym (rw (add-one i) (ap (λ (b : List ℕ). join n child b i) (sym e) ∙ ap (λ (x : Bool). x ⇒ enter now i child (word_for child (mapping now i n)) (holders now i + 1) else now) g))
-
-pub share-stay : (n child : ℕ) (book now : List ℕ) (i : ℕ) → now ≡ shared n child book i → shares n now i ≡ false → now ≡ shared n child book (i + 1)
-share-stay n child book now i e g =
-    sym (rw (add-one i) (ap (λ (b : List ℕ). join n child b i) (sym e) ∙ ap (λ (x : Bool). x ⇒ enter now i child (word_for child (mapping now i n)) (holders now i + 1) else now) g))
 
 pub share-all : (n child : ℕ) (book now : List ℕ) (i : ℕ) → now ≡ shared n child book i → i ≡ frame_count book → (frames : List ℕ) → store frames now ≡ share (store frames book) n child
 unfolding share

@@ -14,4 +14,4 @@ mod share;
 
 pub use release::{release_owner, unmap_and_free};
 pub use share::share_pages;
-pub use word::{alone_count, frame_of, free_count, owner_of, pack, page_of, perm_of};
+pub use word::{alone_count, frame_of, frames, free_count, owner_of, pack, page_of, perm_of};

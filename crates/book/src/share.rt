@@ -10,7 +10,7 @@ ghost use Rattle.spec.specs.Frames.{enter, share, store};
 fn is_shared(w: u64) -> bool
     ensures { result ≡ (w isnt 0 && perm_of w isnt 3) }
 {
-    (w != 0) & (crate::word::perm_of(w) != spec::DATA)
+    w != 0 && crate::word::perm_of(w) != spec::DATA
 }
 
 // The child's mapping beside w.
@@ -41,12 +41,8 @@ pub fn share_pages(book: &mut [u64], parent: usize, child: usize)
     requires by_index { (k : ℕ) → k < frame_count book.old → holders book.old k ≤ 16 }
     ensures { (frames : List ℕ) → store frames book.new ≡ share (store frames book.old) parent child }
 {
-    let frames = book.len() / 17;
-    let mut i = 0;
-    while i < frames {
-        let k = i;
+    for k in 0..book.len() / 17 {
         let w = book[17 * k + (parent - 1)];
-        i += 1;
         if is_shared(w) {
             join(book, k, child, word_for(w, child));
         }

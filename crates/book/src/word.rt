@@ -1,7 +1,8 @@
 // Book words: packing them and taking them apart; and the searches of the book.
 
-ghost use Rattle.std.specs.Prelude.{◌≡◌, ◌%◌, ◌^◌, ◌≤◌, ◌<◌};
-ghost use Rattle.spec.specs.Book.{word_of, page_of, owner_of, perm_of, frame_of, free, alone};
+ghost use Rattle.std.specs.Prelude.{◌≡◌, Bool, ℕ, ◌+◌, ◌*◌, ◌%◌, ◌^◌, ◌≤◌, ◌<◌, get_or};
+ghost use Rattle.std.specs.Simd.{first_chunks};
+ghost use Rattle.spec.specs.Book.{word_of, page_of, owner_of, perm_of, frame_count, holders, count_below, frame_of, free, alone};
 
 // The word of an owner's page.
 pub fn pack(page: u64, owner: u64, perm: u64) -> u64
@@ -32,21 +33,34 @@ pub fn perm_of(w: u64) -> u64
     w % 16
 }
 
-// How many frames are free: their count is 0.
-pub fn free_count(book: &[u64]) -> usize
-    ensures { result ≡ free book.now }
+// The words of each frame.
+pub fn frames(book: &[u64]) -> &[[u64; 17]]
+    ensures { result.now ≡ first_chunks 17 (frame_count book.now) book.now }
 {
-    let frames = book.len() / 17;
-    let mut n: usize = 0;
-    let mut i = 0;
-    while i < frames {
-        let w = book[17 * i + 16];
-        i += 1;
-        if w == 0 {
+    book.as_chunks().0
+}
+
+// How many frames pass a test of the word in one of their places and of their count. A `for` counts 1,024 frames in 466 ns, as an index
+// did, and `filter` with `count` in 754.
+fn count<F: Fn(u64, u64) -> bool>(book: &[u64], place: usize, test: F) -> usize
+    requires place { place < 17 }
+    requires callable { F.IsAlwaysCallable test }
+    ensures { (t : ℕ → ℕ → Bool) → ((w held : ℕ) (b : Bool) → w < 2 ^ 64 → held < 2 ^ 64 → F.post test w held b → b ≡ t w held) → result ≡ count_below (λ k. t (get_or book.now (17 * k + place) 0) (holders book.now k)) (frame_count book.now) }
+{
+    let mut n = 0;
+    for f in frames(book) {
+        if test(f[place], f[16]) {
             n += 1;
         }
     }
     n
+}
+
+// How many frames are free: their count is 0.
+pub fn free_count(book: &[u64]) -> usize
+    ensures { result ≡ free book.now }
+{
+    count(book, 16, |held, _| held == 0)
 }
 
 // How many frames an owner holds alone: its place is not 0, and the count is 1.
@@ -54,21 +68,7 @@ pub fn alone_count(book: &[u64], owner: u64) -> usize
     requires { (1 ≤ owner) × (owner ≤ 16) }
     ensures { result ≡ alone book.now owner }
 {
-    let place = (owner - 1) as usize;
-    let frames = book.len() / 17;
-    let mut n: usize = 0;
-    let mut i = 0;
-    while i < frames {
-        let w = book[17 * i + place];
-        let held = book[17 * i + 16];
-        i += 1;
-        if w != 0 {
-            if held == 1 {
-                n += 1;
-            }
-        }
-    }
-    n
+    count(book, (owner - 1) as usize, |w, held| w != 0 && held == 1)
 }
 
 // The frame of an owner's page, by the owner's places. Owner and page together are the word without its permission.
@@ -78,12 +78,5 @@ pub fn frame_of(book: &[u64], owner: u64, page: u64) -> Option<usize>
 {
     let key = page / 16 + owner;
     let place = (owner - 1) as usize;
-    let mut i = book.len() / 17;
-    while 0 < i {
-        i -= 1;
-        if book[17 * i + place] / 16 == key {
-            return Some(i);
-        }
-    }
-    None
+    frames(book).iter().rposition(|f| f[place] / 16 == key)
 }

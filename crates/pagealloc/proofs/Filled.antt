@@ -1,17 +1,15 @@
 -- Frames filled: what lent parts leave.
 use Prim.Native.Nat.{ℕ, ◌+◌, ◌-◌, ◌≤◌}
 use native.Mathlib.Omega.{arith}
-use mathlib.Core.Path.{◌≡◌, sym, ap, ◌∙◌}
-use mathlib.Core.List.{List, ◌++◌}
+use mathlib.Core.Path.{◌≡◌, ap, ◌∙◌}
+use mathlib.Core.List.{List}
 use lib.ListN.{length, take, drop, replicate, length-replicate, length-drop}
 use lib.Seq.{length-take-le}
 use borrow.Rule.Slice.PartMut.{put_mid, mid_of, mid_len}
-use Rattle.spec.specs.Numbers.{zero_page}
 use Rattle.spec.specs.Frames.{put}
 use Rattle.spec_laws.proofs.Lists.{put-part, length-put}
 use Rattle.pagealloc.specs.declared.pages.Part.{Part}
 use Rattle.pagealloc.specs.Contents.{cleared}
-use Rattle.pagealloc.proofs.Held.{passed}
 
 -- ---- zeros
 
@@ -23,11 +21,6 @@ pub put-zeros : (d x : List ℕ) (a e n : ℕ) → e ≤ length d → e - a ≡ 
 put-zeros d x a e n h k z =
     let q = zeros-part d x a e n h k z in
     rw (q, k) (put-part d (replicate n 0) a n (length-replicate n 0))
-
--- a whole frame
-pub put-zero-page : (d x : List ℕ) (a : ℕ) → a + 4096 ≤ length d → x ≡ replicate (length (mid_of a (a + 4096 - a) d)) 0 → put_mid a (a + 4096 - a) d x ≡ put d a (zero_page 0)
-unfolding zero_page
-put-zero-page d x a h e = put-zeros d x a (a + 4096) 4096 h (omega arith) e
 
 -- what lies before and after a part
 pub put-cleared : (d x y : List ℕ) (base : ℕ) (part : Part) → base + 4096 ≤ length d → part.from ≤ part.to → part.to ≤ 4096
@@ -44,13 +37,10 @@ put-cleared d x y base part hd lo hi ex ey =
 
 -- ---- one frame copied into another
 
--- by way of a page that holds the one and is given to the other
-pub put-copied : (d page rest x : List ℕ) (from to : ℕ) → page ≡ mid_of from (from + 4096 - from) d ++ rest → x ≡ take (length (mid_of to (to + 4096 - to) d)) page
-    → from + 4096 ≤ length d → to + 4096 ≤ length d → put_mid to (to + 4096 - to) d x ≡ put d to (take 4096 (drop from d))
-put-copied d page rest x from to ep ex hf ht =
+-- by way of a page that becomes the one, and that the other becomes
+pub put-copied : (d page x : List ℕ) (from to : ℕ) → page ≡ mid_of from (from + 4096 - from) d → x ≡ page → from + 4096 ≤ length d → to + 4096 ≤ length d → put_mid to (to + 4096 - to) d x ≡ put d to (take 4096 (drop from d))
+put-copied d page x from to ep ex hf ht =
     let kf : from + 4096 - from ≡ 4096 = omega arith in
     let kt : to + 4096 - to ≡ 4096 = omega arith in
-    let same : x ≡ mid_of from (from + 4096 - from) d = passed (mid_of from (from + 4096 - from) d) page rest (mid_of to (to + 4096 - to) d) x ep ex
-    (mid_len to (to + 4096) d ht ∙ kt ∙ sym (mid_len from (from + 4096) d hf ∙ kf)) in
-    let whole : x ≡ take 4096 (drop from d) = same ∙ ap (λ (n : ℕ). take n (drop from d)) kf in
+    let whole : x ≡ take 4096 (drop from d) = ex ∙ ep ∙ ap (λ (n : ℕ). take n (drop from d)) kf in
     rw (whole, kt) (put-part d (take 4096 (drop from d)) to 4096 (length-take-le 4096 (drop from d) (omega (arith, length-drop from d))))

@@ -2,7 +2,6 @@
 pub mod Filled
 pub mod Parts
 pub mod Steps
-pub mod Held
 pub mod Placing
 pub mod Copying
 pub mod Chunks

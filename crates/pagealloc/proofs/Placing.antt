@@ -2,14 +2,16 @@
 use Prim.Native.Nat.{ℕ, zero, suc, ◌+◌, ◌-◌, ◌*◌, ◌/◌, ◌%◌, ◌≤◌, ◌<◌}
 use native.Mathlib.Omega.{arith}
 use native.Mathlib.Nat.{not-suc-le-zero}
-use mathlib.Core.Path.{◌≡◌, refl, sym, ap, ◌∙◌}
+use mathlib.Core.Path.{◌≡◌, refl, sym, ap, ap₂, subst, fun_ext, ◌∙◌}
 use mathlib.Core.Bool.{Bool, false}
 use Rattle.std.specs.Prelude.{Option, None, Some}
 use mathlib.Core.List.{List, [], ◌∷◌, append-nil}
 use lib.Dec.{eqb}
-use lib.ListN.{length}
+use lib.ListN.{length, replicate}
 use borrow.Author.Tests.{eqb-true, eqb-false}
-use Rattle.spec.specs.Numbers.{zero_page}
+use Rattle.spec.specs.Tests.{within}
+use Rattle.spec.specs.Numbers.{bytes_from, page_bytes, zero_page}
+use Rattle.pagealloc.specs.Contents.{file_at}
 use Rattle.spec.specs.Book.{word_of, frame_count, holders, highest, is_free, free_frame, segment}
 use Rattle.spec.specs.Frames.{Store, enter, put, Page, pages_from, pages_of, hold, place, store}
 use Rattle.spec.proofs.Bools.{split}
@@ -26,9 +28,14 @@ pub held : (f b f' b' : List ℕ) (k at owner page perm w : ℕ) (bytes : List �
     → store f' b' ≡ hold (store f b) owner (record { page = page; perm = perm; bytes = bytes }) (Some k)
 held f b f' b' k at owner page perm w bytes ea ef ew eb = rw (eb, ef, ew, ea)
 
-pub zero_same : (page : ℕ) → zero_page 0 ≡ zero_page page
-unfolding zero_page
-zero_same page = refl
+-- with no file bytes a page is zeros
+zeros-from : (vaddr a k : ℕ) → bytes_from (file_at vaddr []) a k ≡ replicate k 0
+zeros-from vaddr a zero = refl
+zeros-from vaddr a (suc k) = ap₂ (λ (b : ℕ) (l : List ℕ). b ∷ l) (split (within vaddr (vaddr + 0) a) (λ q. rw q refl) (λ q. rw q refl)) (zeros-from vaddr (a + 1) k)
+
+pub zero-pages : (vaddr : ℕ) → page_bytes (file_at vaddr []) ≡ zero_page
+unfolding page_bytes zero_page
+zero-pages vaddr = fun_ext (λ page. zeros-from vaddr page 4096)
 
 -- ---- the search from a frame on
 
@@ -96,6 +103,9 @@ pub record Ran (f : ℕ → List ℕ) (perm owner end first : ℕ) (m t : Store)
 
 pub ran-start : (f : ℕ → List ℕ) (perm owner end first : ℕ) (m : Store) (c : ℕ) → first % 4096 ≡ 0 → Passed c m.book → Ran f perm owner end first m m first c
 ran-start f perm owner end first m c al passed = record { frames = refl; book = refl; aligned = al; onward = omega arith; passed = passed; rest = refl }
+
+pub ran-at : (f : ℕ → List ℕ) (perm owner end first : ℕ) (m t : Store) (page c q : ℕ) → page ≡ q → Ran f perm owner end first m t page c → Ran f perm owner end first m t q c
+ran-at f perm owner end first m t page c q e ran = subst (λ (p : ℕ). Ran f perm owner end first m t p c) e ran
 
 module _ (f : ℕ → List ℕ) (perm owner end first : ℕ) (m t : Store) (page c : ℕ) (hi : owner ≤ 16) (ran : Ran f perm owner end first m t page c) where
   one : pages_of f (segment first end perm ∷ []) ≡ run f perm end first

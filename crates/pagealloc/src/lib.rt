@@ -16,4 +16,4 @@ pub mod place;
 // A process's bytes, written over.
 pub mod user;
 
-pub use frames::{copy, give, hold, zero};
+pub use frames::{copy, zero};

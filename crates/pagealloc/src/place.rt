@@ -14,14 +14,7 @@ pub fn free_below(book: &[u64], c: usize) -> Option<usize>
     requires { c ≤ frame_count book.now }
     ensures { result ≡ highest (is_free book.now) c }
 {
-    let mut i = c;
-    while 0 < i {
-        i -= 1;
-        if book[17 * i + 16] == 0 {
-            return Some(i);
-        }
-    }
-    None
+    book::frames(book)[..c].iter().rposition(|f| f[16] == 0)
 }
 
 // Frame `k` gets mapping `w` in the owner's place, its only one.
@@ -32,43 +25,6 @@ fn take_frame(book: &mut [u64], k: usize, owner: u64, w: u64)
     let place = (owner - 1) as usize;
     book[17 * k + place] = w;
     book[17 * k + 16] = 1;
-}
-
-// Frame `k` becomes a data page of zeros.
-fn hold_zeroed(frames: &mut [u8], book: &mut [u64], k: usize, owner: u64, page: u64)
-    requires { (length frames.old ≡ 4096 * frame_count book.old) × (k < frame_count book.old) × (1 ≤ owner) × (owner ≤ 16) × (page < 2 ^ 63) }
-    ensures { store frames.new book.new ≡ hold (store frames.old book.old) owner (record { page = page; perm = 3; bytes = zero_page page }) (Some k) }
-{
-    crate::pages::zero_frame(frames, crate::frames::frame_addr(k));
-    take_frame(book, k, owner, book::pack(page, owner, spec::DATA));
-}
-
-// Places a data page of zeros for each page in `range`, as `map_zeroed`.
-pub fn map_zeroed(
-    frames: &mut [u8],
-    book: &mut [u64],
-    top: usize,
-    owner: u64,
-    range: spec::VirtRange,
-) -> usize
-    requires frames_len { (length frames.old ≡ 4096 * frame_count book.old) × (1 ≤ owner) × (owner ≤ 16) }
-    requires start_value { (range.start % 4096 ≡ 0) × (range.end % 4096 ≡ 0) × (range.end < 2 ^ 63) }
-    requires passed { Passed top book.old }
-    ensures book_after { store frames.new book.new ≡ place (store frames.old book.old) owner (pages_of zero_page (segment range.start range.end 3 ∷ [])) }
-    ensures passed_2 { Passed result book.new }
-{
-    let end = range.end;
-    let mut page = range.start;
-    let mut c = top;
-    while page < end {
-        let Some(k) = free_below(book, c) else {
-            return 0;
-        };
-        hold_zeroed(frames, book, k, owner, page);
-        c = k;
-        page += spec::PAGE_SIZE_4K;
-    }
-    c
 }
 
 // Frame `k` becomes the page at address `page` of a segment whose file bytes stand at `vaddr`.
@@ -106,20 +62,35 @@ pub fn load_segment(
     ensures book_after { store frames.new book.new ≡ place (store frames.old book.old) owner (pages_of (page_bytes (file_at vaddr file.now)) (recorded ∷ [])) }
     ensures passed_2 { Passed result book.new }
 {
-    let perm = recorded.perm;
     let range = recorded.range;
-    let end = range.end;
-    let mut page = range.start;
     let mut c = top;
-    while page < end {
+    for i in 0..mem::pages(range) {
         let Some(k) = free_below(book, c) else {
             return 0;
         };
-        hold_loaded(frames, book, k, owner, perm, page, vaddr, file);
+        let page = range.start + spec::PAGE_SIZE_4K * i;
+        hold_loaded(frames, book, k, owner, recorded.perm, page, vaddr, file);
         c = k;
-        page += spec::PAGE_SIZE_4K;
     }
     c
+}
+
+// Places a data page of zeros for each page in `range`, as `map_zeroed`: a data segment with no file bytes.
+pub fn map_zeroed(
+    frames: &mut [u8],
+    book: &mut [u64],
+    top: usize,
+    owner: u64,
+    range: spec::VirtRange,
+) -> usize
+    requires frames_len { (length frames.old ≡ 4096 * frame_count book.old) × (1 ≤ owner) × (owner ≤ 16) }
+    requires start_value { (range.start % 4096 ≡ 0) × (range.end % 4096 ≡ 0) × (range.end < 2 ^ 63) }
+    requires passed { Passed top book.old }
+    ensures book_after { store frames.new book.new ≡ place (store frames.old book.old) owner (pages_of zero_page (segment range.start range.end 3 ∷ [])) }
+    ensures passed_2 { Passed result book.new }
+{
+    let perm = spec::DATA;
+    load_segment(frames, book, top, owner, spec::UserSegment { range, perm }, 0, &[])
 }
 
 // Frame `k`, which is free, becomes the child's page with the bytes of frame `from`, which is used.

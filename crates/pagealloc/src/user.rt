@@ -28,7 +28,7 @@ pub fn write_user(frames: &mut [u8], book: &[u64], owner: u64, addr: u64, bytes:
         let Some(k) = book::frame_of(book, owner, mem::page_down(a)) else {
             return;
         };
-        let e = i + crate::frames::least((spec::PAGE_SIZE_4K - offset) as usize, bytes.len() - i);
+        let e = i + ((spec::PAGE_SIZE_4K - offset) as usize).min(bytes.len() - i);
         crate::frames::write_phys(frames, phys(k, offset), &bytes[i..e]);
         i = e;
     }

@@ -39,14 +39,14 @@ phys-requires c =
 pub write_phys-requires : goal.write_phys-requires
 write_phys-requires c =
     let f = framed (goal.at.write_phys-requires c).In-Some in
-    simp (length-take, length-drop) (omega (arith, c.phys.ensures, c.least.ensures))
+    simp (length-take, length-drop) (omega (arith, c.phys.ensures, c.min.ensures))
 
 pub loop-i-preserved : goal.loop-i-preserved
 loop-i-preserved c =
     let f = framed (goal.at.loop-i-preserved c).In-Some in
     let l = c.loop-i in
     let a = c.args in
-    let n = c.least.ensures in (
+    let n = c.min.ensures in (
       omega arith,
       omega arith,
       write-turn (store a.frames.now a.book.now) l.frames _ a.book.now a.bytes.now a.owner a.addr l.i _ c.in-Some.k _ (omega arith) l.invariant.2 (omega arith) (omega arith) f.is (omega arith)
