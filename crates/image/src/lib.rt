@@ -9,9 +9,8 @@ mod aout;
 ghost use Rattle.std.specs.Prelude.{◌≡◌, ◌+◌, ◌≤◌, ◌<◌, length, take, drop, IfOk};
 ghost use Rattle.spec.specs.Numbers.{SetupOk};
 ghost use Rattle.spec.specs.Refusals.{number_of};
-ghost use Rattle.spec.specs.Image.{read_error, program_of};
+ghost use Rattle.spec.specs.Image.{read_error};
 ghost use Rattle.elf.specs.Reader.{CheckedLoad};
-ghost use Rattle.image.specs.Places.{places, load_at};
 ghost use Rattle.image.specs.Readers.{form_of, bytes_of, flags_of};
 
 use elf::{Elf, Segment};
@@ -59,6 +58,8 @@ pub fn parse<'a>(setup: Setup, form: Form, bytes: &'a [u8]) -> Result<Image<'a>,
 }
 
 impl<'a> Image<'a> {
+    ghost use Rattle.image.specs.Images.{bytes, program, place_count, segment_at};
+
     // The setup that the image was checked under.
     pub fn setup(&self) -> Setup
         ensures { result ≡ self.now.setup }
@@ -68,7 +69,7 @@ impl<'a> Image<'a> {
 
     // Where the image is entered.
     pub fn entry(&self) -> u64
-        ensures { result ≡ (program_of self.now.setup (form_of self.now.reader) (bytes_of self.now.reader)).entry }
+        ensures { result ≡ (program self.now).entry }
     {
         match self.reader {
             Reader::Elf(elf) => elf.entry(),
@@ -78,7 +79,7 @@ impl<'a> Image<'a> {
 
     // How many places for segments the image has.
     pub fn places(&self) -> usize
-        ensures { result ≡ places (form_of self.now.reader) (bytes_of self.now.reader) }
+        ensures { result ≡ place_count self.now }
     {
         match self.reader {
             Reader::Elf(elf) => elf.count(),
@@ -88,9 +89,9 @@ impl<'a> Image<'a> {
 
     // The segment at place `i`, or none.
     pub fn segment(&self, i: usize) -> Option<Segment>
-        requires { i < places (form_of self.now.reader) (bytes_of self.now.reader) }
-        ensures value { result ≡ load_at self.now.setup (form_of self.now.reader) (bytes_of self.now.reader) i }
-        ensures checked { CheckedLoad (length (bytes_of self.now.reader)) result }
+        requires { i < place_count self.now }
+        ensures value { result ≡ segment_at self.now i }
+        ensures checked { CheckedLoad (length (bytes self.now)) result }
     {
         match self.reader {
             Reader::Elf(elf) => elf.segment(i),
@@ -100,8 +101,8 @@ impl<'a> Image<'a> {
 
     // The file bytes of a segment.
     pub fn file(&self, g: Segment) -> &'a [u8]
-        requires { g.offset + g.filesz ≤ length (bytes_of self.now.reader) }
-        ensures { result.now ≡ take g.filesz (drop g.offset (bytes_of self.now.reader)) }
+        requires { g.offset + g.filesz ≤ length (bytes self.now) }
+        ensures { result.now ≡ take g.filesz (drop g.offset (bytes self.now)) }
     {
         match self.reader {
             Reader::Elf(elf) => elf.file(g),
