@@ -12,27 +12,24 @@ use Rattle.spec.specs.Tests.{◌is◌, ◌below◌, ◌above◌, ◌⇒◌else�
 use Rattle.spec.specs.Numbers.{limit}
 use Rattle.spec.specs.Program.{Segment}
 use Rattle.spec.specs.Exec.{layout_ok, bss_of}
+use Rattle.std.specs.Prelude.{Option, None, Some}
 use Rattle.elf.specs.declared.Segment.{Segment as Held}
-use Rattle.elf.specs.declared.Load.{Load}
-use Rattle.elf.specs.declared.Load.TheVariants.{Skip, Segment as Taken}
 use Rattle.elf.proofs.Walk.{segment_in, front}
 use Rattle.image.specs.Places.{places, load_at}
 use Rattle.image.proofs.Places.{WithinLoad, rest, rest_some, rest-none}
 use Rattle.spec.specs.declared.Form.{Form}
 use Rattle.spec.proofs.Bools.{split}
 use Rattle.spec.specs.declared.Setup.{Setup}
-use Rattle.exec.specs.Fits.{laid, fit_of, nothing, last_of, fits}
+use Rattle.exec.specs.Fits.{laid, fit_of, nothing, last_of, fits, bss_behind}
 use Rattle.exec.specs.declared.layout.Laid.{Laid}
-use Rattle.exec.specs.declared.layout.Fit.{Fit}
-use Rattle.exec.specs.declared.layout.Fit.TheVariants.{Fits, Refused}
 
 -- the segments behind one, after what it came to
-abbrev pub then : (setup : Setup) → Fit → List Segment → Fit
-then setup Refused gs = Refused
-then setup (Fits t) gs = fits setup t gs
+abbrev pub then : (setup : Setup) → Option Laid → List Segment → Option Laid
+then setup None gs = None
+then setup (Some t) gs = fits setup t gs
 
 -- the same tests, in the code's order
-order : (closed low high last none rest : Bool) (x y : Fit)
+order : (closed low high last none rest : Bool) (x y : Option Laid)
     → ((not closed || false) && (not low && not high && (not last || none) && rest) ⇒ x else y) ≡ (closed || low || high ⇒ y else ((not last || none) && rest ⇒ x else y))
 order true low high last none rest x y = refl
 order false true high last none rest x y = refl
@@ -43,32 +40,32 @@ order false false false last none rest x y = refl
 file-long : (image : List ℕ) (g : Held) → g.offset + g.filesz ≤ length image → length (segment_in image g).file ≡ g.filesz
 file-long image g c = length-take-le g.filesz (drop g.offset image) (omega (arith, length-drop g.offset image))
 
-choose : (b : Bool) (x y : Fit) (f : Fit → Fit) → f (b ⇒ x else y) ≡ (b ⇒ f x else f y)
+choose : (b : Bool) (x y : Option Laid) (f : Option Laid → Option Laid) → f (b ⇒ x else y) ≡ (b ⇒ f x else f y)
 choose true x y f = refl
 choose false x y f = refl
 
 module _ (setup : Setup) where
   -- one segment of a layout
-  fits_one : (image : List ℕ) (before : Laid) (g : Held) (gs : List Segment) → g.offset + g.filesz ≤ length image → fits setup before (segment_in image g ∷ gs) ≡ then setup (fit_of setup before (Taken g)) gs
+  fits_one : (image : List ℕ) (before : Laid) (g : Held) (gs : List Segment) → g.offset + g.filesz ≤ length image → fits setup before (segment_in image g ∷ gs) ≡ then setup (fit_of setup before (Some g)) gs
   fits_one image before g gs c =
       rw (file-long image g c, ne_eqb (suc (length gs)) 0 (λ z. omega arith))
-      (order before.closed (g.vaddr below setup.utzero) (g.vaddr + g.memsz above limit setup) (g.perm is 3) (length gs is 0) (layout_ok setup gs) (Fits (last_of (laid g) gs)) Refused
-      ∙ sym (choose (before.closed || g.vaddr below setup.utzero || g.vaddr + g.memsz above limit setup) Refused (Fits (laid g)) (λ f. then setup f gs)))
+      (order before.closed (g.vaddr below setup.utzero) (g.vaddr + g.memsz above limit setup) (g.perm is 3) (length gs is 0) (layout_ok setup gs) (Some (last_of (laid g) gs)) None
+      ∙ sym (choose (before.closed || g.vaddr below setup.utzero || g.vaddr + g.memsz above limit setup) None (Some (laid g)) (λ f. then setup f gs)))
 
-  pub fits-load : (image : List ℕ) (before : Laid) (l : Load) (gs : List Segment) → WithinLoad (length image) l → fits setup before (front image l gs) ≡ then setup (fit_of setup before l) gs
-  fits-load image before Skip gs c = refl
-  fits-load image before (Taken g) gs c = fits_one image before g gs c
+  pub fits-load : (image : List ℕ) (before : Laid) (l : Option Held) (gs : List Segment) → WithinLoad (length image) l → fits setup before (front image l gs) ≡ then setup (fit_of setup before l) gs
+  fits-load image before None gs c = refl
+  fits-load image before (Some g) gs c = fits_one image before g gs c
 
   -- one place of a layout
-  pub fits-some : (form : Form) (image : List ℕ) (i : ℕ) (before : Laid) (f : Fit) → i < places form image → WithinLoad (length image) (load_at setup form image i) → f ≡ fit_of setup before (load_at setup form image i)
+  pub fits-some : (form : Form) (image : List ℕ) (i : ℕ) (before : Laid) (f : Option Laid) → i < places form image → WithinLoad (length image) (load_at setup form image i) → f ≡ fit_of setup before (load_at setup form image i)
       → fits setup before (rest setup form image i) ≡ then setup f (rest setup form image (i + 1))
   fits-some form image i before f h w e =
       let l = load_at setup form image i in
       ap (fits setup before) (rest_some setup form image i h) ∙ fits-load image before l (rest setup form image (i + 1)) w
-      ∙ ap (λ (x : Fit). then setup x (rest setup form image (i + 1))) (sym e)
+      ∙ ap (λ (x : Option Laid). then setup x (rest setup form image (i + 1))) (sym e)
 
   -- no more places
-  pub fits-end : (form : Form) (image : List ℕ) (i : ℕ) (before : Laid) → places form image ≤ i → fits setup before (rest setup form image i) ≡ Fits before
+  pub fits-end : (form : Form) (image : List ℕ) (i : ℕ) (before : Laid) → places form image ≤ i → fits setup before (rest setup form image i) ≡ Some before
   fits-end form image i before h = ap (fits setup before) (rest-none setup form image i h) ∙ split before.closed (λ q. rw q) (λ q. rw q)
 
 -- ---- the whole layout
@@ -82,12 +79,14 @@ pub all-bss : (gs : List Segment) → (last_of nothing gs).bss ≡ bss_of gs
 all-bss [] = refl
 all-bss (g ∷ gs) = last-bss nothing g gs
 
--- it is refused, or gives the bss
-pub layout-no : (setup : Setup) (gs : List Segment) → fits setup nothing gs ≡ Refused → layout_ok setup gs ≡ false
-layout-no setup gs e = split (layout_ok setup gs) (λ q. let z : Fits (last_of nothing gs) ≡ Refused = rw q at e in absurd (let w : ◌≡◌ {A = ℕ} 0 1 = cc in omega arith)) (λ q. q)
-
-pub layout-yes : (setup : Setup) (gs : List Segment) (t : Laid) → fits setup nothing gs ≡ Fits t → (layout_ok setup gs ≡ true) × (t.bss ≡ bss_of gs)
-layout-yes setup gs t e =
+pub whole-layout : (setup : Setup) (gs : List Segment) (t : Laid) → fits setup nothing gs ≡ Some t → bss_behind setup gs ≡ Some t.bss
+whole-layout setup gs t e =
     split (layout_ok setup gs)
-    (λ q. let z : Fits (last_of nothing gs) ≡ Fits t = rw q at e in let w : last_of nothing gs ≡ t = cc in (q, ap (λ (x : Laid). x.bss) (sym w) ∙ all-bss gs))
-    (λ q. let z : Refused ≡ Fits t = rw q at e in absurd (let w : ◌≡◌ {A = ℕ} 0 1 = cc in omega arith))
+    (λ q. let z : Some (last_of nothing gs) ≡ Some t = rw q at e in let w : last_of nothing gs ≡ t = cc in rw (q, ← all-bss gs, w))
+    (λ q. let z : ◌≡◌ {A = Option Laid} None (Some t) = rw q at e in cc)
+
+pub no-layout : (setup : Setup) (gs : List Segment) → fits setup nothing gs ≡ None → bss_behind setup gs ≡ None
+no-layout setup gs e =
+    split (layout_ok setup gs)
+    (λ q. let z : ◌≡◌ {A = Option Laid} (Some (last_of nothing gs)) None = rw q at e in cc)
+    (λ q. rw q)

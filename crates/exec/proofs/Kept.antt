@@ -5,8 +5,8 @@ use mathlib.Core.Bool.{true}
 use mathlib.Core.List.{List, [], ◌∷◌, ◌++◌, append-nil, append_assoc}
 use Prim.Native.Nat.{ℕ, suc, ◌+◌, ◌-◌, ◌<◌, ◌≤◌}
 use native.Mathlib.Omega.{arith}
-use lib.ListN.{length, take, set, replicate, length-append}
-use lib.Seq.{take_all, take-append-le, set-append_seam}
+use lib.ListN.{length, set, replicate, length-append}
+use lib.Seq.{set-append_seam}
 use borrow.Author.Tests.{lt-ltb, le-ltb}
 use Rattle.spec.proofs.Bools.{split}
 use Rattle.spec.specs.Tests.{◌below◌}
@@ -16,63 +16,87 @@ use Rattle.spec.specs.Exec.{kept}
 use Rattle.spec.specs.declared.VirtRange.{VirtRange}
 use Rattle.spec.specs.declared.UserSegment.{UserSegment}
 use Rattle.spec_laws.proofs.Lists.{by_order}
-use Rattle.elf.specs.declared.Load.{Load}
-use Rattle.elf.specs.declared.Load.TheVariants.{Skip, Segment as Taken}
+use Rattle.std.specs.Prelude.{Option, None, Some}
+use Rattle.elf.specs.declared.Segment.{Segment as Held}
 use Rattle.elf.proofs.Walk.{front}
-use Rattle.exec.specs.Pages.{pages_in, pushed, recorded_with, recorded}
+use Rattle.exec.specs.Pages.{pages_in, pushed, recorded_with, recorded, all_recorded}
 use Rattle.exec.specs.declared.recorded.Recorded.{Recorded}
 
 -- what one place adds
-abbrev pub added : List ℕ → VirtRange → Load → List UserSegment
+abbrev pub added : List ℕ → VirtRange → Option Held → List UserSegment
 added image bss l = kept bss (front image l [])
 
 module _ (image : List ℕ) (bss : VirtRange) where
-  pub kept-front : (l : Load) (gs : List Segment) → kept bss (front image l gs) ≡ added image bss l ++ kept bss gs
-  kept-front Skip gs = refl
-  kept-front (Taken g) gs =
+  pub kept-front : (l : Option Held) (gs : List Segment) → kept bss (front image l gs) ≡ added image bss l ++ kept bss gs
+  kept-front None gs = refl
+  kept-front (Some g) gs =
       let u : UserSegment = pages_in bss g in
       split (u.range.start below u.range.end) (λ q. rw q) (λ q. rw q)
 
   -- at most one
-  pub added-one : (l : Load) → length (added image bss l) ≤ 1
-  added-one Skip = omega arith
-  added-one (Taken g) =
+  pub added-one : (l : Option Held) → length (added image bss l) ≤ 1
+  added-one None = omega arith
+  added-one (Some g) =
       let u : UserSegment = pages_in bss g in
       split (u.range.start below u.range.end) (λ q. rw q (omega arith)) (λ q. rw q (omega arith))
 
 -- ---- a segment behind those recorded
 
-same-record : (a b : List UserSegment) (m n : ℕ) → a ≡ b → m ≡ n → ◌≡◌ {A = Recorded} (record { segments = a; count = m }) (record { segments = b; count = n })
-same-record a b m n p q = rw (p, q)
-
-long-more : (done : List UserSegment) (u : UserSegment) → length (done ++ u ∷ []) ≡ length done + 1
-long-more done u = length-append done (u ∷ [])
-
--- one that finds room
-put-more : (done : List UserSegment) (u : UserSegment) → length done < 15
-    → set (take 15 done ++ replicate (16 - length (take 15 done)) zero_segment) (length done) u ≡ take 15 (done ++ u ∷ []) ++ replicate (16 - length (take 15 (done ++ u ∷ []))) zero_segment
+put-more : (done : List UserSegment) (u : UserSegment) → length done < 15 → set (done ++ replicate (16 - length done) zero_segment) (length done) u ≡ (done ++ u ∷ []) ++ replicate (16 - length (done ++ u ∷ [])) zero_segment
 put-more done u h =
     let n = length done in
-    let more = done ++ u ∷ [] in
-    let l : length more ≡ n + 1 = long-more done u in
+    let l : length (done ++ u ∷ []) ≡ n + 1 = length-append done (u ∷ []) in
     let one : 16 - n ≡ suc (15 - n) = omega arith in
     let rest : 16 - (n + 1) ≡ 15 - n = omega arith in
-    rw (take_all 15 done (omega arith), take_all 15 more (omega arith), l, one, rest)
+    rw (l, one, rest)
     (set-append_seam done zero_segment (replicate (15 - n) zero_segment) u ∙ sym (append_assoc done (u ∷ []) (replicate (15 - n) zero_segment)))
 
-pub record-one : (done : List UserSegment) (u : UserSegment) → (u.range.start below u.range.end) ≡ true → pushed (recorded done) u ≡ recorded (done ++ u ∷ [])
-record-one done u q =
-    by_order (length done) 15
-    (λ h. rw (q, lt-ltb (length done) 15 h) (same-record _ _ _ _ (put-more done u h) (sym (long-more done u))))
-    (λ h. rw (q, le-ltb (length done) 15 h, take-append-le 15 done (u ∷ []) h, long-more done u))
+few-recorded : (us : List UserSegment) → length us ≤ 15 → all_recorded us ≡ Some (recorded us)
+few-recorded us h = rw (le-ltb 15 (length us) h)
 
-pub record-front : (image : List ℕ) (bss : VirtRange) (done : List UserSegment) (l : Load) → recorded_with bss (recorded done) l ≡ recorded (done ++ added image bss l)
-record-front image bss done Skip = rw (append-nil done)
-record-front image bss done (Taken g) =
+many-recorded : (us : List UserSegment) → 15 < length us → all_recorded us ≡ None
+many-recorded us h = rw (lt-ltb 15 (length us) h)
+
+pub record-one : (done : List UserSegment) (u : UserSegment) → (u.range.start below u.range.end) ≡ true → length done ≤ 15 → pushed (recorded done) u ≡ all_recorded (done ++ u ∷ [])
+record-one done u q m =
+    let l = length-append done (u ∷ []) in
+    by_order (length done) 15
+    (λ h. rw (q, lt-ltb (length done) 15 h) (same-record (put-more done u h) (sym l) ∙ sym (few-recorded (done ++ u ∷ []) (omega (arith, l)))))
+    (λ h. rw (q, le-ltb (length done) 15 h) (sym (many-recorded (done ++ u ∷ []) (omega (arith, l)))))
+  where
+    same-record : {a b : List UserSegment} {m n : ℕ} → a ≡ b → m ≡ n → ◌≡◌ {A = Option Recorded} (Some (record { segments = a; count = m })) (Some (record { segments = b; count = n }))
+    same-record p q = rw (p, q)
+
+pub few : (done : List UserSegment) → length done ≤ 15 → Some (recorded done) ≡ all_recorded (done ++ [])
+few done m = rw (append-nil done) (sym (few-recorded done m))
+
+-- what one place comes to
+pub record-front : (image : List ℕ) (bss : VirtRange) (done : List UserSegment) (l : Option Held) → length done ≤ 15 → recorded_with bss (recorded done) l ≡ all_recorded (done ++ added image bss l)
+record-front image bss done None m = few done m
+record-front image bss done (Some g) m =
     let u : UserSegment = pages_in bss g in
     split (u.range.start below u.range.end)
-    (λ q. record-one done u q ∙ ap (λ (us : List UserSegment). recorded (done ++ us)) (sym (one q)))
-    (λ q. rw q (rw (append-nil done)))
+    (λ q. record-one done u q m ∙ ap (λ (us : List UserSegment). all_recorded (done ++ us)) (sym (one q)))
+    (λ q. rw q (few done m))
   where
-    one : (let u : UserSegment = pages_in bss g in (u.range.start below u.range.end) ≡ true) → added image bss (Taken g) ≡ pages_in bss g ∷ []
+    one : (let u : UserSegment = pages_in bss g in (u.range.start below u.range.end) ≡ true) → added image bss (Some g) ≡ pages_in bss g ∷ []
     one q = rw q
+
+-- all that were recorded are so far at most fifteen, and recorded as they are
+pub some-recorded : (us : List UserSegment) (r : Recorded) → Some r ≡ all_recorded us → (length us ≤ 15) × (r ≡ recorded us)
+some-recorded us r e =
+    by_order 15 (length us)
+    (λ h. let z : ◌≡◌ {A = Option Recorded} (Some r) None = e ∙ many-recorded us h in cc)
+    (λ h. let z : Some r ≡ Some (recorded us) = e ∙ few-recorded us h in (h, cc))
+
+pub none-recorded : (us more : List UserSegment) → None ≡ all_recorded us → None ≡ all_recorded (us ++ more)
+none-recorded us more e =
+    by_order 15 (length us)
+    (λ h. sym (many-recorded (us ++ more) (omega (arith, h, length-append us more))))
+    (λ h. let z : ◌≡◌ {A = Option Recorded} None (Some (recorded us)) = e ∙ few-recorded us h in cc)
+
+pub too-many : (us : List UserSegment) → None ≡ all_recorded us → 15 < length us
+too-many us e =
+    by_order 15 (length us)
+    (λ h. h)
+    (λ h. let z : ◌≡◌ {A = Option Recorded} None (Some (recorded us)) = e ∙ few-recorded us h in cc)

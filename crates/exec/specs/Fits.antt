@@ -1,19 +1,16 @@
 -- What the layout of a program comes to: whether its segments fit, and the bss behind them. The code goes place by place, so that
 -- it is stated for one more segment and for all; `fits` is the specification's `layout_ok` with `bss_of`.
 -- Assumes nothing.
-use Rattle.std.specs.Prelude.{◌+◌, false, not, ◌&&◌, ◌||◌, List, [], ◌∷◌, length}
+use Rattle.std.specs.Prelude.{◌+◌, false, not, ◌&&◌, ◌||◌, List, [], ◌∷◌, length, Option, None, Some}
 use Rattle.spec.specs.Tests.{◌is◌, ◌below◌, ◌above◌, ◌⇒◌else◌}
 use Rattle.spec.specs.Numbers.{limit, page_up}
 use Rattle.spec.specs.Book.{range}
 use Rattle.spec.specs.Program.{Segment}
 use Rattle.spec.specs.Exec.{layout_ok, bss_of}
 use Rattle.spec.specs.declared.Setup.{Setup}
+use Rattle.spec.specs.declared.VirtRange.{VirtRange}
 use Rattle.elf.specs.declared.Segment.{Segment as Held}
-use Rattle.elf.specs.declared.Load.{Load}
-use Rattle.elf.specs.declared.Load.TheVariants.{Skip, Segment as Taken}
 use Rattle.exec.specs.declared.layout.Laid.{Laid}
-use Rattle.exec.specs.declared.layout.Fit.{Fit}
-use Rattle.exec.specs.declared.layout.Fit.TheVariants.{Fits, Refused}
 
 -- what a segment leaves behind it: whether it is data, and the bss
 abbrev pub laid : Held → Laid
@@ -23,9 +20,9 @@ laid g = record {
 }
 
 -- one more segment: nothing follows data, and it lies between UTZERO and limit
-abbrev pub fit_of : Setup → Laid → Load → Fit
-fit_of setup before Skip = Fits before
-fit_of setup before (Taken g) = before.closed || g.vaddr below setup.utzero || g.vaddr + g.memsz above limit setup ⇒ Refused else Fits (laid g)
+abbrev pub fit_of : Setup → Laid → Option Held → Option Laid
+fit_of setup before None = Some before
+fit_of setup before (Some g) = before.closed || g.vaddr below setup.utzero || g.vaddr + g.memsz above limit setup ⇒ None else Some (laid g)
 
 -- before the first segment
 abbrev pub nothing : Laid
@@ -36,5 +33,9 @@ abbrev pub last_of : Laid → List Segment → Laid
 last_of before [] = before
 last_of before (g ∷ gs) = last_of (record { closed = g.perm is 3; bss = bss_of (g ∷ []) }) gs
 
-abbrev pub fits : Setup → Laid → List Segment → Fit
-fits setup before gs = (not before.closed || length gs is 0) && layout_ok setup gs ⇒ Fits (last_of before gs) else Refused
+abbrev pub fits : Setup → Laid → List Segment → Option Laid
+fits setup before gs = (not before.closed || length gs is 0) && layout_ok setup gs ⇒ Some (last_of before gs) else None
+
+-- the bss of a program whose layout is right
+abbrev pub bss_behind : Setup → List Segment → Option VirtRange
+bss_behind setup gs = layout_ok setup gs ⇒ Some (bss_of gs) else None

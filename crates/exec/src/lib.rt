@@ -6,108 +6,127 @@
 mod layout;
 mod recorded;
 
-ghost use Rattle.std.specs.Prelude.{◌≡◌, true};
+ghost use Rattle.std.specs.Prelude.{◌≡◌, true, length, IfOk};
 ghost use Rattle.spec.specs.Numbers.{SetupOk};
-ghost use Rattle.spec.specs.Image.{read_error, program_of};
-ghost use Rattle.spec.specs.Exec.{layout_ok, program_bss};
-ghost use Rattle.exec.specs.Plan.{refused_plan, plan_of};
+ghost use Rattle.spec.specs.Book.{page_count};
+ghost use Rattle.spec.specs.Image.{read_error};
+ghost use Rattle.spec.specs.Exec.{layout_ok, layout_error, image_error, program_segments, program_bss, start_pieces};
+ghost use Rattle.image.specs.Images.{form, bytes, program};
+ghost use Rattle.exec.specs.Plan.{plan_segments, plan_number, own_number, SameImage};
 
-use crate::layout::Fit;
+use image::Image;
 pub use recorded::user_segment;
-use spec::{Form, Setup, UserSegment, VirtRange};
+use spec::{Form, Refusal, Setup, UserSegment, VirtRange};
 
-// All that a start needs of an image but its bytes: its refusal, or its entry point, its record's segments (`count` of the image, then the
-// stack, then zeros), its bss, and how many pages it takes with the stack. `own` is the number that the reader of its form refuses it
-// with.
+// All that a start needs of an image that is accepted: the image, its entry point, its record's segments (`count` of the image, then the
+// stack, then zeros), its bss, and how many pages it takes with the stack.
 #[derive(Clone, Copy)]
-pub struct Plan {
-    pub number: u64,
-    pub own: u64,
+pub struct Plan<'a> {
+    pub image: Image<'a>,
     pub entry: u64,
     pub segments: [UserSegment; 16],
     pub count: usize,
     pub bss: VirtRange,
     pub pages: u64,
+    pub ghost accepted: { layout_error image.setup (program image) ≡ 0 },
+    pub ghost entered: { entry ≡ (program image).entry },
+    pub ghost recorded: { segments ≡ plan_segments image.setup (program image) },
+    pub ghost counted: { count ≡ length (program_segments (program image)) },
+    pub ghost behind: { bss ≡ program_bss (program image) },
+    pub ghost taken: { pages ≡ page_count (start_pieces image.setup (program image)) },
 }
 
-// A plan that is refused: zeros but for its numbers.
-fn refused(number: u64, own: u64) -> Plan
-    ensures { result ≡ refused_plan number own }
-{
-    let zero = UserSegment {
-        range: VirtRange { start: 0, end: 0 },
-        perm: 0,
-    };
-    let segments = [zero; 16];
-    Plan {
-        number,
-        own,
-        entry: 0,
-        segments,
-        count: 0,
-        bss: VirtRange { start: 0, end: 0 },
-        pages: 0,
+// Why there is no plan for an image.
+#[derive(Clone, Copy, Debug, PartialEq, Eq)]
+pub enum Unplanned {
+    // The reader of its form refuses it.
+    Unreadable(Refusal),
+    // Its layout isn't right.
+    BadLayout,
+    // It has too many segments.
+    TooManySegments,
+}
+
+impl From<Refusal> for Unplanned {
+    ghost use Rattle.std.specs.Prelude.{◌≡◌};
+    ghost use Rattle.exec.specs.declared.Unplanned.{Unplanned};
+
+    ghost from_gives = { λ r u. u ≡ Unplanned.Unreadable r };
+
+    fn from(r: Refusal) -> Unplanned {
+        Unplanned::Unreadable(r)
     }
 }
 
-// The plan of an accepted image whose layout is right, given its bss: its segments, which may be too many, then the stack, and its pages.
-fn fill(setup: Setup, form: Form, image: &[u8], bss: VirtRange) -> Plan
-    requires image_value { read_error setup form image.now ≡ 0 }
-    requires image_value_2 { layout_ok setup (program_of setup form image.now).segments ≡ true }
-    requires bss_value { bss ≡ program_bss (program_of setup form image.now) }
-    requires setup_ok { SetupOk setup }
-    ensures { result ≡ plan_of setup form image.now }
-{
-    let size = setup.ustksize;
-    let r = crate::recorded::segments(setup, form, image, bss);
-    let count = r.count;
-    let mut segments = r.segments;
-    if count > 15 {
-        return refused(spec::SEGMENTS, 0);
-    }
-    let behind = VirtRange {
-        start: mem::page_up(bss.start),
-        end: bss.end,
-    };
-    let pages = mem::page_count(segments, count) + mem::pages(behind) + size / spec::PAGE_SIZE_4K;
-    let stack = setup::stack(setup);
-    let pc = image::entry_of(setup, form, image);
-    segments[count] = stack;
-    Plan {
-        number: 0,
-        own: 0,
-        entry: pc,
-        segments,
-        count,
-        bss,
-        pages,
-    }
-}
+impl From<Unplanned> for Refusal {
+    ghost use Rattle.std.specs.Prelude.{◌≡◌};
+    ghost use Rattle.exec.specs.Plan.{refusal_of};
 
-// The plan of an accepted image: its layout, then the rest.
-fn plan_parsed(setup: Setup, form: Form, image: &[u8]) -> Plan
-    requires image_value { read_error setup form image.now ≡ 0 }
-    requires setup_ok { SetupOk setup }
-    ensures { result ≡ plan_of setup form image.now }
-{
-    let f = crate::layout::layout(setup, form, image);
-    match f {
-        Fit::Refused => refused(spec::EBADEXEC, 0),
-        Fit::Fits(l) => {
-            let bss = l.bss;
-            fill(setup, form, image, bss)
+    ghost from_gives = { λ u r. r ≡ refusal_of u };
+
+    // 30 for any refusal of the reader's and for a layout that isn't right, 31 for too many segments.
+    fn from(u: Unplanned) -> Refusal {
+        match u {
+            Unplanned::Unreadable(_) | Unplanned::BadLayout => Refusal::BadExec,
+            Unplanned::TooManySegments => Refusal::Segments,
         }
     }
 }
 
-// All that a start or a replace needs of an image of a form but its bytes: the first steps of r9's exec and load. Nothing is mapped.
-pub fn plan_of(setup: Setup, form: Form, image: &[u8]) -> Plan
-    requires { SetupOk setup }
-    ensures { result ≡ plan_of setup form image.now }
-{
-    let number = image::number_of(setup, form, image);
-    if number != 0 {
-        return refused(spec::EBADEXEC, number);
+impl Unplanned {
+    ghost use Rattle.exec.specs.Plan.{unplanned_own};
+
+    // The number that the reader of its form refuses the image with, or 0.
+    pub fn own(self) -> u64
+        ensures { result ≡ unplanned_own self }
+    {
+        match self {
+            Unplanned::Unreadable(r) => u64::from(r),
+            _ => 0,
+        }
     }
-    plan_parsed(setup, form, image)
+}
+
+// The plan of an image whose layout is right, given its bss: its segments, which may be too many, then the stack, and its pages.
+fn fill<'a>(image: Image<'a>, bss: VirtRange) -> Result<Plan<'a>, Unplanned>
+    requires laid_out { layout_ok image.setup (program image).segments ≡ true }
+    requires bss_value { bss ≡ program_bss (program image) }
+    ensures number { plan_number result ≡ layout_error image.entry.setup (program image.entry) }
+    ensures own { own_number result ≡ 0 }
+    ensures holds { IfOk result (λ plan. SameImage plan.image image.entry.setup (form image.entry) (bytes image.entry)) }
+{
+    let setup = image.setup();
+    let Some(recorded) = crate::recorded::segments(&image, bss) else {
+        return Err(Unplanned::TooManySegments);
+    };
+    let count = recorded.count;
+    let mut segments = recorded.segments;
+    let behind = VirtRange {
+        start: mem::page_up(bss.start),
+        end: bss.end,
+    };
+    let pages = mem::page_count(&segments[..count]) + mem::pages(behind) + setup.ustksize / spec::PAGE_SIZE_4K;
+    segments[count] = setup::stack(setup);
+    Ok(Plan {
+        image,
+        entry: image.entry(),
+        segments,
+        count,
+        bss,
+        pages,
+    })
+}
+
+// All that a start or a replace needs of an image of a form: the first steps of r9's exec and load. Nothing is mapped.
+pub fn plan_of<'a>(setup: Setup, form: Form, bytes: &'a [u8]) -> Result<Plan<'a>, Unplanned>
+    requires { SetupOk setup }
+    ensures number { plan_number result ≡ image_error setup form bytes.now }
+    ensures own { own_number result ≡ read_error setup form bytes.now }
+    ensures holds { IfOk result (λ plan. SameImage plan.image setup form bytes.now) }
+{
+    let image = image::parse(setup, form, bytes)?;
+    let Some(bss) = crate::layout::layout(&image) else {
+        return Err(Unplanned::BadLayout);
+    };
+    fill(image, bss)
 }

@@ -5,59 +5,59 @@ use Prim.Native.Nat.{ℕ, ◌+◌, ◌-◌, ◌/◌, ◌^◌, ◌≤◌}
 use native.Mathlib.Omega.{arith}
 use lib.ListN.{length, take, set}
 use Rattle.spec.specs.Numbers.{page_up}
-use Rattle.spec.specs.Book.{page_count}
-use Rattle.spec.specs.Program.{Program}
-use Rattle.spec.specs.Image.{program_of}
-use Rattle.spec.specs.Exec.{program_segments, kept}
+use Rattle.spec.specs.Book.{stack, page_count}
+use Rattle.spec.specs.Exec.{program_segments, program_bss, kept}
+use Rattle.spec.specs.declared.Setup.{Setup}
 use Rattle.spec.specs.declared.UserSegment.{UserSegment}
 use Rattle.spec.specs.declared.VirtRange.{VirtRange}
-use Rattle.exec.specs.Pages.{recorded}
+use Rattle.image.specs.Images.{form, bytes, program}
+use Rattle.exec.specs.Pages.{recorded, all_recorded}
 use Rattle.exec.specs.declared.recorded.Recorded.{Recorded}
-use Rattle.exec.proofs.Planned.{plan-many, plan-yes, bss-low, all-pages, first-ones, with-stack, same-plan}
+use Rattle.exec.proofs.Kept.{some-recorded, too-many}
+use Rattle.exec.proofs.Planned.{bss-low, all-pages, few-segments, many-segments, first-ones, with-stack}
 use Rattle.exec.proofs.fill.Goals as goal
-use Rattle.exec.proofs.fill.Goals.{After-segments-r, Start}
+use Rattle.exec.proofs.fill.Goals.{In-Some, Start}
 
 -- the bss leaves room to round
 low : (c : Start) → c.args.bss.start ≤ 2 ^ 64 - 4096
 low c =
-    let a = c.args in
-    omega (arith, c.requires.setup_ok, bss-low a.setup a.form a.image.now c.requires.setup_ok c.requires.image_value c.requires.image_value_2, ap (λ (b : VirtRange). b.start) c.requires.bss_value)
+    let i = c.args.image in
+    omega (arith, i.setup_ok, bss-low i.setup (form i) (bytes i) i.setup_ok i.accepted c.requires.laid_out, ap (λ (b : VirtRange). b.start) c.requires.bss_value)
 
 -- what is recorded is the program's
-whole : (c : After-segments-r) → let a = c.args in c.segments-r.result ≡ recorded (program_segments (program_of a.setup a.form a.image.now))
+whole : (c : In-Some) → let us = program_segments (program c.args.image) in (length us ≤ 15) × (c.in-Some.recorded ≡ recorded us)
 whole c =
-    let a = c.args in
-    c.segments-r.ensures ∙ ap (λ (b : VirtRange). recorded (kept b (program_of a.setup a.form a.image.now).segments)) c.requires.bss_value
+    let p = program c.args.image in
+    some-recorded (program_segments p) c.in-Some.recorded (c.in-Some.ensures ∙ ap (λ (b : VirtRange). all_recorded (kept b p.segments)) c.requires.bss_value)
 
-many : (c : After-segments-r) → let a = c.args in c.segments-r.result.count ≡ length (program_segments (program_of a.setup a.form a.image.now))
-many c = ap (λ (r : Recorded). r.count) (whole c)
-
-pub segments-r-requires : goal.segments-r-requires
-segments-r-requires c =
-    record { image_value = (c.requires.image_value, c.requires.setup_ok); start_bound = low (goal.at.segments-r-requires c).Start }
-
-pub returns-then-count-gt15 : goal.returns-then-count-gt15
-returns-then-count-gt15 c =
-    let a = c.args in
-    c.refused.ensures
-    ∙ plan-many a.setup a.form a.image.now c.requires.image_value c.requires.image_value_2 (omega (arith, many (goal.at.returns-then-count-gt15 c).After-segments-r, c.if-count-gt15.true))
+pub segments-requires : goal.segments-requires
+segments-requires c = record { start_bound = low (goal.at.segments-requires c).Start }
 
 pub page_up-requires : goal.page_up-requires
 page_up-requires c = omega (arith, low (goal.at.page_up-requires c).Start)
 
-pub returns : goal.returns
-returns c =
-    let setup = c.args.setup in
-    let program : Program = program_of setup c.args.form c.args.image.now in
-    let us = program_segments program in
-    let few : length us ≤ 15 = omega (arith, many (goal.at.returns c).After-segments-r, c.if-count-gt15.false) in
-    let first = c.page_count.ensures.0 ∙ ap (λ (r : Recorded). page_count (take r.count r.segments)) (whole (goal.at.returns c).After-segments-r) ∙ ap page_count (first-ones setup us few) in
+pub returns-in_default-clause-number : goal.returns-in_default-clause-number
+returns-in_default-clause-number c =
+    let p = program c.args.image in
+    sym (many-segments c.args.image.setup p c.requires.laid_out (too-many (program_segments p) (c.in_default.ensures ∙ ap (λ (b : VirtRange). all_recorded (kept b p.segments)) c.requires.bss_value)))
+
+pub invariant_of-result : goal.invariant_of-result
+invariant_of-result c =
+    let i = c.args.image in
+    let p = program i in
+    let us = program_segments p in
+    let w = whole (goal.at.invariant_of-result c).In-Some in
+    let n : c.in-Some.recorded.count ≡ length us = ap (λ (r : Recorded). r.count) w.1 in
+    let first = c.page_count.ensures.0 ∙ ap (λ (r : Recorded). page_count (take r.count r.segments)) w.1 ∙ ap page_count (first-ones i.setup us) in
     let behind = c.pages.ensures.0 ∙ ap (λ (x : ℕ). (c.args.bss.end - x) / 4096) c.page_up.ensures
     ∙ ap (λ (b : VirtRange). (b.end - page_up b.start) / 4096) c.requires.bss_value in
-    same-plan _ _ _ _ _ _ _ _ _ _
-    c.entry_of-pc.ensures
-    (ap₂ (λ (r : Recorded) (g : UserSegment). set r.segments r.count g) (whole (goal.at.returns c).After-segments-r) c.stack-stack.ensures ∙ with-stack setup us few)
-    (many (goal.at.returns c).After-segments-r)
-    c.requires.bss_value
-    (ap₂ (λ (a b : ℕ). a + b + setup.ustksize / 4096) first behind ∙ sym (all-pages setup c.requires.setup_ok program))
-    ∙ sym (plan-yes setup c.args.form c.args.image.now c.requires.image_value c.requires.image_value_2 few)
+    let last = c.stack.ensures ∙ ap stack c.setup-setup.ensures in
+    let size = ap (λ (s : Setup). s.ustksize / 4096) c.setup-setup.ensures in
+    record {
+      accepted = few-segments i.setup p c.requires.laid_out w.0;
+      entered = c.entry.ensures;
+      recorded = ap₂ (λ (r : Recorded) (g : UserSegment). set r.segments r.count g) w.1 last ∙ with-stack i.setup p w.0;
+      counted = n;
+      behind = c.requires.bss_value;
+      taken = ap₂ (λ (a b : ℕ). a + b + c.setup-setup.result.ustksize / 4096) first behind ∙ ap (λ (k : ℕ). page_count us + ((program_bss p).end - page_up (program_bss p).start) / 4096 + k) size ∙ sym (all-pages i.setup i.setup_ok p);
+    }
