@@ -3,7 +3,7 @@
 
 #![tactic(auto)]
 
-ghost use Rattle.std.specs.Prelude.{◌≡◌};
+ghost use Rattle.std.specs.Prelude.{◌≡◌, not};
 ghost use Rattle.spec.specs.Tests.{◌is◌, all};
 ghost use Rattle.spec.specs.Book.{unused, lives as livesOf};
 ghost use Rattle.spec.specs.Sound.{bss_ok};
@@ -15,7 +15,7 @@ use spec::{DATA, Proc, Procs, Setup, TEXT, UserSegment, VirtRange};
 fn all_unused(segments: &[UserSegment]) -> bool
     ensures { result ≡ all unused segments.now }
 {
-    segments.iter().all(|s| *s == UserSegment::default())
+    segments.iter().all(|&s| s == UserSegment::default())
 }
 
 // Whether all bytes of a name are zero.
@@ -25,11 +25,18 @@ fn no_name(text: &[u8]) -> bool
     text.iter().all(|&b| b == 0)
 }
 
+// Whether a record is all zero.
+fn is_zero(p: &Proc) -> bool
+    ensures { result ≡ not (livesOf p.now) }
+{
+    all_unused(&p.segments) && no_name(&p.text) && p.bss == VirtRange::default()
+}
+
 // A process lives unless its record is all zero.
 pub fn lives(p: Proc) -> bool
     ensures { result ≡ livesOf p }
 {
-    !(all_unused(&p.segments) && no_name(&p.text) && p.bss == VirtRange::default())
+    !is_zero(&p)
 }
 
 // A segment of the image: page-aligned, non-empty, from `low` on and at most at limit, and with a permission.
@@ -67,15 +74,16 @@ fn bss_ok(setup: Setup, low: u64, bss: VirtRange) -> bool
     (utzero <= start) & (end % 4096 == 0) & (low <= first)
 }
 
-// Whether a record is a living process's: image segments, ascending and disjoint, then the stack, then unused places; and the bss.
-fn is_shaped(setup: Setup, p: Proc) -> bool
-    ensures { result ≡ shaped setup setup.utzero p.bss p.segments }
+// Whether a record's segments and bss are a living process's: image segments, ascending and disjoint, then the stack, then unused places;
+// and the bss.
+fn is_shaped(setup: Setup, segments: &[UserSegment], bss: VirtRange) -> bool
+    ensures { result ≡ shaped setup setup.utzero bss segments.now }
 {
     let stack = setup::stack(setup);
     let mut low = setup.utzero;
-    for (i, s) in p.segments.iter().enumerate() {
+    for (i, s) in segments.iter().enumerate() {
         if *s == stack {
-            return all_unused(&p.segments[i + 1..]) && bss_ok(setup, low, p.bss);
+            return all_unused(&segments[i + 1..]) && bss_ok(setup, low, bss);
         }
         if !image_ok(setup, low, *s) {
             return false;
@@ -86,15 +94,15 @@ fn is_shaped(setup: Setup, p: Proc) -> bool
 }
 
 // A record is a living process's, or a dead one's.
-fn record_ok(setup: Setup, p: Proc) -> bool
-    ensures { result ≡ passes setup p }
+fn record_ok(setup: Setup, p: &Proc) -> bool
+    ensures { result ≡ passes setup p.now }
 {
-    is_shaped(setup, p) || !lives(p)
+    is_shaped(setup, &p.segments, p.bss) || is_zero(p)
 }
 
 // Whether all records are.
 pub fn records_ok(setup: Setup, procs: Procs) -> bool
     ensures { result ≡ all (passes setup) procs.all }
 {
-    procs.all.iter().all(|p| record_ok(setup, *p))
+    procs.all.iter().all(|p| record_ok(setup, p))
 }

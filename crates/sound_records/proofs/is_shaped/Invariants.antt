@@ -5,4 +5,4 @@ use Rattle.sound_records.specs.Records.{shaped}
 use Rattle.sound_records.proofs.is_shaped.Given as goal
 
 abbrev pub invariant-loop-i : goal.invariant-loop-i
-invariant-loop-i l = shaped l.setup l.setup.utzero l.fn.p.bss l.fn.p.segments ≡ shaped l.setup l.low l.fn.p.bss (drop l.i l.fn.p.segments)
+invariant-loop-i l = shaped l.setup l.setup.utzero l.bss l.segments ≡ shaped l.setup l.low l.bss (drop l.i l.segments)
