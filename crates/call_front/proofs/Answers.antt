@@ -10,7 +10,10 @@ use Rattle.spec.specs.Book.{valid, free, same_segment, used, proc_at}
 use Rattle.spec.specs.Frames.{sized}
 use Rattle.spec.specs.Machine.{Ask, start, fork, plain, kind, Reply, outcome, refuse, lengths_fit, judge, weigh, call}
 use Rattle.spec.specs.World.{State, sound, taken, view, alone_for, answer, leave, after, Does}
+use Rattle.spec.specs.Refusals.{refusal_number}
 use Rattle.spec.specs.declared.Form.{Form}
+use Rattle.spec.specs.declared.Refusal.{Refusal}
+use Rattle.spec.proofs.Refused.{refused-not-0}
 use Rattle.spec.specs.declared.UserSegment.{UserSegment}
 use Rattle.spec.proofs.Bools.{or-test}
 use Rattle.spec.proofs.Lists.{same_self}
@@ -108,30 +111,31 @@ pub does-answered : (s : State) (n : ℕ) (q : Ask) (t : State) (r : Reply) → 
 unfolding after
 does-answered s n q t r h l = record { left = l ∙ ap (λ (x : Reply). leave s (call n q) (outcome x)) (sym h); said = sym h }
 
--- e is the number that was found first, and w what the call answers if there is none
-module _ (s : State) (n : ℕ) (q : Ask) (e a : ℕ) (w : Reply) (all : answer s (call n q) ≡ or_refuse a q w) (first : e ≡ a) where
-  pub refused-first : (e ≡ 0 → ⊥) → Does s (call n q) s (refuse e q)
-  refused-first ne =
-      does-refused s n q e (all ∙ sym (here (a isnt 0) (refuse a q) w (refuse e q) (isnt-holds-through e a 0 first ne) (ap (λ (k : ℕ). refuse k q) first)))
+-- a is the number that comes first, and w what the call answers if there is none
+module _ (s : State) (n : ℕ) (q : Ask) (a : ℕ) (w : Reply) (all : answer s (call n q) ≡ or_refuse a q w) where
+  pub refused-first : (r : Refusal) → refusal_number r ≡ a → Does s (call n q) s (refuse (refusal_number r) q)
+  refused-first r first =
+      does-refused s n q (refusal_number r)
+      (all ∙ sym (here (a isnt 0) (refuse a q) w (refuse (refusal_number r) q) (isnt-holds-through (refusal_number r) a 0 first (refused-not-0 r)) (ap (λ (k : ℕ). refuse k q) first)))
 
-  pub goes_on : e ≡ 0 → (t : State) (r : Reply) → w ≡ r → t ≡ leave s (call n q) (outcome r) → Does s (call n q) t r
-  goes_on z t r h l = does-answered s n q t r (all ∙ sym (past (a isnt 0) (refuse a q) w w (isnt-fails-through e a 0 first z) refl) ∙ h) l
+  pub goes_on : 0 ≡ a → (t : State) (r : Reply) → w ≡ r → t ≡ leave s (call n q) (outcome r) → Does s (call n q) t r
+  goes_on first t r h l = does-answered s n q t r (all ∙ sym (past (a isnt 0) (refuse a q) w w (isnt-fails-through 0 a 0 first refl) refl) ∙ h) l
 
 -- of a call that a living process makes for itself
-module _ (s : State) (n : ℕ) (q : Ask) (e : ℕ) (k : kind q ≡ plain) (first : e ≡ plain_error s n (lengths_fit q)) where
-  pub plain-refused : (e ≡ 0 → ⊥) → Does s (call n q) s (refuse e q)
-  plain-refused = refused-first s n q e _ _ (answer-plain s n q k) first
+module _ (s : State) (n : ℕ) (q : Ask) (k : kind q ≡ plain) where
+  pub plain-refused : (r : Refusal) → refusal_number r ≡ plain_error s n (lengths_fit q) → Does s (call n q) s (refuse (refusal_number r) q)
+  plain-refused = refused-first s n q _ _ (answer-plain s n q k)
 
-  pub plain-goes : e ≡ 0 → (t : State) (r : Reply) → weigh (view s n) (free s.store.book) (alone_for s (call n q)) q ≡ r → t ≡ leave s (call n q) (outcome r) → Does s (call n q) t r
-  plain-goes = goes_on s n q e _ _ (answer-plain s n q k) first
+  pub plain-goes : 0 ≡ plain_error s n (lengths_fit q) → (t : State) (r : Reply) → weigh (view s n) (free s.store.book) (alone_for s (call n q)) q ≡ r → t ≡ leave s (call n q) (outcome r) → Does s (call n q) t r
+  plain-goes = goes_on s n q _ _ (answer-plain s n q k)
 
 -- of a fork
-module _ (s : State) (n child e : ℕ) (first : e ≡ fork_error s n child) where
+module _ (s : State) (n child : ℕ) where
   abbrev asked : Ask
   asked = fork child (used (proc_at s.procs n).segments)
 
-  pub fork-refused : (e ≡ 0 → ⊥) → Does s (call n asked) s (refuse e asked)
-  fork-refused = refused-first s n asked e _ _ (answer-fork s n child) first
+  pub fork-refused : (r : Refusal) → refusal_number r ≡ fork_error s n child → Does s (call n asked) s (refuse (refusal_number r) asked)
+  fork-refused = refused-first s n asked _ _ (answer-fork s n child)
 
-  pub fork-goes : e ≡ 0 → (t : State) (r : Reply) → weigh (view s n) (free s.store.book) (alone_for s (call n asked)) asked ≡ r → t ≡ leave s (call n asked) (outcome r) → Does s (call n asked) t r
-  fork-goes = goes_on s n asked e _ _ (answer-fork s n child) first
+  pub fork-goes : 0 ≡ fork_error s n child → (t : State) (r : Reply) → weigh (view s n) (free s.store.book) (alone_for s (call n asked)) asked ≡ r → t ≡ leave s (call n asked) (outcome r) → Does s (call n asked) t r
+  fork-goes = goes_on s n asked _ _ (answer-fork s n child)

@@ -1,59 +1,45 @@
 -- The numbers that come first: the one that is given, and what none tells.
-use Prim.Native.Nat.{ℕ, ◌*◌, ◌≤◌, ◌<◌}
+use Prim.Native.Nat.{ℕ, ◌*◌, ◌≤◌}
 use native.Mathlib.Omega.{arith}
 use mathlib.Core.Path.{◌≡◌, refl, sym, ap, ◌∙◌}
 use mathlib.Core.Bool.{Bool, true, false, not, ◌&&◌}
 use mathlib.Core.List.{List}
 use lib.ListN.{length}
-use borrow.Author.Tests.{eqb-true, eqb-false, le-ltb}
-use Rattle.spec.specs.Tests.{◌is◌, ◌below◌, within, ◌⇒◌else◌, ◌or_else◌}
+use borrow.Author.Tests.{eqb-true}
+use Rattle.spec.specs.Tests.{◌is◌, within, ◌⇒◌else◌, ◌or_else◌}
 use Rattle.spec.specs.Numbers.{setup_error}
 use Rattle.spec.specs.Book.{valid, frame_count}
 use Rattle.spec.specs.Frames.{sized, store}
 use Rattle.spec.specs.World.{State, sound, taken}
 use Rattle.spec.proofs.Bools.{both, clash, not-true, within-means}
-use Rattle.spec.proofs.Chain.{here, past, not-holds, not-fails}
+use Rattle.spec.proofs.Chain.{past, not-fails}
 use Rattle.spec_laws.proofs.Checks.{or-else}
 use Rattle.sound.specs.Numbers.{sound_error}
 use Rattle.call_front.specs.Numbers.{number_error, plain_error, begin_error, fork_error}
 
--- ---- in code: a test b of what the specification calls b' gives its number, or the next is looked for
-
-pub given : (b b' : Bool) (k e : ℕ) → b ≡ b' → not b ≡ true → k ≡ (not b' ⇒ k else e)
-given b b' k e h t = here (not b') k e k (not-holds b b' h t) refl
+-- ---- in code: after a test b of what the specification calls b' the next number is looked for
 
 pub further : (b b' : Bool) (k e r : ℕ) → b ≡ b' → not b ≡ false → r ≡ e → r ≡ (not b' ⇒ k else e)
 further b b' k e r h t g = past (not b') k e r (not-fails b b' h t) g
 
--- the same of what the check of the book gives: k, the setup's number, if it is not 0, or 2; e is what it gave
+-- a number that is given by itself is given before others
+pub given_still : (t : Bool) (k e r : ℕ) → (r ≡ 0 → ⊥) → r ≡ (t ⇒ k else 0) → r ≡ (t ⇒ k else e)
+given_still true k e r ne h = h
+given_still false k e r ne h = absurd (ne h)
+
+-- what the check of the book gives: k, the setup's number, if it is not 0, or 2; e is what it gave
 two-given : (a b : Bool) (k e next : ℕ) → e ≡ (a ⇒ (not b ⇒ 2 else 0) else k) → (e ≡ 0 → ⊥) → e ≡ (a ⇒ (not b ⇒ 2 else next) else k)
 two-given true true k e next h ne = absurd (ne h)
 two-given true false k e next h ne = h
 two-given false b k e next h ne = h
 
-two-further : (a b : Bool) (k e next r : ℕ) → (a ≡ false → k ≡ 0 → ⊥) → e ≡ (a ⇒ (not b ⇒ 2 else 0) else k) → e ≡ 0 → r ≡ next → r ≡ (a ⇒ (not b ⇒ 2 else next) else k)
-two-further true true k e next r ne h z g = g
-two-further true false k e next r ne h z g = absurd (let q : ◌≡◌ {A = ℕ} 2 0 = sym h ∙ z in omega arith)
-two-further false b k e next r ne h z g = absurd (ne refl (sym h ∙ z))
-
 module _ (s : State) (e : ℕ) (next : ℕ) (found : e ≡ sound_error s.setup s.store.book s.procs) where
   pub sound-given : (e ≡ 0 → ⊥) → e ≡ (setup_error s.setup or_else not (sound s) ⇒ 2 else next)
   sound-given = two-given (setup_error s.setup is 0) (sound s) (setup_error s.setup) e next found
 
-  pub sound-further : (r : ℕ) → e ≡ 0 → r ≡ next → r ≡ (setup_error s.setup or_else not (sound s) ⇒ 2 else next)
-  sound-further r = two-further (setup_error s.setup is 0) (sound s) (setup_error s.setup) e next r (eqb-false (setup_error s.setup) 0) found
-
 -- ---- sizes
 
-last-false : (a b : Bool) → (a && (b && false)) ≡ false
-last-false true true = refl
-last-false true false = refl
-last-false false b = refl
-
 module _ (frames book : List ℕ) where
-  pub sizes-many : 1024 < frame_count book → sized (store frames book) ≡ false
-  sizes-many h = rw (le-ltb (frame_count book) 1025 h) (last-false (length frames is 4096 * frame_count book && length book is 17 * frame_count book) (not (frame_count book below 1)))
-
   pub sizes-words : sized (store frames book) ≡ true → (length frames ≡ 4096 * frame_count book) × (1 ≤ frame_count book) × (frame_count book ≤ 1024) × (length book ≡ 17 * frame_count book)
   sizes-words e =
       let p = both (length frames is 4096 * frame_count book && length book is 17 * frame_count book) (within 1 1025 (frame_count book)) e in
@@ -63,7 +49,7 @@ module _ (frames book : List ℕ) where
 
 -- ---- where no number is given
 
-none_here : (b : Bool) (k e : ℕ) → (k is 0) ≡ false → (not b ⇒ k else e) ≡ 0 → (b ≡ true) × (e ≡ 0)
+pub none_here : (b : Bool) (k e : ℕ) → (k is 0) ≡ false → (not b ⇒ k else e) ≡ 0 → (b ≡ true) × (e ≡ 0)
 none_here true k e z h = (refl, h)
 none_here false k e z h = absurd (let w : (k is 0) ≡ true = rw h in let v : false ≡ true = sym z ∙ w in let u : ◌≡◌ {A = ℕ} 0 1 = cc in omega arith)
 

@@ -12,8 +12,9 @@ mod first;
 // 1, 38, 39 and 2 to 5, for each kind of call.
 pub mod numbers;
 
-// A process that ends.
+// A process that ends, and a call that is refused.
 pub mod ending;
 
+pub use ending::refused;
 pub use first::sizes_ok;
 pub use record::{is_number, lives, zero_proc};

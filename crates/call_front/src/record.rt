@@ -12,7 +12,7 @@ use spec::{Proc, Procs, UserSegment, VirtRange};
 pub fn is_number(number: u64) -> bool
     ensures { result ≡ valid number }
 {
-    !(number < 1) & (number < 17)
+    (1..17).contains(&number)
 }
 
 // The record of process `number`.
@@ -20,47 +20,30 @@ pub fn proc_at(procs: Procs, number: u64) -> Proc
     requires { valid number ≡ true }
     ensures { result ≡ proc_at procs number }
 {
-    let i = (number - 1) as usize;
-    procs.all[i]
+    procs.all[(number - 1) as usize]
 }
 
 // The records with that of process `number` set.
-pub fn with_proc(procs: Procs, number: u64, p: Proc) -> Procs
+pub fn with_proc(mut procs: Procs, number: u64, p: Proc) -> Procs
     requires { valid number ≡ true }
     ensures { result ≡ set_proc procs number p }
 {
-    let mut ps = procs;
-    let i = (number - 1) as usize;
-    ps.all[i] = p;
-    ps
+    procs.all[(number - 1) as usize] = p;
+    procs
 }
 
 // The record of no process: all zero.
 pub fn zero_proc() -> Proc
     ensures { result ≡ zero_proc }
 {
-    let s = UserSegment {
-        range: VirtRange { start: 0, end: 0 },
-        perm: 0,
-    };
-    let segments = [s; 16];
-    let text = [0u8; 28];
-    Proc {
-        segments: segments,
-        text: text,
-        bss: VirtRange { start: 0, end: 0 },
-    }
+    Proc::default()
 }
 
 // Whether process `number` lives; a number outside 1 to 16 is none's.
 pub fn lives(procs: Procs, number: u64) -> bool
     ensures { result ≡ (valid number && livesOf (proc_at procs number)) }
 {
-    if !is_number(number) {
-        return false;
-    }
-    let p = proc_at(procs, number);
-    sound_records::lives(p)
+    is_number(number) && sound_records::lives(proc_at(procs, number))
 }
 
 // The pages of a bss as a segment: from its start rounded up, as data.
@@ -68,10 +51,8 @@ pub fn bss_segment(bss: VirtRange) -> UserSegment
     requires { page_up bss.start < 2 ^ 64 }
     ensures { result ≡ bss_segment bss }
 {
-    let start = mem::page_up(bss.start);
-    let end = bss.end;
     UserSegment {
-        range: mem::range(start, end),
+        range: mem::range(mem::page_up(bss.start), bss.end),
         perm: spec::DATA,
     }
 }

@@ -1,55 +1,28 @@
--- `number_ready` meets its contract: each test is the specification's, in its order.
-use native.Mathlib.Omega.{arith}
+-- `number_ready` meets its contract: the book was found sound where the number is looked at.
 use mathlib.Core.Path.{◌≡◌, refl, sym, ap, ◌∙◌}
-use mathlib.Core.Bool.{Bool, ◌&&◌}
+use mathlib.Core.Bool.{true}
+use Rattle.std.specs.Prelude.{Err}
+use Rattle.std.proofs.lemmas.Result.{err_from_is_err_and}
 use Rattle.spec.specs.Frames.{sized, store}
+use Rattle.spec.specs.Refusals.{refusal_number, number_of}
 use Rattle.spec.specs.World.{State, state_of}
-use Rattle.spec.proofs.Bools.{both}
+use Rattle.spec.specs.declared.Refusal.{Refusal}
+use Rattle.spec.proofs.Refused.{refused-not-0}
 use Rattle.call_front.specs.Numbers.{number_error}
-use Rattle.call_front.proofs.FirstNumbers.{given, further, sound-given, sound-further, sizes-words}
-use Rattle.sound.proofs.LookedUp.{left-zeros, left-filled, filled_of}
+use Rattle.call_front.proofs.FirstNumbers.{sound-given}
+use Rattle.call_front.proofs.Left.{left_next}
 use Rattle.call_front.proofs.first.number_ready.Goals as goal
-use Rattle.call_front.proofs.first.number_ready.Goals.{After-sizes_ok, Start}
 
--- the first test is of sizes and lengths
-sizes-is : (c : After-sizes_ok)
-    → (c.sizes_ok.result && c.args.fits)
-    ≡ (sized (store c.args.frames.now c.args.book.now) && c.args.fits)
-sizes-is c = ap (λ (b : Bool). b && c.args.fits) c.sizes_ok.ensures
-
-abbrev state : Start → State
-state a = state_of a.args.setup a.args.frames.now a.args.book.now a.args.procs
-
-pub returns-then-not-ok : goal.returns-then-not-ok
+pub returns-in_err-prepare-clause-value : goal.returns-in_err-prepare-clause-value
 unfolding number_error
-returns-then-not-ok c =
-    record { value = given _ _ 1 _ (sizes-is (goal.at.returns-then-not-ok c).After-sizes_ok) c.if-not-ok.true-raw; leaves = left-zeros 1 refl c.requires }
+returns-in_err-prepare-clause-value c =
+    let a = c.args in
+    let e : Refusal = c.in_err-prepare.field-0.0 in
+    let r = err_from_is_err_and c.from_residual.result c.from_residual.ensures.1 in
+    let told : number_of c.from_residual.result ≡ refusal_number e = ap number_of (r.1 ∙ ap Err r.2) in
+    let s : State = state_of a.setup a.frames.now a.book.now a.procs in
+    let sizes : sized (store a.frames.now a.book.now) ≡ true = sym c.sizes_ok.ensures ∙ c.if-not-sizes_ok.false in
+    rw (sizes, c.if-not-fits.false) (told ∙ sound-given s (refusal_number e) _ c.in_err-prepare.ensures.value (refused-not-0 e))
 
-pub prepare-e-requires : goal.prepare-e-requires
-prepare-e-requires c =
-    let s = sym c.sizes_ok.ensures ∙ (both c.sizes_ok.result c.args.fits c.if-not-ok.false).0 in
-    let z = sizes-words c.args.frames.now c.args.book.now s in
-    (omega (arith, z.2, z.3), c.requires)
-
-pub returns-then-e-ne0 : goal.returns-then-e-ne0
-unfolding number_error
-returns-then-e-ne0 c =
-    record { value = further _ _ 1 _ _ (sizes-is (goal.at.returns-then-e-ne0 c).After-sizes_ok) c.if-not-ok.false-raw (sound-given (state (goal.at.returns-then-e-ne0 c).Start) _ _ c.prepare-e.ensures.value c.if-e-ne0.true); leaves = c.prepare-e.ensures.leaves }
-
-pub returns-then-not-is_number : goal.returns-then-not-is_number
-unfolding number_error
-returns-then-not-is_number c =
-    record {
-      value = further _ _ 1 _ 3 (sizes-is (goal.at.returns-then-not-is_number c).After-sizes_ok) c.if-not-ok.false-raw
-          (sound-further (state (goal.at.returns-then-not-is_number c).Start) _ _ c.prepare-e.ensures.value 3 c.if-e-ne0.false (given _ _ 3 0 c.is_number.ensures c.if-not-is_number.true-raw));
-      leaves = left-filled 3 refl (filled_of c.prepare-e.ensures.leaves c.if-e-ne0.false);
-    }
-
-pub returns : goal.returns
-unfolding number_error
-returns c =
-    record {
-      value = further _ _ 1 _ 0 (sizes-is (goal.at.returns c).After-sizes_ok) c.if-not-ok.false-raw
-          (sound-further (state (goal.at.returns c).Start) _ _ c.prepare-e.ensures.value 0 c.if-e-ne0.false (further _ _ 3 0 0 c.is_number.ensures c.if-not-is_number.false-raw refl));
-      leaves = left-filled 0 refl (filled_of c.prepare-e.ensures.leaves c.if-e-ne0.false);
-    }
+pub returns-clause-leaves : goal.returns-clause-leaves
+returns-clause-leaves c = left_next _ 3 _ refl c.number_ok.ensures c.in_ok-prepare.ensures.leaves
