@@ -1,31 +1,20 @@
 -- Where a push goes: its room, its two ranges and its registers, by the sizes of arguments.
-use Prim.Native.Nat.{ℕ, ◌+◌, ◌*◌, ◌-◌, ◌/◌, ◌≤◌, ◌<◌}
+use Prim.Native.Nat.{ℕ, ◌+◌, ◌*◌, ◌-◌, ◌/◌, ◌≤◌}
 use native.Mathlib.Omega.{arith}
-use mathlib.Core.Path.{◌≡◌, sym, ap, ap₂, ◌∙◌}
-use mathlib.Core.Bool.{true, false}
+use mathlib.Core.Path.{◌≡◌, ap, ap₂, ◌∙◌}
+use mathlib.Core.Bool.{false}
 use mathlib.Core.List.{List}
-use lib.Dec.{leb}
 use lib.ListN.{length, take}
 use lib.Seq.{take-append_seam}
-use borrow.Author.Tests.{ltb-false, leb-true, leb-false, lt-ltb, le-ltb}
+use borrow.Author.Tests.{ltb-false, le-ltb}
 use Rattle.spec.specs.Numbers.{arg_limit, SetupOk}
 use Rattle.spec.specs.Frames.{put}
 use Rattle.spec.specs.Exec.{strings, args_error, strings_at, argv_at, registers, below_zero}
-use Rattle.spec.proofs.Bools.{split}
 use Rattle.spec.proofs.Args.{args-means}
 use Rattle.spec.specs.declared.Setup.{Setup}
 use Rattle.exec_args.specs.Sizes.{below_zero_by, argv_by, registers_by}
 
 -- ---- the test of a push below address 0
-
-pub low-past : (top size count : ℕ) → top < size → below_zero_by top size count ≡ true
-low-past top size count h = lt-ltb ((top - size) / 8 * 8) (8 * (count + 1)) (omega arith)
-
-pub low-words : (top size count : ℕ) → leb ((top - size) / 8) count ≡ below_zero_by top size count
-low-words top size count =
-    split (leb ((top - size) / 8) count)
-    (λ q. let h = leb-true ((top - size) / 8) count q in q ∙ sym (lt-ltb ((top - size) / 8 * 8) (8 * (count + 1)) (omega arith)))
-    (λ q. let h = leb-false ((top - size) / 8) count q in q ∙ sym (le-ltb ((top - size) / 8 * 8) (8 * (count + 1)) (omega arith)))
 
 -- strings and pointers lie between address 0 and top
 pub low-room : (top size count : ℕ) → below_zero_by top size count ≡ false → 8 * (count + 1) ≤ (top - size) / 8 * 8

@@ -1,13 +1,13 @@
--- Searches through lengths and bytes: what is left at each turn.
+-- A search through lengths: what is left at each turn.
 use Prim.Native.Nat.{ℕ, ◌+◌, ◌-◌, ◌≤◌, ◌<◌}
 use native.Mathlib.Omega.{arith}
 use mathlib.Core.Path.{◌≡◌, sym, ap, ◌∙◌}
-use mathlib.Core.Bool.{true, false}
+use mathlib.Core.Bool.{false}
 use mathlib.Core.List.{List}
 use lib.Dec.{eqb}
 use lib.ListN.{length, get_or, drop, drop_of_length-le}
 use borrow.Author.Tests.{eqb-true, eqb-false, eq-eqb, ne_eqb}
-use Rattle.spec.specs.Tests.{◌is◌, has, sum}
+use Rattle.spec.specs.Tests.{◌is◌, sum}
 use Rattle.spec.proofs.Bools.{split}
 use Rattle.spec.proofs.Lists.{drop-next}
 
@@ -33,14 +33,3 @@ sum_past l i left h k = rw (drop-next l i 0 h) (ne_eqb (get_or l i 0 + sum (drop
 
 pub sum-end : (l : List ℕ) (i left : ℕ) → length l ≤ i → (sum (drop i l) is left) ≡ (left is 0)
 sum-end l i left h = rw (drop_of_length-le l h) (same_test 0 left left 0 (λ e. omega arith) (λ e. omega arith))
-
--- ---- whether a byte stands in bytes
-
-pub has_here : (x : ℕ) (l : List ℕ) (i : ℕ) → i < length l → get_or l i 0 ≡ x → has x (drop i l) ≡ true
-has_here x l i h e = rw (drop-next l i 0 h, eq-eqb (get_or l i 0) x e)
-
-pub has-turn : (x : ℕ) (l : List ℕ) (i : ℕ) → i < length l → (get_or l i 0 ≡ x → ⊥) → has x (drop i l) ≡ has x (drop (i + 1) l)
-has-turn x l i h ne = rw (drop-next l i 0 h, ne_eqb (get_or l i 0) x ne)
-
-pub has_end : (x : ℕ) (l : List ℕ) (i : ℕ) → length l ≤ i → has x (drop i l) ≡ false
-has_end x l i h = rw (drop_of_length-le l h)

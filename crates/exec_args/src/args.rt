@@ -9,24 +9,16 @@ ghost use Rattle.exec_args.specs.Sizes.{saturated, size_error, below_zero_by, re
 
 use spec::{Refusal, Setup};
 
-// The highest number of 64 bits, and how many words of 8 bytes have a size that they hold.
-const MAX: u64 = 0xffff_ffff_ffff_ffff;
-
-const MAX_WORDS: u64 = 0x1fff_ffff_ffff_ffff;
-
 // Whether the lengths of arguments sum to their bytes. The sum isn't made, since it may pass 64 bits: what is left of the bytes is.
 pub fn lengths_fit(bytes: &[u8], lengths: &[u64]) -> bool
     ensures { result ≡ (sum lengths.now is length bytes.now) }
 {
     let mut left = bytes.len() as u64;
-    let mut i = 0;
-    while i < lengths.len() {
-        let n = lengths[i];
-        if n > left {
+    for n in lengths {
+        let Some(rest) = left.checked_sub(*n) else {
             return false;
-        }
-        left -= n;
-        i += 1;
+        };
+        left = rest;
     }
     left == 0
 }
@@ -35,31 +27,18 @@ pub fn lengths_fit(bytes: &[u8], lengths: &[u64]) -> bool
 pub fn has_nul(bytes: &[u8]) -> bool
     ensures { result ≡ has 0 bytes.now }
 {
-    let mut i = 0;
-    while i < bytes.len() {
-        if bytes[i] == 0 {
-            return true;
-        }
-        i += 1;
-    }
-    false
+    bytes.contains(&0)
 }
 
 // The stack that `nargs` arguments take, given their strings' size, NULs included: the strings, their pointers and the null after
 // them, and 8 bytes of padding, the most that a 16-byte aligned top leaves below them. A size that 64 bits don't hold is given as
-// their highest number, as `saturating_add`, which the Rust has for its last sum.
+// their highest number, as the Rust has its last sum.
 pub fn stack_size(strings: u64, nargs: u64) -> u64
     ensures { result ≡ saturated (stack_size strings nargs) }
 {
     // All of it is words of 8 bytes.
-    let words = strings / 8 + (strings % 8 + 7) / 8 + 2;
-    if words > MAX_WORDS {
-        return MAX;
-    }
-    if nargs > MAX_WORDS - words {
-        return MAX;
-    }
-    8 * (words + nargs)
+    let words = strings.div_ceil(8).saturating_add(nargs).saturating_add(2);
+    words.saturating_mul(8)
 }
 
 // Checks that arguments can be pushed onto a stack, and tells the size of their strings. Arguments may use at most a quarter of
@@ -88,11 +67,8 @@ pub fn args_size(setup: Setup, bytes: &[u8], lengths: &[u64]) -> Result<u64, Ref
 pub fn below_zero(top: u64, size: u64, nargs: u64) -> bool
     ensures { result ≡ below_zero_by top size nargs }
 {
-    if size > top {
-        return true;
-    }
     // Whole words from address 0 up to the strings, for the pointers and the null.
-    (top - size) / 8 <= nargs
+    size > top || (top - size) / 8 <= nargs
 }
 
 // The registers to start at `pc` with, once arguments are pushed below `top`: a stack pointer below the pointers, 16-byte aligned

@@ -12,25 +12,13 @@ ghost use Rattle.exec_args.specs.Laid.{Standing, Laid};
 // A buffer of this size holds the strings and the pointers of arguments that pass.
 pub const BUFFER_SIZE: usize = spec::MAX_ARGS as usize;
 
-// `d` becomes `s`, as `copy_from_slice`.
-fn copy(d: &mut [u8], s: &[u8])
-    requires { length d.old ≡ length s.now }
-    ensures { d.new ≡ s.now }
-{
-    let mut i = 0;
-    while i < d.len() {
-        d[i] = s[i];
-        i += 1;
-    }
-}
-
 // Puts the string `s` and its NUL into `buf` from place `at` on.
 fn string_into(buf: &mut [u8], at: usize, s: &[u8])
     requires { at + length s.now < length buf.old }
     ensures { buf.new ≡ put buf.old at (s.now ++ 0 ∷ []) }
 {
     let end = at + s.len();
-    copy(&mut buf[at..end], s);
+    buf[at..end].copy_from_slice(s);
     buf[end] = 0;
 }
 
@@ -40,32 +28,15 @@ fn strings_into(buf: &mut [u8], bytes: &[u8], lengths: &[u64]) -> usize
     ensures buf_after { buf.new ≡ put buf.old 0 (strings (args_of bytes.now lengths.now)) }
     ensures value { result ≡ length (strings (args_of bytes.now lengths.now)) }
 {
-    let mut from = 0;
-    let mut i = 0;
-    while i < lengths.len() {
-        let end = from + lengths[i] as usize;
-        // A NUL stands behind each string so far.
-        string_into(buf, from + i, &bytes[from..end]);
-        from = end;
-        i += 1;
+    let mut at = 0;
+    let mut rest = bytes;
+    for n in lengths {
+        let (s, behind) = rest.split_at(*n as usize);
+        string_into(buf, at, s);
+        at += s.len() + 1;
+        rest = behind;
     }
-    from + i
-}
-
-// The 8 bytes of a number, as `u64::to_le_bytes`.
-fn to_le_bytes(n: u64) -> [u8; 8]
-    ensures { result ≡ le_bytes 8 n }
-{
-    [
-        (n % 256) as u8,
-        ((n >> 8) % 256) as u8,
-        ((n >> 16) % 256) as u8,
-        ((n >> 24) % 256) as u8,
-        ((n >> 32) % 256) as u8,
-        ((n >> 40) % 256) as u8,
-        ((n >> 48) % 256) as u8,
-        (n >> 56) as u8,
-    ]
+    at
 }
 
 // Puts the pointer `p` into `buf` from place `at` on.
@@ -73,9 +44,7 @@ fn pointer_into(buf: &mut [u8], at: usize, p: u64)
     requires { at + 8 ≤ length buf.old }
     ensures { buf.new ≡ put buf.old at (le_bytes 8 p) }
 {
-    let b = to_le_bytes(p);
-    let end = at + 8;
-    copy(&mut buf[at..end], &b);
+    buf[at..at + 8].copy_from_slice(&p.to_le_bytes());
 }
 
 // Puts pointers to strings of these lengths, the first at address `first`, and the null after them into `buf` from its start on.
@@ -83,14 +52,14 @@ fn pointers_into(buf: &mut [u8], first: u64, lengths: &[u64])
     requires { (8 * (length lengths.now + 1) ≤ length buf.old) × (first + sum lengths.now + length lengths.now < 2 ^ 64) }
     ensures { buf.new ≡ put buf.old 0 (pointers_by first lengths.now) }
 {
+    let mut at = 0;
     let mut s = first;
-    let mut i = 0;
-    while i < lengths.len() {
-        pointer_into(buf, 8 * i, s);
-        s += lengths[i] + 1;
-        i += 1;
+    for n in lengths {
+        pointer_into(buf, at, s);
+        at += 8;
+        s += *n + 1;
     }
-    pointer_into(buf, 8 * i, 0);
+    pointer_into(buf, at, 0);
 }
 
 // Puts arguments into `buf`: their strings, and behind them the pointers to them, for a push below `top`. Tells the strings' size.
@@ -112,11 +81,9 @@ pub fn pointers_behind(buf: &mut [u8], top: u64, size: usize, count: usize)
 {
     let first = top - (size as u64);
     let mut from = 0;
-    let mut i = 0;
-    while i < count {
+    for i in 0..count {
         pointer_into(buf, size + 8 * i, first + (from as u64));
         from += kstr::to_nul(&buf[from..size]) + 1;
-        i += 1;
     }
-    pointer_into(buf, size + 8 * i, 0);
+    pointer_into(buf, size + 8 * count, 0);
 }

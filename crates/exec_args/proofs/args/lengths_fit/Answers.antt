@@ -1,20 +1,23 @@
--- `args::lengths_fit` meets its contract. The loop's invariant: the lengths from `i` on would have to sum to what is left.
-use mathlib.Core.Path.{sym, ◌∙◌}
+-- `args::lengths_fit` meets its contract. The loop's invariant: the lengths from the next on would have to sum to what is left.
+use mathlib.Core.Path.{sym, ap, ◌∙◌}
+use Prim.Native.Nat.{ℕ, ◌+◌}
+use lib.ListN.{drop}
+use Rattle.spec.specs.Tests.{◌is◌, sum}
 use native.Mathlib.Omega.{arith}
 use Rattle.exec_args.proofs.Scan.{sum-turn, sum_past, sum-end}
 use Rattle.exec_args.proofs.args.lengths_fit.Goals as goal
 
-pub returns-then-n-left : goal.returns-then-n-left
-returns-then-n-left c =
-    let l = c.loop-i in
-    sym (l.invariant.1 ∙ sum_past c.args.lengths.now l.i l.left (omega arith) c.if-n-left.true)
+pub returns-in_default : goal.returns-in_default
+returns-in_default c =
+    let l = c.loop-n in
+    sym (l.invariant ∙ sum_past c.args.lengths.now l.n-index l.left c.loop-n-test.true (omega (arith, c.in_default.ensures)))
 
-pub loop-i-preserved : goal.loop-i-preserved
-loop-i-preserved c =
-    let l = c.loop-i in
-    (omega arith, l.invariant.1 ∙ sum-turn c.args.lengths.now l.i l.left (omega arith) c.if-n-left.false)
+pub loop-n-preserved : goal.loop-n-preserved
+loop-n-preserved c =
+    let l = c.loop-n in
+    l.invariant ∙ sum-turn c.args.lengths.now l.n-index l.left c.loop-n-test.true c.in-Some.ensures.0 ∙ ap (λ (x : ℕ). sum (drop (l.n-index + 1) c.args.lengths.now) is x) (sym c.in-Some.ensures.1)
 
 pub returns : goal.returns
 returns c =
-    let l = c.loop-i in
-    sym (l.invariant.1 ∙ sum-end c.args.lengths.now l.i l.left c.loop-i-test.false)
+    let l = c.loop-n in
+    sym (l.invariant ∙ sum-end c.args.lengths.now l.n-index l.left c.loop-n-test.false)

@@ -6,6 +6,7 @@ use native.Mathlib.Omega.{arith}
 use mathlib.Core.List.{List, []}
 use lib.ListN.{length, get_or, take, drop, drop_of_length-le}
 use lib.Seq.{length-take-le}
+use Rattle.spec.specs.Numbers.{le_bytes}
 use Rattle.spec.specs.Frames.{put}
 use Rattle.spec.specs.Exec.{strings, pointers}
 use Rattle.kstr.specs.Nul.{to_nul}
@@ -31,10 +32,10 @@ module _ (c : After-to_nul) where
     more = omega (arith, standing.counted, c.loop-i-test.true)
 
     room : c.args.size + 8 * (length args + 1) ≤ length c.loop-i.buf
-    room = omega (arith, standing.counted, c.loop-i.invariant.2, c.requires.count_in_bounds.0)
+    room = omega (arith, standing.counted, c.loop-i.invariant.1, c.requires.count_in_bounds.0)
 
     along : Along first c.args.size c.args.buf.now args c.loop-i.buf c.loop-i.from c.loop-i.i
-    along = c.loop-i.invariant.3 args standing
+    along = c.loop-i.invariant.2 args standing
 
     found : c.to_nul.result ≡ length text
     found =
@@ -47,22 +48,7 @@ module _ (c : After-to_nul) where
 pub loop-i-init : goal.loop-i-init
 loop-i-init c =
     let a = c.args in
-    (omega arith, omega arith, refl, λ args s. along-none (a.top - a.size) a.size a.buf.now args a.count s)
-
-pub overflow_mul-i : goal.overflow_mul-i
-overflow_mul-i c = omega (arith, c.requires.count_in_bounds.0)
-
-pub overflow_add-size : goal.overflow_add-size
-overflow_add-size c = omega (arith, c.requires.count_in_bounds.0)
-
-pub overflow_add-first : goal.overflow_add-first
-overflow_add-first c = omega (arith, c.requires.count_in_bounds.1)
-
-pub pointer_into-requires : goal.pointer_into-requires
-pointer_into-requires c = omega (arith, c.requires.count_in_bounds.0)
-
-pub slice_bounds-to_nul-end : goal.slice_bounds-to_nul-end
-slice_bounds-to_nul-end c = omega (arith, c.requires.count_in_bounds.0)
+    (omega arith, refl, λ args s. along-none (a.top - a.size) a.size a.buf.now args a.count s)
 
 pub overflow_add-from : goal.overflow_add-from
 overflow_add-from c = omega (arith, further c c.requires.by_index.0 c.requires.by_index.1)
@@ -74,7 +60,6 @@ pub loop-i-preserved : goal.loop-i-preserved
 loop-i-preserved c =
     let v = c.loop-i in
     let a = c.args in (
-      omega arith,
       omega (arith, further c c.requires.by_index.0 c.requires.by_index.1),
       omega arith,
       λ args t.
@@ -82,20 +67,11 @@ loop-i-preserved c =
           (along-next (first (goal.at.loop-i-preserved c).After-to_nul) a.size a.buf.now args v.buf v.from v.i t.no_nul (more c args t) (room c args t) (along c args t) c.to_nul.result (found c args t)),
     )
 
-pub overflow_mul-i-2 : goal.overflow_mul-i-2
-overflow_mul-i-2 c = omega (arith, c.requires.count_in_bounds.0)
-
-pub overflow_add-size-2 : goal.overflow_add-size-2
-overflow_add-size-2 c = omega (arith, c.requires.count_in_bounds.0)
-
-pub pointer_into-requires-2 : goal.pointer_into-requires-2
-pointer_into-requires-2 c = omega (arith, c.requires.count_in_bounds.0)
-
 pub returns : goal.returns
 returns c args standing =
     let v = c.loop-i in
     let a = c.args in
     let past : length args ≤ v.i = omega (arith, standing.counted, c.loop-i-test.false) in
     laid-put a.top args a.size (sized (goal.at.returns c).Start args standing) a.buf.now _ (omega (arith, standing.counted, c.requires.count_in_bounds.0)) standing.bytes-are
-    (c.pointer_into-2.ensures
-    ∙ sym ((v.invariant.3 args standing).more ∙ ap (λ (x : List (List ℕ)). put v.buf (a.size + 8 * v.i) (pointers (a.top - a.size + v.from) x)) (drop_of_length-le args past)))
+    (c.pointer_into-2.ensures ∙ ap (λ (k : ℕ). put v.buf (a.size + 8 * k) (le_bytes 8 0)) (let z : a.count ≡ v.i = omega arith in z)
+    ∙ sym ((v.invariant.2 args standing).more ∙ ap (λ (x : List (List ℕ)). put v.buf (a.size + 8 * v.i) (pointers (a.top - a.size + v.from) x)) (drop_of_length-le args past)))
