@@ -6,28 +6,26 @@ use mathlib.Core.List.{List}
 use lib.Dec.{eqb, ltb}
 use native.Mathlib.Omega.{arith}
 use borrow.Author.Tests.{eqb-true, ltb-false}
-use Rattle.spec.specs.Tests.{◌isnt◌, ◌below◌, ◌above◌, ◌⇒◌else◌, ◌or_else◌, same}
+use Rattle.spec.specs.Tests.{◌isnt◌, ◌below◌, ◌above◌, ◌⇒◌else◌, same}
 use Rattle.spec.specs.Flags.{flags_ok}
 use Rattle.spec.specs.Numbers.{setup_ok, setup_error}
-use Rattle.spec.specs.Book.{valid, free, same_segment, used, proc_at, zero_proc}
+use Rattle.spec.specs.Book.{valid, free, same_segment, used, proc_at}
 use Rattle.spec.specs.Frames.{sized}
 use Rattle.spec.specs.Machine.{Ask, fork, Reply, plainly, refuse, judge, weigh, copied, call}
 use Rattle.spec.specs.World.{State, sound, taken, view, alone_for, copy, answer, Does}
 use Rattle.spec.specs.declared.UserSegment.{UserSegment}
 use Rattle.spec.specs.declared.Answer.{Answer}
 use Rattle.spec.specs.declared.Answer.TheVariants.{Done, Refused}
-use Rattle.spec.specs.declared.Proc.{Proc}
+use Rattle.spec.specs.Refusals.{refusal_number}
+use Rattle.spec.specs.declared.Refusal.{Refusal}
 use Rattle.spec.proofs.Bools.{split}
 use Rattle.spec_laws.proofs.Checks.{or-else}
 use Rattle.call_front.specs.Numbers.{number_error, fork_error}
 use Rattle.spec.specs.declared.Left.{Left}
 use Rattle.call_front.proofs.Answers.{or_refuse, in_order, refused-first, goes_on}
 use Rattle.call_front.proofs.FirstNumbers.{fork-none}
-use Rattle.call_fork.specs.ByList.{record_of, list_error, fork_number}
-
--- the numbers that come first, over the tests' outcomes
-abbrev first_of : (z u g d v w t f : Bool) → ℕ
-first_of z u g d v w t f = (not (z && true) ⇒ 1 else (not u ⇒ 38 else not g ⇒ 39 else 0) or_else not d ⇒ 2 else not v ⇒ 3 else 0) or_else (not w ⇒ 3 else not t ⇒ 4 else not (not f) ⇒ 5 else 0)
+use Rattle.call_fork.specs.ByList.{list_error, fork_number}
+use Rattle.call_fork.proofs.Judged.{first_of}
 
 abbrev list_of : (a v : Bool) → ℕ → ℕ
 list_of a v e = ((not a && e isnt 1) && e below 38) && v ⇒ 2 else e
@@ -78,13 +76,6 @@ list-zero false v e h =
     behind true z = absurd (omega (arith, z))
     behind false z = (z, λ t. t)
 
-unasked : (x y b c : Bool) (e : ℕ) → (((x && b) && c) && false ⇒ 2 else e) ≡ (((y && b) && c) && false ⇒ 2 else e)
-unasked x y b c e = none ((x && b) && c) ∙ sym (none ((y && b) && c))
-  where
-    none : (z : Bool) → (z && false ⇒ 2 else e) ≡ e
-    none true = refl
-    none false = refl
-
 -- where there is no number, none came first, and the free frames hold a copy
 pub number-error : (s : State) (n child : ℕ) (alike : Bool) → fork_number s n child alike ≡ 0 → fork_error s n child ≡ 0
 unfolding list_error fork_number
@@ -104,20 +95,12 @@ module _ (s : State) (n child : ℕ) (gs : List UserSegment) where
   abbrev asked : Ask
   asked = fork child gs
 
-  abbrev alike_at : Bool
-  alike_at = same same_segment gs (used (proc_at s.procs n).segments)
-
   abbrev pub alike_of : Bool
-  alike_of = same same_segment gs (used (record_of s.procs n).segments)
+  alike_of = same same_segment gs (used (proc_at s.procs n).segments)
 
-  answer-chain : answer s (call n asked) ≡ or_refuse (list_error s n child alike_at) asked (weigh (view s n) (free s.store.book) (alone_for s (call n asked)) asked)
+  answer-chain : answer s (call n asked) ≡ or_refuse (list_error s n child alike_of) asked (weigh (view s n) (free s.store.book) (alone_for s (call n asked)) asked)
   unfolding setup_error answer judge number_error fork_error list_error
-  answer-chain = chain-is (sized s.store) (setup_ok s.setup) (flags_ok s.setup.flags) (sound s) (valid n) (valid child) (taken s n) (taken s child) alike_at asked _
-
-  -- where the number is outside 1 to 16, the list isn't asked for
-  list-either : list_error s n child alike_at ≡ list_error s n child alike_of
-  unfolding list_error
-  list-either = split (valid n) (λ v. rw v) (λ v. rw v (unasked (not alike_at) (not (same same_segment gs (used zero_proc.segments))) (fork_error s n child isnt 1) (fork_error s n child below 38) (fork_error s n child)))
+  answer-chain = chain-is (sized s.store) (setup_ok s.setup) (flags_ok s.setup.flags) (sound s) (valid n) (valid child) (taken s n) (taken s child) alike_of asked _
 
   weighed : (c : Bool) → plainly (c ⇒ Refused 33 else Done) ≡ or_refuse (c ⇒ 33 else 0) asked (plainly Done)
   weighed true = refl
@@ -126,24 +109,21 @@ module _ (s : State) (n child : ℕ) (gs : List UserSegment) where
   pub answer-number : answer s (call n asked) ≡ or_refuse (fork_number s n child alike_of) asked (plainly Done)
   unfolding fork_number
   answer-number =
-      answer-chain ∙ ap (λ (e : ℕ). or_refuse e asked (weigh (view s n) (free s.store.book) (alone_for s (call n asked)) asked)) list-either
+      answer-chain
       ∙ ap (or_refuse (list_error s n child alike_of) asked) (weighed (copied (view s n) above free s.store.book))
       ∙ in_order (list_error s n child alike_of) (copied (view s n) above free s.store.book ⇒ 33 else 0) asked (plainly Done)
 
   -- where there is no number, the list is the record's
-  pub number-none : fork_number s n child alike_of ≡ 0 → (fork_error s n child ≡ 0) × (alike_at ≡ true)
+  pub number-none : fork_number s n child alike_of ≡ 0 → (fork_error s n child ≡ 0) × (alike_of ≡ true)
   unfolding list_error fork_number
   number-none e =
       let p = list-zero alike_of (valid n) (fork_error s n child) (or-else (list_error s n child alike_of) _ e).0 in
-      let v = (fork-none s n child p.0).passed.number in
-      let r : record_of s.procs n ≡ proc_at s.procs n = rw v in
-      (p.0, ap (λ (x : Proc). same same_segment gs (used x.segments)) (sym r) ∙ p.1 v)
+      (p.0, p.1 (fork-none s n child p.0).passed.number)
 
   -- a fork that is refused, and one that isn't
-  module _ (e : ℕ) (number : e ≡ fork_number s n child alike_of) (t : State) (r : Left) where
-    pub list-refused : (e ≡ 0 → ⊥) → t ≡ s → r.answer ≡ Refused e → Does s (call n asked) t (plainly r.answer)
-    list-refused ne f h = subst (λ (x : State). Does s (call n asked) x (plainly r.answer)) (sym f)
-        (subst (λ (x : Answer). Does s (call n asked) s (plainly x)) (sym h) (refused-first s n asked e _ _ answer-number number ne))
+  pub list-refused : (e : Refusal) → refusal_number e ≡ fork_number s n child alike_of → (t : State) (r : Left) → t ≡ s → r.answer ≡ Refused (refusal_number e) → Does s (call n asked) t (plainly r.answer)
+  list-refused e number t r f h = subst (λ (x : State). Does s (call n asked) x (plainly r.answer)) (sym f)
+      (subst (λ (x : Answer). Does s (call n asked) s (plainly x)) (sym h) (refused-first s n asked _ _ answer-number e number))
 
-    pub list_done : e ≡ 0 → t ≡ copy s n child (proc_at s.procs n) → r.answer ≡ Done → Does s (call n asked) t (plainly r.answer)
-    list_done z f h = subst (λ (x : Answer). Does s (call n asked) t (plainly x)) (sym h) (goes_on s n asked e _ _ answer-number number z t (plainly Done) refl f)
+  pub list_done : 0 ≡ fork_number s n child alike_of → (t : State) → t ≡ copy s n child (proc_at s.procs n) → Does s (call n asked) t (plainly Done)
+  list_done number t f = goes_on s n asked _ _ answer-number number t (plainly Done) refl f

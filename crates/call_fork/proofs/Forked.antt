@@ -1,25 +1,21 @@
 -- A fork: the parent's pages, copied piece after piece, are the pages that the specification places.
-use Prim.Native.Nat.{ℕ, zero, suc, ◌+◌, ◌-◌, ◌/◌, ◌≤◌, ◌<◌}
+use Prim.Native.Nat.{ℕ, zero, suc, ◌+◌, ◌-◌, ◌<◌}
 use native.Mathlib.Omega.{arith}
-use mathlib.Core.Path.{◌≡◌, refl, sym, ap, ap₂, subst, fun_ext, ◌∙◌}
+use mathlib.Core.Path.{◌≡◌, refl, sym, ap, subst, fun_ext, ◌∙◌}
 use mathlib.Core.Bool.{true}
-use mathlib.Core.Option.{some}
+use Rattle.std.specs.Prelude.{Some}
 use mathlib.Core.List.{List, [], ◌∷◌, ◌++◌, append_assoc, append-nil}
 use lib.ListN.{length, get_or, take, replicate}
-use borrow.Author.Tests.{eq-eqb, ne_eqb, lt-ltb, le-ltb}
+use borrow.Author.Tests.{eq-eqb, ne_eqb}
 use Rattle.spec.specs.Tests.{◌is◌}
-use Rattle.spec.specs.Book.{valid, frame_of, zero_segment, stack, bss_segment, in_segment, perm_at, page_count, used, proc_at, pieces_of, data_only}
+use Rattle.spec.specs.Book.{valid, frame_of, zero_segment, stack, bss_segment, in_segment, perm_at, used, proc_at, pieces_of, data_only}
 use Rattle.spec.specs.Sound.{ImageSegment, Shape, Sound}
-use Rattle.spec.specs.Frames.{Store, pages_of, place, share, frame_bytes}
-use Rattle.spec.specs.Machine.{fork, plainly, Machine, copied, weigh}
+use Rattle.spec.specs.Frames.{Store, pages_of, place, frame_bytes}
 use Rattle.spec.specs.declared.Setup.{Setup}
-use Rattle.spec.specs.declared.VirtRange.{VirtRange}
 use Rattle.spec.specs.declared.UserSegment.{UserSegment}
 use Rattle.spec.specs.declared.Proc.{Proc}
 use Rattle.spec.specs.declared.Procs.{Procs}
-use Rattle.spec.specs.declared.Answer.TheVariants.{Done, Refused}
 use Rattle.spec.proofs.Bools.{split, within-test}
-use Rattle.spec.proofs.Free.{count-append}
 use Rattle.spec.proofs.Lists.{take_next}
 use Rattle.spec_laws.proofs.Lists.{Each, each_map, each_append, each_same}
 use Rattle.spec_laws.proofs.Frame.{frame-perm}
@@ -28,10 +24,9 @@ use Rattle.spec_laws.proofs.Pages.{pages-append}
 use Rattle.spec_laws.proofs.Record as record-laws
 use Rattle.spec_laws.proofs.Shape.{each-image, shape-image, shape-used}
 use Rattle.spec_laws.proofs.OwnPieces.{shape_pieces}
-use Rattle.sound.specs.Table.{Ready}
 use Rattle.pagealloc.specs.Lent.{Mapped}
 use Rattle.call_fork.specs.Lent.{Copyable, Kept}
-use Rattle.call_fork.proofs.Told.{kept_self, kept-both, tells-share}
+use Rattle.call_fork.proofs.Told.{kept_self, kept-both}
 
 -- ---- data
 
@@ -49,18 +44,6 @@ pub data-less : (gs : List UserSegment) (i : ℕ) → i < length gs → ((get_or
 data-less gs i l ne =
     ap data_only (take_next gs i zero_segment l) ∙ data-append (take i gs) (get_or gs i zero_segment ∷ [])
     ∙ ap (λ (x : List UserSegment). data_only (take i gs) ++ x) (rw (ne_eqb (get_or gs i zero_segment).perm 3 ne) refl) ∙ append-nil (data_only (take i gs))
-
--- their pages counted
-pub count-more : (gs : List UserSegment) (i n k : ℕ) → i < length gs → (get_or gs i zero_segment).perm ≡ 3 → n ≡ page_count (data_only (take i gs)) → k ≡ ((get_or gs i zero_segment).range.end - (get_or gs i zero_segment).range.start) / 4096
-    → n + k ≡ page_count (data_only (take (i + 1) gs))
-count-more gs i n k l e hn hk =
-    let z : k + 0 ≡ k = omega arith in
-    ap₂ ◌+◌ hn (sym z ∙ ap (λ (x : ℕ). x + 0) hk) ∙ sym (ap page_count (data-more gs i l e) ∙ count-append (data_only (take i gs)) (get_or gs i zero_segment ∷ []))
-
-pub count-bss : (gs : List UserSegment) (n k : ℕ) (g : UserSegment) (b : VirtRange) → n ≡ page_count (data_only gs) → g ≡ bss_segment b → k ≡ (g.range.end - g.range.start) / 4096 → n + k ≡ page_count (data_only (gs ++ bss_segment b ∷ []))
-count-bss gs n k g b hn hg hk =
-    let z : k + 0 ≡ k = omega arith in
-    ap₂ ◌+◌ hn (sym z ∙ ap (λ (x : ℕ). x + 0) (hk ∙ ap (λ (x : UserSegment). (x.range.end - x.range.start) / 4096) hg)) ∙ sym (ap page_count (data-append gs (bss_segment b ∷ [])) ∙ count-append (data_only gs) (bss_segment b ∷ []))
 
 -- unused places are no data
 none-data : (k : ℕ) → data_only (replicate k zero_segment) ≡ []
@@ -114,13 +97,6 @@ pub copied_more : (m₀ m t : Store) (parent child : ℕ) (gs : List UserSegment
     → t ≡ place m child (pages_of (λ a. frame_bytes m.frames (frame_of m.book parent a)) (g ∷ [])) → Kept m t parent → Copied m₀ t parent child (gs ++ g ∷ [])
 copied_more m₀ m t parent child gs g c e k = copied_some m₀ m t parent child gs (g ∷ []) c e k
 
--- pages shared, then copied: these are the pages of the parent's as they were found
-pub fork-store : (m t u : Store) (tags bases table : List ℕ) (n child : ℕ) (gs : List UserSegment) → valid n ≡ true → valid child ≡ true → (n ≡ child → ⊥) → Ready m.book n tags bases table → t ≡ share m n child
-    → u ≡ place t child (pages_of (λ a. frame_bytes t.frames (frame_of t.book n a)) gs) → u ≡ place (share m n child) child (pages_of (λ a. frame_bytes m.frames (frame_of m.book n a)) gs)
-fork-store m t u tags bases table n child gs v w ne r e h =
-    h ∙ ap (place t child) (bytes_same m t n gs (tells-share m t tags bases table n child v w ne r e).1)
-    ∙ ap (λ (x : Store). place x child (pages_of (λ a. frame_bytes m.frames (frame_of m.book n a)) gs)) e
-
 -- ---- a living process's pieces can be copied
 
 each_both : {A : Type 0} (P Q : A → Type 0) (xs : List A) → Each P xs → Each Q xs → Each (λ x. P x × Q x) xs
@@ -133,7 +109,7 @@ each-parts P (x ∷ xs) ys e = let r = each-parts P xs ys e.1 in ((e.0, r.0), r.
 
 -- an address of one of them has a permission
 abbrev Found : List UserSegment → UserSegment → Type 0
-Found gs g = (a : ℕ) → in_segment a g ≡ true → (q : ℕ) × (perm_at gs a ≡ some q)
+Found gs g = (a : ℕ) → in_segment a g ≡ true → (q : ℕ) × (perm_at gs a ≡ Some q)
 
 each-found : (gs : List UserSegment) → Each (Found gs) gs
 each-found [] = tt
@@ -177,11 +153,3 @@ module _ {setup : Setup} (book : List ℕ) (ps : Procs) (whole : record-laws.Who
 
   pub copyable-bss : Copyable book n bss
   copyable-bss = record { start = omega arith; end = shape.bss-end.0; high = omega (arith, shape.bss-end.1, sound.accepted); mapped = found-mapped bss found.1.1.0 }
-
--- ---- the answer
-
-pub fork-short : (m : Machine) (free alone child : ℕ) (gs : List UserSegment) → free < copied m → weigh m free alone (fork child gs) ≡ plainly (Refused 33)
-fork-short m free alone child gs h = rw (lt-ltb free (copied m) h)
-
-pub fork-fits : (m : Machine) (free alone child : ℕ) (gs : List UserSegment) → copied m ≤ free → weigh m free alone (fork child gs) ≡ plainly Done
-fork-fits m free alone child gs h = rw (le-ltb free (copied m) h)

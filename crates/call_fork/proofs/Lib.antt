@@ -1,8 +1,6 @@
 pub mod Answered
-pub mod Copies
 pub mod Finished
 pub mod Judged
-pub mod SameList
-pub mod Noted
+pub mod Places
 pub mod Told
 pub mod Forked

@@ -4,7 +4,7 @@ use Prim.Native.Nat.{ℕ, zero, suc, ◌+◌, ◌*◌, ◌≤◌, ◌<◌}
 use native.Mathlib.Omega.{arith}
 use mathlib.Core.Path.{◌≡◌, refl, sym, ap, ◌∙◌, subst}
 use mathlib.Core.Bool.{Bool, true, false}
-use mathlib.Core.Option.{Option, none, some}
+use Rattle.std.specs.Prelude.{Option, None, Some}
 use mathlib.Core.List.{List}
 use lib.Dec.{eqb}
 use lib.ListN.{length, drop, length-drop}
@@ -15,7 +15,6 @@ use Rattle.spec.specs.Book.{word_of, perm_of, valid, frame_count, mapping, holde
 use Rattle.spec.specs.Frames.{Store, enter, put, Page, hold, share, frame_bytes}
 use Rattle.spec.specs.Sound.{Mappings}
 use Rattle.spec.specs.declared.Setup.{Setup}
-use Rattle.spec.specs.declared.Found.{Found}
 use Rattle.spec.proofs.Bools.{split}
 use Rattle.spec.proofs.Enter.{enter-count, holders-here, holders-else}
 use Rattle.spec_laws.proofs.Lists.{length-put, put-outside}
@@ -23,8 +22,8 @@ use Rattle.spec_laws.proofs.Frame.{frame_found, frame-ext}
 use Rattle.spec_laws.proofs.Held.{Counted, unheld, valid-low, valid-high, mapping-other, frame-other}
 use Rattle.spec_laws.proofs.Sweep.{other_place, here-count}
 use Rattle.spec_laws.proofs.Share.{shares, word_for, share-count, share-frames}
+use Rattle.sound.specs.declared.Lookup.{Lookup}
 use Rattle.sound.specs.Table.{Ready}
-use Rattle.book.specs.Answers.{found_of}
 use Rattle.call_fork.specs.Lent.{Held, Tells, Kept}
 
 -- at most all numbers below c pass a test
@@ -77,9 +76,9 @@ held_share m t n child v u ne counts e =
         let l' : k < frame_count m.book = omega (arith, many) in
         nz (stays k ∙ unheld m.book counts k l' (more (shares n m.book k) (holders m.book k) (sym (share-holders m n child v u k l') ∙ z)) n (valid-low n v) (valid-high n v))
 
-pub tells-share : (m t : Store) (tags bases table : List ℕ) (n child : ℕ) → valid n ≡ true → valid child ≡ true → (n ≡ child → ⊥) → Ready m.book n tags bases table → t ≡ share m n child
-    → Tells t.book tags bases table n × Kept m t n
-tells-share m t tags bases table n child v u ne r e =
+pub tells-share : (m t : Store) (l : Lookup) (n child : ℕ) → valid n ≡ true → valid child ≡ true → (n ≡ child → ⊥) → Ready m.book n l → t ≡ share m n child
+    → Tells t.book l n × Kept m t n
+tells-share m t l n child v u ne r e =
     let h = held_share m t n child v u ne r.mappings.counts e in
     (record { checked = m.book; ready = r; same = h.1.same; held = h.0 }, h.1)
 
@@ -87,7 +86,7 @@ tells-share m t tags bases table n child v u ne r e =
 
 -- leaves the parent's pages in their frames
 pub held-turn : (t u : Store) (parent child k : ℕ) (p : Page) → k < frame_count t.book → 1 ≤ parent → parent ≤ 16 → 1 ≤ child → child ≤ 16 → (parent ≡ child → ⊥)
-    → u ≡ hold t child p (some k) → Held t.book parent → Held u.book parent
+    → u ≡ hold t child p (Some k) → Held t.book parent → Held u.book parent
 held-turn t u parent child k p low a b lo hi ne e h = subst (λ (x : Store). Held x.book parent) (sym e) held
   where
     w : ℕ
@@ -100,9 +99,9 @@ held-turn t u parent child k p low a b lo hi ne e h = subst (λ (x : Store). Hel
         (λ q. let e = eqb-true j k q in let o = holders-here t.book k child w 1 low hi in let y = ap (holders (enter t.book k child w 1)) e in omega (arith, o, y, z))
         (λ q. h j l' (λ y. nz (mapping-other t.book k child w 1 low lo hi j parent a b ne ∙ y)) (sym (holders-else t.book k child w 1 low hi j (eqb-false j k q)) ∙ z))
 
-pub tells-turn : (t u : Store) (tags bases table : List ℕ) (parent child k : ℕ) (p : Page) → k < frame_count t.book → 1 ≤ parent → parent ≤ 16 → 1 ≤ child → child ≤ 16 → (parent ≡ child → ⊥)
-    → u ≡ hold t child p (some k) → Tells t.book tags bases table parent → Tells u.book tags bases table parent
-tells-turn t u tags bases table parent child k p low a b lo hi ne e h = record {
+pub tells-turn : (t u : Store) (l : Lookup) (parent child k : ℕ) (p : Page) → k < frame_count t.book → 1 ≤ parent → parent ≤ 16 → 1 ≤ child → child ≤ 16 → (parent ≡ child → ⊥)
+    → u ≡ hold t child p (Some k) → Tells t.book l parent → Tells u.book l parent
+tells-turn t u l parent child k p low a b lo hi ne e h = record {
   checked = h.checked;
   ready = h.ready;
   same = λ page. ap (λ (x : Store). frame_of x.book parent page) e ∙ frame-other t.book k child (word_of p.page child p.perm) 1 low lo hi parent page a b ne ∙ h.same page;
@@ -110,10 +109,10 @@ tells-turn t u tags bases table parent child k p low a b lo hi ne e h = record {
 }
 
 -- bytes put into one frame are not of another
-frame-long : (d : List ℕ) (j : ℕ) → 4096 * j + 4096 ≤ length d → length (frame_bytes d (some j)) ≡ 4096
+frame-long : (d : List ℕ) (j : ℕ) → 4096 * j + 4096 ≤ length d → length (frame_bytes d (Some j)) ≡ 4096
 frame-long d j h = length-take-le 4096 (drop (4096 * j) d) (omega (arith, length-drop (4096 * j) d))
 
-pub frame-away : (d s : List ℕ) (j k : ℕ) → 4096 * j + 4096 ≤ length d → 4096 * k + 4096 ≤ length d → length s ≡ 4096 → (j ≡ k → ⊥) → frame_bytes (put d (4096 * k) s) (some j) ≡ frame_bytes d (some j)
+pub frame-away : (d s : List ℕ) (j k : ℕ) → 4096 * j + 4096 ≤ length d → 4096 * k + 4096 ≤ length d → length s ≡ 4096 → (j ≡ k → ⊥) → frame_bytes (put d (4096 * k) s) (Some j) ≡ frame_bytes d (Some j)
 frame-away d s j k lj lk ls ne =
     let lp : length (put d (4096 * k) s) ≡ length d = length-put d s (4096 * k) (omega arith) in
     let x = frame-long (put d (4096 * k) s) j (omega arith) in
@@ -126,8 +125,8 @@ frame-away d s j k lj lk ls ne =
 
 -- and leaves the bytes of the parent's pages
 pub kept-turn : (m t u : Store) (parent child k j : ℕ) (p : Page) → length t.frames ≡ 4096 * frame_count t.book → k < frame_count t.book → holders t.book k ≡ 0
-    → j < frame_count t.book → p.bytes ≡ frame_bytes t.frames (some j) → 1 ≤ parent → parent ≤ 16 → 1 ≤ child → child ≤ 16 → (parent ≡ child → ⊥)
-    → u ≡ hold t child p (some k) → Held t.book parent → Kept m t parent → Kept m u parent
+    → j < frame_count t.book → p.bytes ≡ frame_bytes t.frames (Some j) → 1 ≤ parent → parent ≤ 16 → 1 ≤ child → child ≤ 16 → (parent ≡ child → ⊥)
+    → u ≡ hold t child p (Some k) → Held t.book parent → Kept m t parent → Kept m u parent
 kept-turn m t u parent child k j p fits low free there is a b lo hi ne e h c =
     subst (λ (x : Store). Kept m x parent) (sym e) (record { same = λ page. same page ∙ c.same page; bytes = λ page. ap (frame_bytes (put t.frames (4096 * k) p.bytes)) (same page) ∙ go page (frame_of t.book parent page) refl ∙ c.bytes page })
   where
@@ -135,8 +134,8 @@ kept-turn m t u parent child k j p fits low free there is a b lo hi ne e h c =
     same page = frame-other t.book k child (word_of p.page child p.perm) 1 low lo hi parent page a b ne
 
     go : (page : ℕ) (o : Option ℕ) → frame_of t.book parent page ≡ o → frame_bytes (put t.frames (4096 * k) p.bytes) o ≡ frame_bytes t.frames o
-    go page none f = refl
-    go page (some i) f =
+    go page None f = refl
+    go page (Some i) f =
         let g = frame_found t.book parent page i f in
         frame-away t.frames p.bytes i k (omega (arith, g.0)) (omega arith) (ap length is ∙ frame-long t.frames j (omega arith))
         (λ q. h i g.0 g.1.used (ap (holders t.book) q ∙ free))
@@ -147,6 +146,6 @@ kept_self m n = record { same = λ page. refl; bytes = λ page. refl }
 pub kept-both : (m t u : Store) (n : ℕ) → Kept m t n → Kept t u n → Kept m u n
 kept-both m t u n a b = record { same = λ page. b.same page ∙ a.same page; bytes = λ page. b.bytes page ∙ a.bytes page }
 
--- what a look into the lists answers is the frame that the page has now
-pub told_is : (book tags bases table : List ℕ) (n page : ℕ) (r : Found) → Tells book tags bases table n → ((b : List ℕ) → Ready b n tags bases table → r ≡ found_of (frame_of b n page)) → r ≡ found_of (frame_of book n page)
-told_is book tags bases table n page r h e = e h.checked h.ready ∙ ap found_of (sym (h.same page))
+-- what a look into the lookup answers is the frame that the page has now
+pub told_is : (book : List ℕ) (l : Lookup) (n page : ℕ) (r : Option ℕ) → Tells book l n → ((b : List ℕ) → Ready b n l → r ≡ frame_of b n page) → r ≡ frame_of book n page
+told_is book l n page r h e = e h.checked h.ready ∙ sym (h.same page)

@@ -2,9 +2,8 @@
 -- in a fork with the record's own. 33 is judged before anything is shared.
 -- Assumes nothing.
 use Rattle.std.specs.Prelude.{ℕ, Bool, not, ◌&&◌}
-use Rattle.spec.specs.Tests.{◌is◌, ◌isnt◌, ◌below◌, ◌above◌, ◌⇒◌else◌, ◌or_else◌}
+use Rattle.spec.specs.Tests.{◌isnt◌, ◌below◌, ◌above◌, ◌⇒◌else◌, ◌or_else◌}
 use Rattle.spec.specs.Book.{valid, free, zero_proc, proc_at}
-use Rattle.spec.specs.Frames.{Store, share}
 use Rattle.spec.specs.Machine.{copied}
 use Rattle.spec.specs.World.{State, view}
 use Rattle.spec.specs.declared.Proc.{Proc}
@@ -22,7 +21,3 @@ list_error s n child alike = ((not alike && fork_error s n child isnt 1) && fork
 -- then 33, if the free frames don't hold a copy
 unfoldable pub fork_number : State → ℕ → ℕ → Bool → ℕ
 fork_number s n child alike = list_error s n child alike or_else (copied (view s n) above free s.store.book ⇒ 33 else 0)
-
--- frames and book once a number was found: where there is none, text and rodata are shared
-abbrev pub shared_by : ℕ → Store → ℕ → ℕ → Store
-shared_by e m n child = e is 0 ⇒ share m n child else m

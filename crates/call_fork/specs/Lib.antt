@@ -1,4 +1,3 @@
 -- What fork's own functions promise each other. The specification's definitions stand in crate spec.
-pub mod Lists
 pub mod ByList
 pub mod Lent

@@ -1,15 +1,9 @@
-use mathlib.Core.Path.{sym, ◌∙◌}
-use Rattle.call_fork.proofs.Judged.{record-none, record-some}
+-- `recorded` meets its contract: past the last record stands the zero record.
+use Rattle.std.proofs.Common.{arith, ◌-◌, sym, ◌∙◌}
+use Rattle.std.proofs.lemmas.List.{get_or_past}
+use Rattle.spec.specs.Book.{zero_proc}
 use Rattle.call_fork.proofs.by_list.recorded.Goals as goal
 
--- src/lib.rt:39:9
-pub returns-then-not-is_number : goal.returns-then-not-is_number
-returns-then-not-is_number c = let a = c.args in c.zero_proc.ensures ∙ record-none a.procs a.number c.is_number.result c.is_number.ensures c.if-not-is_number.true-raw
-
--- src/lib.rt:41:5
-pub proc_at-requires : goal.proc_at-requires
-proc_at-requires c = sym c.is_number.ensures ∙ c.if-not-is_number.false
-
--- src/lib.rt:35:1
-pub returns : goal.returns
-returns c = let a = c.args in record-some a.procs a.number c.is_number.result c.proc_at.result c.is_number.ensures c.if-not-is_number.false-raw c.proc_at.ensures
+pub returns-in-None : goal.returns-in-None
+returns-in-None c =
+    c.zero_proc.ensures ∙ sym (get_or_past c.args.procs.all (c.args.number - 1) zero_proc (omega (arith, c.in-None.ensures.lookup.3, c.saturating_sub.ensures)))

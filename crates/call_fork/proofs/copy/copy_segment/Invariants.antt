@@ -14,8 +14,8 @@ pages m parent a = frame_bytes m.frames (frame_of m.book parent a)
 
 abbrev pub invariant-loop-page : goal.invariant-loop-page
 invariant-loop-page l =
-    Ran (pages (store l.initial.frames l.initial.book) l.parent) l.perm l.child l.end l.initial.page (store l.initial.frames l.initial.book) (store l.frames l.book) l.page l.c
-    × Kept (store l.initial.frames l.initial.book) (store l.frames l.book) l.parent × Tells l.book l.tags l.bases l.table l.parent
+    Ran (pages (store l.initial.frames l.initial.book) l.parent) l.recorded.perm l.child l.page-end l.initial.page (store l.initial.frames l.initial.book) (store l.frames l.book) l.page l.c
+    × Kept (store l.initial.frames l.initial.book) (store l.frames l.book) l.parent × Tells l.book l.lookup l.parent
 
 abbrev pub decreases-loop-page : goal.decreases-loop-page
-decreases-loop-page l = l.end - l.page
+decreases-loop-page l = l.page-end - l.page
