@@ -1,9 +1,7 @@
 -- The words of a line, separated by one space each, and the numbers that they are.
 -- Assumes nothing.
-use Rattle.std.specs.Prelude.{ℕ, zero, suc, ◌+◌, ◌-◌, ◌*◌, ◌%◌, ◌^◌, List, [], ◌∷◌, take, drop}
+use Rattle.std.specs.Prelude.{ℕ, zero, suc, ◌+◌, ◌-◌, ◌*◌, ◌%◌, ◌^◌, Option, None, Some, List, [], ◌∷◌, take, drop}
 use Rattle.spec.specs.Tests.{◌is◌, ◌below◌, within, ◌⇒◌else◌}
-use Rattle.replay_buffers.specs.declared.words.Number.{Number}
-use Rattle.replay_buffers.specs.declared.words.Number.TheVariants.{Is, Bad}
 
 -- how many bytes stand before the first b, or in all
 abbrev pub before : ℕ → List ℕ → ℕ
@@ -33,13 +31,13 @@ spaces_in [] = 0
 spaces_in (x ∷ xs) = x is 32 ⇒ suc (spaces_in xs) else spaces_in xs
 
 -- digits behind those that stand for n: a number below 2^64, or none
-abbrev pub number_from : ℕ → List ℕ → Number
-number_from n [] = Is n
+abbrev pub number_from : ℕ → List ℕ → Option ℕ
+number_from n [] = Some n
 number_from n (x ∷ xs) =
     let more : ℕ = 10 * n + (x - 48) in
-    within 48 58 x ⇒ (more below 2 ^ 64 ⇒ number_from more xs else Bad) else Bad
+    within 48 58 x ⇒ (more below 2 ^ 64 ⇒ number_from more xs else None) else None
 
 -- the number that a word is: digits, at least one
-abbrev pub number_of : List ℕ → Number
-number_of [] = Bad
+abbrev pub number_of : List ℕ → Option ℕ
+number_of [] = None
 number_of (x ∷ xs) = number_from 0 (x ∷ xs)

@@ -1,22 +1,23 @@
--- `end` meets its contract. The invariant: none of the bytes from the place on up to `i` is the one that is looked for.
-use Rattle.std.proofs.Common.{arith}
-use Rattle.replay_buffers.proofs.Bytewise.{before_here, before-next, before-end}
+-- `end` meets its contract: what stands before the first place that passes.
+use Rattle.std.proofs.Common.{◌≡◌, ℕ, ◌==◌, ◌-◌, ◌≤◌, List, refl, ap, arith, length, drop, length-take}
+use Rattle.std.proofs.lemmas.Grind.{common_steps}
+use Rattle.std.specs.List.{position_or_len}
+use Rattle.std.proofs.lemmas.List.Recursion.{is_position_or_len}
+use Rattle.std.proofs.lemmas.List.Sums.{prefix_len-le-length}
+use Rattle.replay_buffers.specs.Words.{before}
 use Rattle.replay_buffers.proofs.words.end.Goals as goal
 
-pub returns-then-line-i : goal.returns-then-line-i
-returns-then-line-i c =
-    let l = c.loop-i in
-    let a = c.args in
-    omega (arith, l.invariant, before_here a.line.now l.i a.b (omega arith) c.if-line-i.true)
+passed : (b : ℕ) (xs : List ℕ) → before b xs ≡ position_or_len (λ x. x == b) xs
+passed b = is_position_or_len (before b) (λ x. x == b) refl (λ x xs. grind arith)
 
-pub loop-i-preserved : goal.loop-i-preserved
-loop-i-preserved c =
-    let l = c.loop-i in
+within : (b : ℕ) (xs : List ℕ) → position_or_len (λ x. x == b) xs ≤ length xs
+within b xs = prefix_len-le-length _ xs
+
+pub overflow_add-result : goal.overflow_add-result
+overflow_add-result c =
     let a = c.args in
-    omega (arith, l.invariant, before-next a.line.now l.i a.b (omega arith) c.if-line-i.false)
+    let r = ap (λ (l : List ℕ). length l) c.part.ensures in
+    omega (arith, c.before-2.ensures, within a.b c.part.result.now, r, length-take (length a.line.now - a.at) (drop a.at a.line.now))
 
 pub returns : goal.returns
-returns c =
-    let l = c.loop-i in
-    let a = c.args in
-    omega (arith, l.invariant, before-end a.line.now l.i a.b (omega arith))
+returns c = grind (arith, common_steps, passed)

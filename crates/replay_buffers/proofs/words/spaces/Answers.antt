@@ -1,21 +1,11 @@
--- `spaces` meets its contract. The invariant: `n` spaces are passed.
-use Rattle.std.proofs.Common.{arith}
-use Rattle.replay_buffers.proofs.Bytewise.{spaces-here, spaces-next, spaces-end}
+-- `spaces` meets its contract: spaces are what it counts.
+use Rattle.std.proofs.Common.{◌≡◌, ℕ, ◌==◌, List, count_by, sym, ◌∙◌, arith, refl, rules}
+use Rattle.std.proofs.lemmas.List.Recursion.{is_count_by}
+use Rattle.replay_buffers.specs.Words.{spaces_in}
 use Rattle.replay_buffers.proofs.words.spaces.Goals as goal
 
-pub loop-i-preserved-then-b-eq32 : goal.loop-i-preserved-then-b-eq32
-loop-i-preserved-then-b-eq32 c =
-    let l = c.loop-i in
-    let s = c.args.line.now in
-    (omega arith, omega arith, omega (arith, l.invariant.2, spaces-here s l.i (omega arith) c.if-b-eq32.true))
-
-pub loop-i-preserved : goal.loop-i-preserved
-loop-i-preserved c =
-    let l = c.loop-i in
-    let s = c.args.line.now in
-    (omega arith, omega arith, omega (arith, l.invariant.2, spaces-next s l.i (omega arith) c.if-b-eq32.false))
+counted : (xs : List ℕ) → spaces_in xs ≡ count_by (λ x. x == 32) xs
+counted = is_count_by spaces_in (λ x. x == 32) refl (λ x xs. grind arith)
 
 pub returns : goal.returns
-returns c =
-    let l = c.loop-i in
-    omega (arith, l.invariant.2, spaces-end c.args.line.now l.i (omega arith))
+returns c = (let e : c.count.result ≡ count_by (λ x. x == 32) c.args.line.now = search rules in e) ∙ sym (counted c.args.line.now)
