@@ -1,6 +1,5 @@
-// What a line asks for: a kind, numbers, and how far the program's buffers are filled for it. It goes by value through every step.
-use replay_buffers::bytes::Why;
-use replay_buffers::words;
+// What a line asks for.
+use spec::{Form, Refusal, VirtRange};
 
 // The most frames that there are: one more than a book may have, to try number 1. The longest file, and the longest line.
 pub const FRAMES_MAX: usize = 1025;
@@ -9,102 +8,109 @@ pub const FILE_MAX: usize = 2097152;
 
 pub const LINE_MAX: usize = 65536;
 
-// The kinds of lines. `Refused` is a line that is refused before any call, with its number.
+// An image that is taken: its form, and how many bytes its name and itself have.
 #[derive(Clone, Copy)]
-pub enum Kind {
-    Nothing,
-    Wrong(Why),
-    Refused,
-    Frames,
-    Numbers,
-    NumbersFile,
-    Flags,
-    FlagsFile,
-    Lend,
-    Word,
-    Start,
-    Replace,
-    Push,
-    Break,
-    Fork,
-    ForkList,
-    End,
-    Range,
-    From,
-    To,
-    Text,
-    Rule,
-    RuleNone,
-    Name,
-    Sum,
-    Map,
+pub struct Image {
+    pub form: Form,
+    pub name: usize,
+    pub size: usize,
 }
 
-// A line's numbers, in order; its flag table; whether its image is an a.out, of which magic, and not ELF; where in the space name,
-// arguments and other bytes end (taken.rt); the list's length.
+// Arguments that are taken: how many bytes they have, and how many they are.
 #[derive(Clone, Copy)]
-pub struct Asked {
-    pub kind: Kind,
-    pub number: u64,
-    pub second: u64,
-    pub third: u64,
-    pub fourth: u64,
-    pub flags: [u8; 8],
-    pub aout: bool,
-    pub magic: u32,
-    pub name: usize,
-    pub args: usize,
-    pub bytes: usize,
+pub struct Args {
+    pub size: usize,
     pub count: usize,
 }
 
-// What is asked with four numbers.
-pub(crate) fn with(kind: Kind, numbers: [u64; 4]) -> Asked {
-    Asked {
-        kind,
-        number: numbers[0],
-        second: numbers[1],
-        third: numbers[2],
-        fourth: numbers[3],
-        flags: [0; 8],
-        aout: false,
-        magic: 0,
-        name: 0,
-        args: 0,
-        bytes: 0,
-        count: 0,
-    }
-}
-
-// A line that is no call.
-pub(crate) fn wrong(why: Why) -> Asked {
-    with(Kind::Wrong(why), [0; 4])
-}
-
-// What is asked with words 1 to `last`, at most 4, as numbers.
-pub(crate) fn plain(line: &[u8], kind: Kind, last: usize) -> Asked {
-    let mut numbers = [0u64; 4];
-    let mut at = words::next(line, 0);
-    for i in 0..replay_buffers::room::least(last, 4) {
-        let words::Number::Is(x) = words::decimal(words::word_at(line, at)) else {
-            return wrong(Why::Bad);
-        };
-        numbers[i] = x;
-        at = words::next(line, at);
-    }
-    with(kind, numbers)
-}
-
-// What is asked if it is within its limits.
-pub(crate) fn limited(a: Asked, within: bool) -> Asked {
-    if within { a } else { wrong(Why::Bad) }
-}
-
-// Whether a word was read that says why the line is no call.
-pub(crate) fn fails(a: Asked) -> bool {
-    let kind = a.kind;
-    match kind {
-        Kind::Wrong(_) => true,
-        _ => false,
-    }
+// A line by its kind, with what it says. `Nothing` is a line without an answer, and `Refused` one that is refused before any call. The
+// bytes and lists that are meant lie in the program's buffers (taken.rt), as many as are said here.
+#[derive(Clone, Copy)]
+pub enum Asked {
+    Nothing,
+    Refused(Refusal),
+    Frames {
+        count: usize,
+        fill: u8,
+    },
+    Numbers {
+        utzero: u64,
+        ustktop: u64,
+        ustksize: u64,
+        uaddrtop: u64,
+    },
+    Flags([u8; 8]),
+    Lend {
+        bytes: usize,
+        words: usize,
+    },
+    Word {
+        place: usize,
+        word: u64,
+    },
+    Start {
+        number: u64,
+        image: Image,
+        args: Args,
+    },
+    Replace {
+        number: u64,
+        image: Image,
+        argv: u64,
+    },
+    Push {
+        number: u64,
+        pc: u64,
+        top: u64,
+        args: Args,
+    },
+    Break {
+        number: u64,
+        addr: u64,
+    },
+    Fork {
+        number: u64,
+        child: u64,
+    },
+    ForkList {
+        number: u64,
+        child: u64,
+        count: usize,
+    },
+    End {
+        number: u64,
+    },
+    Range {
+        number: u64,
+        addr: u64,
+        len: u64,
+        write: bool,
+    },
+    From {
+        number: u64,
+        src: u64,
+        size: usize,
+    },
+    To {
+        number: u64,
+        dst: u64,
+        size: usize,
+    },
+    Text {
+        number: u64,
+        src: u64,
+        size: usize,
+    },
+    Rule {
+        bss: Option<VirtRange>,
+        free: u64,
+        addr: u64,
+    },
+    Name {
+        size: usize,
+    },
+    Sum,
+    Map {
+        number: u64,
+    },
 }

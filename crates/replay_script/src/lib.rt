@@ -5,3 +5,5 @@
 pub mod asked;
 mod lines;
 pub mod taken;
+
+pub use lines::read;
