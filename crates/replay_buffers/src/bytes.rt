@@ -1,4 +1,6 @@
 // Bytes as a script writes them: pairs of hex digits, `-` for none, `'` and the bytes themselves, or `@` and a file's name.
+ghost use Rattle.std.specs.Prelude.{◌≡◌, ◌++◌, min, length, take, drop};
+
 use std::fs;
 use std::rt::Files;
 
@@ -31,8 +33,11 @@ fn pairs(dst: &mut [u8], word: &[u8]) -> Result<usize, Why> {
     Ok(n)
 }
 
-// Puts bytes themselves, as many as there is room for.
-fn put(dst: &mut [u8], bytes: &[u8]) -> usize {
+// Puts bytes themselves, as many as there is room for, and answers how many these are.
+pub fn put(dst: &mut [u8], bytes: &[u8]) -> usize
+    ensures count { result ≡ min (length dst.old) (length bytes.now) }
+    ensures put { dst.new ≡ take result bytes.now ++ drop result dst.old }
+{
     let n = dst.len().min(bytes.len());
     dst[..n].copy_from_slice(&bytes[..n]);
     n
