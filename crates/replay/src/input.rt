@@ -1,48 +1,53 @@
 // The lines of standard input, in one buffer.
-use replay_buffers::room;
+use replay_buffers::room::{lent, part, shift};
+use replay_buffers::words;
 use replay_script::asked::LINE_MAX;
-use replay_session::Session;
-use std::io::{Eprint, Read};
+use std::io;
+use std::io::Read;
 
 // The input's bytes: those of a line, with one more, by which a longer line is seen to be one, and those that are read at once.
-pub const INPUT_SIZE: usize = LINE_MAX + 1 + 65536;
+pub(crate) const INPUT_SIZE: usize = LINE_MAX + 1 + 65536;
 
-// Where the line ends: at its line feed, or where the input that is there does.
-pub(crate) fn line_end(input: &[u8], s: Session) -> usize {
-    let there = room::part(input, 0, s.end);
-    room::least(replay_buffers::words::end(there, s.at, b'\n'), there.len())
+// The bytes from `at` to `end` aren't taken yet, and if the input has ended, there are no more.
+pub(crate) struct Input {
+    pub(crate) bytes: [u8; INPUT_SIZE],
+    pub(crate) at: usize,
+    pub(crate) end: usize,
+    pub(crate) ended: bool,
 }
 
-// Behind the line that ends at `end`.
-pub(crate) fn behind(s: Session, end: usize) -> Session {
-    let mut next = s;
-    next.at = room::least(std::num::wrapping_add_usize(end, 1), s.end);
-    next
-}
-
-// Reads more of a line, behind what there is of it. Of one that is too long no more is kept than shows it. If that fails, a line on
-// standard error says so.
-pub(crate) fn read<R: Read>(
-    rt: &impl Eprint,
-    from: &mut R,
-    input: &mut [u8],
-    s: Session,
-) -> Session {
-    let kept = room::least(room::shift(input, s.at, s.end), LINE_MAX + 1);
-    let rest = room::lent(input, kept, INPUT_SIZE);
-    let mut next = s;
-    next.at = 0;
-    match from.read(rest) {
-        Ok(more) => {
-            next.end = std::num::wrapping_add_usize(kept, more);
-            next.ended = more == 0;
-        }
-        Err(why) => {
-            let _ = eprintln!(rt; "replay: standard input: {why}");
-            next.end = kept;
-            next.ended = true;
-            next.failed = true;
-        }
+impl Input {
+    // Where the line ends, if it is whole: at its line feed. The last line may lack it.
+    fn line_end(&self) -> Option<usize> {
+        let there = part(&self.bytes, 0, self.end);
+        let end = words::end(there, self.at, b'\n').min(there.len());
+        if end < self.end || self.ended { Some(end) } else { None }
     }
-    next
+
+    // Reads more of a line, behind what there is of it. Of one that is too long no more is kept than shows it.
+    fn read<R: Read>(&mut self, from: &mut R) -> io::Result<()> {
+        let kept = shift(&mut self.bytes, self.at, self.end).min(LINE_MAX + 1);
+        let more = from.read(lent(&mut self.bytes, kept, INPUT_SIZE))?;
+        self.at = 0;
+        self.end = kept.saturating_add(more);
+        self.ended = more == 0;
+        Ok(())
+    }
+
+    // The next line, without its line feed, or none behind the last.
+    pub(crate) fn line<R: Read>(&mut self, from: &mut R) -> io::Result<Option<&[u8]>> {
+        // A proved loop has to end, and nothing says that the input does: it has fewer bytes than this.
+        for _ in 0..u64::MAX {
+            if self.ended && self.end <= self.at {
+                return Ok(None);
+            }
+            if let Some(end) = self.line_end() {
+                let line = part(&self.bytes, self.at, end);
+                self.at = end.saturating_add(1).min(self.end);
+                return Ok(Some(line));
+            }
+            self.read(from)?;
+        }
+        Ok(None)
+    }
 }

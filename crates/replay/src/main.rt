@@ -5,133 +5,146 @@
 
 mod input;
 
-use replay_buffers::room;
-use replay_script::asked::{Asked, Kind};
-use replay_script::taken;
-use replay_session::Session;
-use std::io::{Eprint, Read, Write};
+use input::{INPUT_SIZE, Input};
+use replay_buffers::room::part;
+use replay_replies::Reply;
+use replay_script::asked::{Asked, FRAMES_MAX};
+use replay_script::taken::Buffers;
+use replay_session::{BOOK_SIZE, BOOK_WORDS, FRAME_BYTES, FRAMES_SIZE, Session, run};
+use spec::{Proc, Procs};
+use std::fmt;
+use std::fmt::Formatter;
+use std::io;
+use std::io::{Read, Write};
 use std::process::ExitCode;
 use std::rt::Files;
 
+// Why no further line is run.
+enum Failed {
+    Input(io::Error),
+    Output(io::Error),
+}
+
+impl fmt::Display for Failed {
+    fn fmt<W: fmt::Write>(&self, f: &mut Formatter<W>) -> fmt::Result {
+        match self {
+            Failed::Input(why) => write!(f, "standard input: {why}"),
+            Failed::Output(why) => write!(f, "standard output: {why}"),
+        }
+    }
+}
+
+// The program's memory.
+struct Memory {
+    frames: [u8; FRAMES_SIZE],
+    book: [u64; BOOK_SIZE],
+    buffers: Buffers,
+}
+
 // So many frames and no process, under the deposit machine's numbers and the built-in flag table.
-fn fresh(frames: u64, at: usize, end: usize, ended: bool) -> Session {
-    let n = room::least(frames as usize, replay_script::asked::FRAMES_MAX);
-    let p = call_front::zero_proc();
-    let all = [p; 16];
+fn fresh(count: usize) -> Session {
+    let n = count.min(FRAMES_MAX);
     Session {
-        procs: spec::Procs { all },
+        procs: Procs {
+            all: [Proc::default(); 16],
+        },
         setup: setup::deposit(),
-        bytes: replay_session::FRAME_BYTES * n,
-        words: replay_session::BOOK_WORDS * n,
-        lent_bytes: replay_session::FRAME_BYTES * n,
-        lent_words: replay_session::BOOK_WORDS * n,
-        at,
-        end,
-        ended,
-        failed: false,
+        bytes: FRAME_BYTES * n,
+        words: BOOK_WORDS * n,
+        lent_bytes: FRAME_BYTES * n,
+        lent_words: BOOK_WORDS * n,
     }
 }
 
 // What is held for a line and behind it.
 fn after(s: Session, a: Asked) -> Session {
     let mut next = s;
-    let kind = a.kind;
-    match kind {
-        Kind::Frames => fresh(a.number, s.at, s.end, s.ended),
-        Kind::Lend => {
-            next.lent_bytes = a.number as usize;
-            next.lent_words = a.second as usize;
-            next
+    match a {
+        Asked::Frames { count, .. } => next = fresh(count),
+        Asked::Lend { bytes, words } => {
+            next.lent_bytes = bytes;
+            next.lent_words = words;
         }
-        Kind::Numbers => {
-            next.setup.utzero = a.number;
-            next.setup.ustktop = a.second;
-            next.setup.ustksize = a.third;
-            next.setup.uaddrtop = a.fourth;
-            next
+        Asked::Numbers {
+            utzero,
+            ustktop,
+            ustksize,
+            uaddrtop,
+        } => {
+            next.setup.utzero = utzero;
+            next.setup.ustktop = ustktop;
+            next.setup.ustksize = ustksize;
+            next.setup.uaddrtop = uaddrtop;
         }
-        Kind::Flags | Kind::FlagsFile => {
-            let flags = a.flags;
-            let mut setup = s.setup;
-            setup.flags = flags;
-            next.setup = setup;
-            next
-        }
-        _ => s,
-    }
-}
-
-// Takes a turn: runs and answers the next line, or reads more of it if it isn't whole. The last line may lack its line feed. If its
-// answer can't be written, a line on standard error says so.
-fn turn<R: Read, W: Write>(
-    rt: &(impl Files + Eprint),
-    from: &mut R,
-    out: &mut W,
-    frames: &mut [u8; replay_session::FRAMES_SIZE],
-    book: &mut [u64; replay_session::BOOK_SIZE],
-    space: &mut [u8; taken::SPACE_MAX],
-    list: &mut taken::List,
-    input: &mut [u8; input::INPUT_SIZE],
-    s: Session,
-) -> Session {
-    let end = input::line_end(input, s);
-    if (end == s.end) & !s.ended {
-        return input::read(rt, from, input, s);
-    }
-    let line = room::part(input, s.at, end);
-    let a = taken::read(rt, space, list, line, s.bytes, s.words);
-    let mut next = after(input::behind(s, end), a);
-    replay_session::run::set(book, a);
-    let left = replay_session::run::run(frames, book, space, list, next, a);
-    let procs = left.procs;
-    let answer = left.answer;
-    next.procs = procs;
-    let written = replay_replies::put_reply(
-        out,
-        next.setup,
-        room::part(frames, 0, next.bytes),
-        room::first_words(book, next.words),
-        room::part(space, taken::BYTES_AT, a.bytes),
-        procs,
-        a,
-        answer,
-    );
-    if let Err(why) = written {
-        let _ = eprintln!(rt; "replay: standard output: {why}");
-        next.failed = true;
+        Asked::Flags(flags) => next.setup.flags = flags,
+        _ => {}
     }
     next
 }
 
-fn main(rt: HostRuntime) -> ExitCode {
-    let mut frames = [0u8; replay_session::FRAMES_SIZE];
-    let mut book = [0u64; replay_session::BOOK_SIZE];
-    let mut space = [0u8; taken::SPACE_MAX];
-    let mut list = [0u64; taken::ARGS];
-    let mut input = [0u8; input::INPUT_SIZE];
-    let (mut from, mut out) = (rt.stdin(), rt.stdout());
-    let mut s = fresh(0, 0, 0, false);
-    // A proved loop has to end, and nothing says that the input does: it has fewer bytes than this.
-    let mut left: u64 = u64::MAX;
-    while 0 < left {
-        if s.failed {
-            return ExitCode::FAILURE;
-        }
-        if s.ended & (s.end <= s.at) {
-            return ExitCode::SUCCESS;
-        }
-        s = turn(
-            &rt,
-            &mut from,
-            &mut out,
-            &mut frames,
-            &mut book,
-            &mut space,
-            &mut list,
-            &mut input,
-            s,
-        );
-        left -= 1;
+// Runs and answers a line, and gives what is held behind it.
+fn turn<W: Write>(
+    rt: &impl Files,
+    out: &mut W,
+    memory: &mut Memory,
+    s: Session,
+    line: &[u8],
+) -> io::Result<Session> {
+    let asked = replay_script::read(rt, &mut memory.buffers, line, s.bytes, s.words);
+    let a = asked.unwrap_or(Asked::Nothing);
+    let mut next = after(s, a);
+    run::set(&mut memory.book, a);
+    let left = run::run(&mut memory.frames, &mut memory.book, &mut memory.buffers, &next, a);
+    next.procs = left.procs;
+    let reply = Reply {
+        setup: next.setup,
+        procs: &next.procs,
+        frames: part(&memory.frames, 0, next.bytes),
+        book: part(&memory.book, 0, next.words),
+        bytes: &memory.buffers.bytes,
+        asked,
+        answer: left.answer,
+    };
+    write!(out, "{reply}")?;
+    Ok(next)
+}
+
+// Runs and answers each line.
+fn replay<R: Read, W: Write>(
+    rt: &impl Files,
+    from: &mut R,
+    out: &mut W,
+    memory: &mut Memory,
+) -> Result<(), Failed> {
+    let mut input = Input {
+        bytes: [0; INPUT_SIZE],
+        at: 0,
+        end: 0,
+        ended: false,
+    };
+    let mut s = fresh(0);
+    // A proved loop has to end: an input has fewer lines than this.
+    for _ in 0..u64::MAX {
+        let Some(line) = input.line(from).map_err(Failed::Input)? else {
+            return Ok(());
+        };
+        s = turn(rt, out, memory, s, line).map_err(Failed::Output)?;
     }
-    ExitCode::SUCCESS
+    Ok(())
+}
+
+fn main(rt: HostRuntime) -> ExitCode {
+    let mut memory = Memory {
+        frames: [0; FRAMES_SIZE],
+        book: [0; BOOK_SIZE],
+        buffers: Buffers::default(),
+    };
+    let (mut from, mut out) = (rt.stdin(), rt.stdout());
+    match replay(&rt, &mut from, &mut out, &mut memory) {
+        Ok(()) => ExitCode::SUCCESS,
+        Err(failed) => {
+            let _ = eprintln!(rt; "replay: {failed}");
+            ExitCode::FAILURE
+        }
+    }
 }

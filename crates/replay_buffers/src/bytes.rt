@@ -1,16 +1,26 @@
 // Bytes as a script writes them: pairs of hex digits, `-` for none, `'` and the bytes themselves, or `@` and a file's name.
 ghost use Rattle.std.specs.Prelude.{◌≡◌, ◌++◌, min, length, take, drop};
 
-use std::fs;
+use std::fmt::{Formatter, Write};
+use std::{fmt, fs};
 use std::rt::Files;
 
-// Why a line is no call: it is none of those that there are, its file cannot be read, or one of the two is too long.
+// Why a line is no call: it is none of those that there are, its file cannot be read, or one of the two has more bytes than it may have.
 #[derive(Clone, Copy, Debug, PartialEq, Eq)]
 pub enum Why {
     Bad,
     Missing,
-    LargeFile,
-    LargeLine,
+    TooLarge(usize),
+}
+
+impl fmt::Display for Why {
+    fn fmt<W: Write>(&self, f: &mut Formatter<W>) -> fmt::Result {
+        match self {
+            Why::Bad => write!(f, "bad line"),
+            Why::Missing => write!(f, "no such file"),
+            Why::TooLarge(most) => write!(f, "too large: at most {most} bytes"),
+        }
+    }
 }
 
 // The byte that two hex digits of either case give.
@@ -26,7 +36,8 @@ fn pairs(dst: &mut [u8], word: &[u8]) -> Result<usize, Why> {
     if word.len() % 2 != 0 || n == 0 {
         return Err(Why::Bad);
     }
-    let lent = dst.get_mut(..n).ok_or(Why::LargeFile)?;
+    let room = dst.len();
+    let lent = dst.get_mut(..n).ok_or(Why::TooLarge(room))?;
     for (b, pair) in lent.iter_mut().zip(word.chunks_exact(2)) {
         *b = byte(pair[0], pair[1]).ok_or(Why::Bad)?;
     }

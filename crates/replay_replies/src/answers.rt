@@ -1,85 +1,67 @@
-// The answers of calls.
-use crate::texts::{put, put_bytes, put_named};
-use spec::Answer;
-use std::io;
-use std::io::Write;
+// The answers of calls, and bytes.
+use spec::{Answer, Refusal, Setup, VirtRange};
+use std::fmt;
+use std::fmt::{Formatter, Write};
 
-// Writes the registers that a program is entered with.
-fn put_regs<W: Write>(out: &mut W, r: spec::UserRegs) -> io::Result<()> {
-    put_named(out, b"ok pc=", r.pc)?;
-    put_named(out, b" sp=", r.sp)?;
-    put_named(out, b" argc=", r.argc)?;
-    put_named(out, b" argv=", r.argv)
-}
+// A call's answer.
+pub(crate) struct Told(pub(crate) Answer);
 
-// Writes a call's answer.
-pub(crate) fn put_answer<W: Write>(out: &mut W, a: Answer) -> io::Result<()> {
-    match a {
-        Answer::Regs(r) => put_regs(out, r),
-        Answer::Value(v) => put_named(out, b"ok ", v),
-        Answer::Done => put(out, b"ok"),
-        Answer::No(address) => put_named(out, b"ok no ", address),
-        Answer::Refused(n) => put_named(out, b"refused ", n),
-        Answer::Ended(n) => put_named(out, b"ended ", n),
-        Answer::RefusedAt(address) => put_named(out, b"refused 35 ", address),
-        Answer::EndedAt(address) => put_named(out, b"ended 35 ", address),
-    }
-}
-
-// Writes the answer of a range: its value says yes.
-pub(crate) fn put_yes<W: Write>(out: &mut W, a: Answer) -> io::Result<()> {
-    match a {
-        Answer::Value(_) => put(out, b"ok yes"),
-        _ => put_answer(out, a),
-    }
-}
-
-// Writes the answer of a copy from user memory: its bytes, if they were copied.
-pub(crate) fn put_copied<W: Write>(out: &mut W, a: Answer, bytes: &[u8]) -> io::Result<()> {
-    put_answer(out, a)?;
-    match a {
-        Answer::Done => put_bytes(out, bytes),
-        _ => Ok(()),
-    }
-}
-
-// Writes the answer of a string copy: its length, or 35 and the bad address, and the whole buffer as it is left.
-pub(crate) fn put_string<W: Write>(out: &mut W, a: Answer, bytes: &[u8]) -> io::Result<()> {
-    put_answer(out, a)?;
-    match a {
-        Answer::Value(_) | Answer::RefusedAt(_) => put_bytes(out, bytes),
-        _ => Ok(()),
-    }
-}
-
-// Writes a name as a record keeps it.
-pub(crate) fn put_kept<W: Write>(out: &mut W, bytes: &[u8]) -> io::Result<()> {
-    let mut name = [0u8; 28];
-    kstr::kstrcpy(&mut name, bytes);
-    put_copied(out, Answer::Done, &name)
-}
-
-// Writes the answer of the break's rule: its value, and the bss's start and end.
-pub(crate) fn put_rule<W: Write>(
-    out: &mut W,
-    setup: spec::Setup,
-    bss: segment::Bss,
-    free: u64,
-    addr: u64,
-) -> io::Result<()> {
-    let e = setup::setup_error(setup);
-    let b = segment::ibrk(setup, bss, addr, free);
-    let error = if e != 0 { e } else { b.error };
-    if error != 0 {
-        return put_answer(out, Answer::Refused(error));
-    }
-    let after = b.bss;
-    match after {
-        segment::Bss::Set(r) => {
-            put_named(out, b"ok ", b.value)?;
-            put_named(out, b" ", r.start)?;
-            put_named(out, b" ", r.end)
+impl fmt::Display for Told {
+    fn fmt<W: Write>(&self, f: &mut Formatter<W>) -> fmt::Result {
+        match self.0 {
+            Answer::Regs(r) => {
+                let spec::UserRegs { pc, sp, argc, argv } = r;
+                write!(f, "ok pc={pc} sp={sp} argc={argc} argv={argv}")
+            }
+            Answer::Value(value) => write!(f, "ok {value}"),
+            Answer::Done => write!(f, "ok"),
+            Answer::No(addr) => write!(f, "ok no {addr}"),
+            Answer::Refused(number) => write!(f, "refused {number}"),
+            Answer::Ended(number) => write!(f, "ended {number}"),
+            Answer::RefusedAt(addr) => write!(f, "refused 35 {addr}"),
+            Answer::EndedAt(addr) => write!(f, "ended 35 {addr}"),
         }
-        segment::Bss::Unset => put_named(out, b"ok ", b.value),
+    }
+}
+
+// Bytes: two hex digits each, or `-` for none.
+pub(crate) struct Hex<'a>(pub(crate) &'a [u8]);
+
+impl<'a> fmt::Display for Hex<'a> {
+    fn fmt<W: Write>(&self, f: &mut Formatter<W>) -> fmt::Result {
+        if self.0.is_empty() {
+            return write!(f, "-");
+        }
+        for b in self.0 {
+            write!(f, "{b:02x}")?;
+        }
+        Ok(())
+    }
+}
+
+// The answer of the break's rule: its value, and the bss's start and end.
+pub(crate) struct Rule {
+    pub(crate) setup: Setup,
+    pub(crate) bss: Option<VirtRange>,
+    pub(crate) free: u64,
+    pub(crate) addr: u64,
+}
+
+impl Rule {
+    fn answer(&self) -> Result<segment::Break, Refusal> {
+        setup::check(self.setup)?;
+        segment::ibrk(self.setup, self.bss, self.addr, self.free)
+    }
+}
+
+impl fmt::Display for Rule {
+    fn fmt<W: Write>(&self, f: &mut Formatter<W>) -> fmt::Result {
+        match self.answer() {
+            Ok(segment::Break { value, bss }) => {
+                let VirtRange { start, end } = bss;
+                write!(f, "ok {value} {start} {end}")
+            }
+            Err(e) => Told(Answer::from(e)).fmt(f),
+        }
     }
 }

@@ -6,6 +6,5 @@ mod answers;
 mod map;
 mod reply;
 mod sums;
-mod texts;
 
-pub use reply::put_reply;
+pub use reply::Reply;

@@ -1,145 +1,152 @@
 // The table of a process: its name, its segments and its bss, each with its pages, and how many pages there are. All lines but the
 // first begin with a space. It shows where each page lies and who holds its frame, with a torn book too.
-ghost use Rattle.std.specs.Prelude.{◌+◌, ◌*◌, ◌<◌, length};
+ghost use Rattle.std.specs.Prelude.{◌≤◌};
 
-use crate::texts::{put, put_named};
-use spec::VirtRange;
-use std::io;
-use std::io::Write;
+use crate::answers::Told;
+use spec::{Answer, PAGE_SIZE_4K, Proc, Procs, Refusal, VirtRange};
+use std::fmt;
+use std::fmt::{Formatter, Write};
 
-// Writes a space and a name without the zeros at its end, with dots for what is no sign; nothing for no name.
-fn put_name<W: Write>(out: &mut W, name: [u8; 28]) -> io::Result<()> {
-    let mut text = [0u8; 28];
-    let mut end = 0;
-    let mut i = 0;
-    while i < 28 {
-        let b = name[i];
-        text[i] = if (32 < b) & (b < 127) { b } else { b'.' };
-        i += 1;
-        if b != 0 {
-            end = i;
+// The words of a frame in the book: sixteen places, and the count.
+const BOOK_WORDS: usize = 17;
+
+// A name without the zeros at its end, with dots for what is no sign, behind a space; nothing for no name.
+struct Name<'a>(&'a [u8; 28]);
+
+impl<'a> fmt::Display for Name<'a> {
+    fn fmt<W: Write>(&self, f: &mut Formatter<W>) -> fmt::Result {
+        let Some(last) = self.0.iter().rposition(|b| *b != 0) else {
+            return Ok(());
+        };
+        write!(f, " ")?;
+        for b in &self.0[..last + 1] {
+            let sign = if b.is_ascii_graphic() { char::from(*b) } else { '.' };
+            write!(f, "{sign}")?;
         }
+        Ok(())
     }
-    if end == 0 {
-        return Ok(());
-    }
-    put(out, b" ")?;
-    put(out, replay_buffers::room::part(&text, 0, end))
 }
 
-// Writes the holders of frame `k`: the numbers of its places that are not 0.
-fn put_holders<W: Write>(out: &mut W, book: &[u64], k: usize) -> io::Result<()>
-    requires { 17 * k + 16 < length book.now }
+// The line of a page: its address, and the first frame that has it in its process's place, with the numbers of the frame's places that
+// are not 0.
+struct Page<'a> {
+    book: &'a [u64],
+    number: u64,
+    page: u64,
+}
+
+impl<'a> fmt::Display for Page<'a> {
+    fn fmt<W: Write>(&self, f: &mut Formatter<W>) -> fmt::Result {
+        let page = self.page;
+        let place = (self.number.wrapping_sub(1) % 16) as usize;
+        write!(f, "\n    page {page}")?;
+        for (k, frame) in self.book.chunks_exact(BOOK_WORDS).enumerate() {
+            let w = frame[place];
+            if book::page_of(w) == page && book::owner_of(w) == self.number {
+                write!(f, " frame {k} holders")?;
+                for (holder, w) in (1u64..17).zip(frame) {
+                    if *w != 0 {
+                        write!(f, " {holder}")?;
+                    }
+                }
+                return Ok(());
+            }
+        }
+        write!(f, " frame none")
+    }
+}
+
+// From the first page of a range up to its end. One that ends past the top of user memory has no pages.
+fn paged(r: VirtRange) -> VirtRange
+    ensures { result.end ≤ 140737488355328 }
 {
-    put(out, b" holders")?;
-    let mut i: usize = 0;
-    while i < 16 {
-        let w = book[17 * k + i];
-        i += 1;
-        if w != 0 {
-            put_named(out, b" ", i as u64)?;
-        }
+    match mem::checked_page_up(r.start) {
+        Some(start) if r.end <= spec::MAX_TOP => VirtRange { start, end: r.end },
+        _ => VirtRange::default(),
     }
-    Ok(())
 }
 
-// Writes the line of a page: its address, and the first frame that has it in its process's place, with the frame's holders.
-fn put_page<W: Write>(out: &mut W, book: &[u64], number: u64, page: u64) -> io::Result<()> {
-    let place = (std::num::wrapping_sub_u64(number, 1) % 16) as usize;
-    let frames = book.len() / 17;
-    put_named(out, b"\n    page ", page)?;
-    let mut k = 0;
-    while k < frames {
-        let w = book[17 * k + place];
-        if (book::page_of(w) == page) & (book::owner_of(w) == number) {
-            put_named(out, b" frame ", k as u64)?;
-            return put_holders(out, book, k);
-        }
-        k += 1;
-    }
-    put(out, b" frame none")
+// How many pages a range has.
+fn page_count(r: VirtRange) -> u64 {
+    let pages = paged(r);
+    pages.end.saturating_sub(pages.start).div_ceil(PAGE_SIZE_4K)
 }
 
-// Writes the lines of a range's pages, and answers how many these are.
-fn put_pages<W: Write>(out: &mut W, book: &[u64], number: u64, r: VirtRange) -> io::Result<u64> {
-    let mem::Rounded::To(start) = mem::checked_page_up(r.start) else {
-        return Ok(0);
-    };
-    let end = r.end;
-    if spec::MAX_TOP < end {
-        return Ok(0);
-    }
-    let mut pages: u64 = 0;
-    let mut page = start;
-    while page < end {
-        put_page(out, book, number, page)?;
-        page += spec::PAGE_SIZE_4K;
-        pages += 1;
-    }
-    Ok(pages)
-}
-
-// Writes the line of a segment or the bss, and those of its pages, and answers how many pages these are. A range that ends before it
-// starts has no bytes.
-fn put_part<W: Write>(
-    out: &mut W,
-    kind: &[u8],
-    book: &[u64],
+// The line of a segment or the bss, and those of its pages. A range that ends before it starts has no bytes.
+struct Part<'a> {
+    kind: &'a str,
+    book: &'a [u64],
     number: u64,
-    r: VirtRange,
-) -> io::Result<u64> {
-    let size = if r.end < r.start { 0 } else { r.end - r.start };
-    put(out, kind)?;
-    put_named(out, b" ", r.start)?;
-    put_named(out, b" ", r.end)?;
-    put_named(out, b" size ", size)?;
-    put_pages(out, book, number, r)
+    range: VirtRange,
 }
 
-// Writes the lines of a segment, if the record uses its place, and answers how many pages these show.
-fn put_segment<W: Write>(
-    out: &mut W,
-    book: &[u64],
-    number: u64,
-    segment: spec::UserSegment,
-) -> io::Result<u64> {
-    let r = segment.range;
-    let perm = segment.perm;
+impl<'a> fmt::Display for Part<'a> {
+    fn fmt<W: Write>(&self, f: &mut Formatter<W>) -> fmt::Result {
+        let Part { kind, book, number, range } = *self;
+        let VirtRange { start, end } = range;
+        let size = end.saturating_sub(start);
+        write!(f, "\n  {kind} {start} {end} size {size}")?;
+        let pages = paged(range);
+        for page in (pages.start..pages.end).step_by(4096) {
+            Page { book, number, page }.fmt(f)?;
+        }
+        Ok(())
+    }
+}
+
+// What a segment is by its permission, if its place is used.
+fn kind(perm: u64) -> Option<&'static str> {
     match perm {
-        spec::TEXT => put_part(out, b"\n  text", book, number, r),
-        spec::RODATA => put_part(out, b"\n  rodata", book, number, r),
-        spec::DATA => put_part(out, b"\n  data", book, number, r),
-        _ => Ok(0),
+        spec::TEXT => Some("text"),
+        spec::RODATA => Some("rodata"),
+        spec::DATA => Some("data"),
+        _ => None,
     }
 }
 
-// Writes the table of a living process.
-pub(crate) fn put_map<W: Write>(
-    out: &mut W,
-    book: &[u64],
-    procs: spec::Procs,
-    number: u64,
-) -> io::Result<()> {
-    if !call_front::is_number(number) {
-        return crate::answers::put_answer(out, spec::Answer::Refused(spec::NUMBER));
+// The table of a living process.
+pub(crate) struct Map<'a> {
+    pub(crate) book: &'a [u64],
+    pub(crate) procs: &'a Procs,
+    pub(crate) number: u64,
+}
+
+impl<'a> Map<'a> {
+    // The record of the process, or why there is none.
+    fn record(&self) -> Result<Proc, Refusal> {
+        if !call_front::is_number(self.number) {
+            return Err(Refusal::Number);
+        }
+        if !call_front::lives(*self.procs, self.number) {
+            return Err(Refusal::Dead);
+        }
+        Ok(call_front::proc_at(*self.procs, self.number))
     }
-    if !call_front::lives(procs, number) {
-        return crate::answers::put_answer(out, spec::Answer::Refused(spec::DEAD));
+
+    fn table<W: Write>(&self, f: &mut Formatter<W>, p: &Proc) -> fmt::Result {
+        let Map { book, number, .. } = *self;
+        let name = Name(&p.text);
+        write!(f, "process {number}{name}")?;
+        let mut pages: u64 = 0;
+        for segment in &p.segments {
+            if let Some(kind) = kind(segment.perm) {
+                let range = segment.range;
+                Part { kind, book, number, range }.fmt(f)?;
+                pages = pages.saturating_add(page_count(range));
+            }
+        }
+        let range = p.bss;
+        Part { kind: "bss", book, number, range }.fmt(f)?;
+        pages = pages.saturating_add(page_count(range));
+        write!(f, "\n  pages {pages}")
     }
-    let at = (std::num::wrapping_sub_u64(number, 1) % 16) as usize;
-    let p = procs.all[at];
-    let name = p.text;
-    let segments = p.segments;
-    put_named(out, b"process ", number)?;
-    put_name(out, name)?;
-    let mut pages: u64 = 0;
-    let mut i = 0;
-    while i < 16 {
-        let segment = segments[i];
-        let shown = put_segment(out, book, number, segment)?;
-        pages = std::num::wrapping_add_u64(pages, shown);
-        i += 1;
+}
+
+impl<'a> fmt::Display for Map<'a> {
+    fn fmt<W: Write>(&self, f: &mut Formatter<W>) -> fmt::Result {
+        match self.record() {
+            Ok(p) => self.table(f, &p),
+            Err(e) => Told(Answer::from(e)).fmt(f),
+        }
     }
-    let more = put_part(out, b"\n  bss", book, number, p.bss)?;
-    put_named(out, b"\n  pages ", std::num::wrapping_add_u64(pages, more))
 }

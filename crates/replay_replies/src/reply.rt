@@ -1,52 +1,72 @@
 // The answer of a line. A new line whose answer has a form of its own has an arm here.
-use crate::texts::{put, put_named};
-use crate::{answers, map, sums};
+use crate::answers::{Hex, Rule, Told};
+use crate::map::Map;
+use crate::sums::Sums;
 use replay_buffers::bytes::Why;
-use replay_script::asked::{Asked, Kind};
-use std::io;
-use std::io::Write;
+use replay_buffers::room::part;
+use replay_script::asked::Asked;
+use spec::{Answer, Procs, Setup};
+use std::fmt;
+use std::fmt::{Formatter, Write};
 
-// Writes that a line or a file has more bytes than it may have.
-fn put_large<W: Write>(out: &mut W, most: usize) -> io::Result<()> {
-    put_named(out, b"too large: at most ", most as u64)?;
-    put(out, b" bytes")
+// What a line asked for, and what was answered; and what the program holds behind it.
+pub struct Reply<'a> {
+    pub setup: Setup,
+    pub procs: &'a Procs,
+    pub frames: &'a [u8],
+    pub book: &'a [u64],
+    pub bytes: &'a [u8],
+    pub asked: Result<Asked, Why>,
+    pub answer: Answer,
 }
 
-// Writes why a line is no call.
-fn put_why<W: Write>(out: &mut W, why: Why) -> io::Result<()> {
-    match why {
-        Why::Bad => put(out, b"bad line"),
-        Why::Missing => put(out, b"no such file"),
-        Why::LargeFile => put_large(out, replay_script::asked::FILE_MAX),
-        Why::LargeLine => put_large(out, replay_script::asked::LINE_MAX),
+// A name as a record keeps it.
+fn kept(name: &[u8]) -> [u8; 28] {
+    let mut text = [0u8; 28];
+    kstr::kstrcpy(&mut text, name);
+    text
+}
+
+impl<'a> Reply<'a> {
+    // The answer of a range: its value says yes.
+    fn range<W: Write>(&self, f: &mut Formatter<W>) -> fmt::Result {
+        match self.answer {
+            Answer::Value(_) => write!(f, "ok yes"),
+            answer => Told(answer).fmt(f),
+        }
+    }
+
+    // The answer of a copy from user memory: its bytes, if they were copied; of the string copy with 35 too, the whole buffer as it is
+    // left.
+    fn copied<W: Write>(&self, f: &mut Formatter<W>, size: usize) -> fmt::Result {
+        Told(self.answer).fmt(f)?;
+        match self.answer {
+            Answer::Done | Answer::Value(_) | Answer::RefusedAt(_) => {
+                let bytes = Hex(part(self.bytes, 0, size));
+                write!(f, " {bytes}")
+            }
+            _ => Ok(()),
+        }
     }
 }
 
-// Writes the answer of a line, given what the program holds behind it. An error says that not all of it was written.
-pub fn put_reply<W: Write>(
-    out: &mut W,
-    setup: spec::Setup,
-    frames: &[u8],
-    book: &[u64],
-    bytes: &[u8],
-    procs: spec::Procs,
-    a: Asked,
-    answer: spec::Answer,
-) -> io::Result<()> {
-    let bss = segment::Bss::Set(mem::range(a.number, a.second));
-    let kind = a.kind;
-    match kind {
-        Kind::Nothing => return Ok(()),
-        Kind::Wrong(why) => put_why(out, why)?,
-        Kind::Sum => sums::put_sums(out, procs, book, frames)?,
-        Kind::Map => map::put_map(out, book, procs, a.number)?,
-        Kind::Rule => answers::put_rule(out, setup, bss, a.third, a.fourth)?,
-        Kind::RuleNone => answers::put_rule(out, setup, segment::Bss::Unset, a.number, a.second)?,
-        Kind::Range => answers::put_yes(out, answer)?,
-        Kind::From => answers::put_copied(out, answer, bytes)?,
-        Kind::Text => answers::put_string(out, answer, bytes)?,
-        Kind::Name => answers::put_kept(out, bytes)?,
-        _ => answers::put_answer(out, answer)?,
+impl<'a> fmt::Display for Reply<'a> {
+    fn fmt<W: Write>(&self, f: &mut Formatter<W>) -> fmt::Result {
+        match self.asked {
+            Err(why) => why.fmt(f)?,
+            Ok(Asked::Nothing) => return Ok(()),
+            Ok(Asked::Sum) => Sums { procs: self.procs, book: self.book, frames: self.frames }.fmt(f)?,
+            Ok(Asked::Map { number }) => Map { book: self.book, procs: self.procs, number }.fmt(f)?,
+            Ok(Asked::Rule { bss, free, addr }) => Rule { setup: self.setup, bss, free, addr }.fmt(f)?,
+            Ok(Asked::Range { .. }) => self.range(f)?,
+            Ok(Asked::From { size, .. } | Asked::Text { size, .. }) => self.copied(f, size)?,
+            Ok(Asked::Name { size }) => {
+                let name = kept(part(self.bytes, 0, size));
+                let name = Hex(&name);
+                write!(f, "ok {name}")?;
+            }
+            Ok(_) => Told(self.answer).fmt(f)?,
+        }
+        write!(f, "\n")
     }
-    put(out, b"\n")
 }

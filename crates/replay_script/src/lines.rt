@@ -260,7 +260,7 @@ pub fn read(
         return Ok(Asked::Nothing);
     }
     if LINE_MAX < line.len() {
-        return Err(Why::LargeLine);
+        return Err(Why::TooLarge(LINE_MAX));
     }
     known(rt, b, line, bytes, words)
 }

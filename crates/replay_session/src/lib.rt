@@ -1,4 +1,4 @@
-// What the program replay holds by value: records, setup and sizes, and how far its input is taken; and the calls that lines ask for.
+// What the program replay holds: records, setup and sizes; and the calls that lines ask for.
 
 #![tactic(auto)]
 
@@ -17,8 +17,7 @@ pub const FRAMES_SIZE: usize = FRAMES_MAX * FRAME_BYTES;
 
 pub const BOOK_SIZE: usize = FRAMES_MAX * BOOK_WORDS;
 
-// How many bytes the frames have, and how many words their book; and how many of these a call is lent. The input's bytes from `at` to
-// `end` aren't taken yet, and if it has ended, there are no more. If reading or writing has failed, no further line is run.
+// Records and setup; how many bytes the frames have, and how many words their book; and how many of these a call is lent.
 #[derive(Clone, Copy)]
 pub struct Session {
     pub procs: Procs,
@@ -27,8 +26,4 @@ pub struct Session {
     pub words: usize,
     pub lent_bytes: usize,
     pub lent_words: usize,
-    pub at: usize,
-    pub end: usize,
-    pub ended: bool,
-    pub failed: bool,
 }

@@ -1,4 +1,4 @@
-// Fork with the list of segments that numbers give. The list is filled by value, and `lend` lends the first of its segments.
+// Fork with the list of segments that numbers give.
 ghost use Rattle.std.specs.Prelude.{◌≡◌, ◌++◌, ◌+◌, ◌*◌, ◌≤◌, ◌<◌, length, take, drop};
 ghost use Rattle.spec.specs.Machine.{fork, plainly, call};
 ghost use Rattle.spec.specs.World.{Does, state_of};
@@ -10,11 +10,7 @@ use spec::{Left, Procs, Setup, UserSegment, VirtRange};
 fn count(triples: &[u64]) -> usize
     ensures { (result ≤ 17) × (3 * result ≤ length triples.now) × (result < 17 → length triples.now < 3 * result + 3) }
 {
-    let n = triples.len() / 3;
-    if n < 17 {
-        return n;
-    }
-    17
+    (triples.len() / 3).min(17)
 }
 
 // The segment at place i of a list, three numbers each.
@@ -31,39 +27,16 @@ fn segment_at(triples: &[u64], i: usize) -> UserSegment
     }
 }
 
-// The first n segments of a list, and zeros behind them.
+// The first n segments of a list, and unused places behind them.
 fn segments(triples: &[u64], n: usize) -> [UserSegment; 17]
     requires { (n ≤ 17) × (3 * n ≤ length triples.now) }
     ensures { (length result ≡ 17) × (take n result ++ list_of (drop (3 * n) triples.now) ≡ list_of triples.now) }
 {
-    let zero = UserSegment {
-        range: VirtRange { start: 0, end: 0 },
-        perm: 0,
-    };
-    let mut list = [zero; 17];
-    let mut i = 0;
-    while i < n {
+    let mut list = [UserSegment::default(); 17];
+    for i in 0..n {
         list[i] = segment_at(triples, i);
-        i += 1;
     }
     list
-}
-
-// Fork with the first n segments of an array lent.
-fn lend(
-    setup: Setup,
-    frames: &mut [u8],
-    book: &mut [u64],
-    procs: Procs,
-    number: u64,
-    child: u64,
-    list: [UserSegment; 17],
-    n: usize,
-) -> Left
-    requires { n ≤ 17 }
-    ensures { Does (state_of setup frames.old book.old procs) (call number (fork child (take n list))) (state_of setup frames.new book.new result.procs) (plainly result.answer) }
-{
-    call_fork::fork_list(setup, frames, book, procs, number, child, &list[..n])
 }
 
 // Fork with the list of segments that numbers give, three each: start, end and permission. A rest of one or two numbers is cut off.
@@ -80,5 +53,5 @@ pub(crate) fn fork_triples(
 {
     let n = count(triples);
     let list = segments(triples, n);
-    lend(setup, frames, book, procs, number, child, list, n)
+    call_fork::fork_list(setup, frames, book, procs, number, child, &list[..n])
 }
