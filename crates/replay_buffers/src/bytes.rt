@@ -2,8 +2,8 @@
 ghost use Rattle.std.specs.Prelude.{◌≡◌, ◌++◌, min, length, take, drop};
 
 use std::fmt::{Formatter, Write};
-use std::{fmt, fs};
 use std::rt::Files;
+use std::{fmt, fs};
 
 // Why a line is no call: it is none of those that there are, its file cannot be read, or one of the two has more bytes than it may have.
 #[derive(Clone, Copy, Debug, PartialEq, Eq)]
@@ -63,7 +63,7 @@ fn file(rt: &impl Files, dst: &mut [u8], path: &[u8]) -> Result<usize, Why> {
     if n < dst.len() {
         Ok(n)
     } else {
-        Err(Why::LargeFile)
+        Err(Why::TooLarge(dst.len().saturating_sub(1)))
     }
 }
 
