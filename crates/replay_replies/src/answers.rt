@@ -1,12 +1,13 @@
 // The answers of calls, and bytes.
 use spec::{Answer, Refusal, Setup, VirtRange};
 use std::fmt;
-use std::fmt::{Formatter, Write};
+use std::fmt::{Display, Formatter, Write};
 
 // A call's answer.
+#[derive(Clone, Copy)]
 pub(crate) struct Told(pub(crate) Answer);
 
-impl fmt::Display for Told {
+impl Display for Told {
     fn fmt<W: Write>(&self, f: &mut Formatter<W>) -> fmt::Result {
         match self.0 {
             Answer::Regs(r) => {
@@ -25,21 +26,25 @@ impl fmt::Display for Told {
 }
 
 // Bytes: two hex digits each, or `-` for none.
+#[derive(Clone, Copy)]
 pub(crate) struct Hex<'a>(pub(crate) &'a [u8]);
 
-impl<'a> fmt::Display for Hex<'a> {
+impl<'a> Display for Hex<'a> {
     fn fmt<W: Write>(&self, f: &mut Formatter<W>) -> fmt::Result {
         if self.0.is_empty() {
             return write!(f, "-");
         }
         for b in self.0 {
-            write!(f, "{b:02x}")?;
+            let high = char::from_digit(u32::from(*b / 16), 16).unwrap();
+            let low = char::from_digit(u32::from(*b % 16), 16).unwrap();
+            write!(f, "{high}{low}")?;
         }
         Ok(())
     }
 }
 
 // The answer of the break's rule: its value, and the bss's start and end.
+#[derive(Clone, Copy)]
 pub(crate) struct Rule {
     pub(crate) setup: Setup,
     pub(crate) bss: Option<VirtRange>,
@@ -54,7 +59,7 @@ impl Rule {
     }
 }
 
-impl fmt::Display for Rule {
+impl Display for Rule {
     fn fmt<W: Write>(&self, f: &mut Formatter<W>) -> fmt::Result {
         match self.answer() {
             Ok(segment::Break { value, bss }) => {

@@ -7,9 +7,10 @@ use replay_buffers::room::part;
 use replay_script::asked::Asked;
 use spec::{Answer, Procs, Setup};
 use std::fmt;
-use std::fmt::{Formatter, Write};
+use std::fmt::{Display, Formatter, Write};
 
 // What a line asked for, and what was answered; and what the program holds behind it.
+#[derive(Clone, Copy)]
 pub struct Reply<'a> {
     pub setup: Setup,
     pub procs: &'a Procs,
@@ -50,14 +51,30 @@ impl<'a> Reply<'a> {
     }
 }
 
-impl<'a> fmt::Display for Reply<'a> {
+impl<'a> Display for Reply<'a> {
     fn fmt<W: Write>(&self, f: &mut Formatter<W>) -> fmt::Result {
         match self.asked {
             Err(why) => why.fmt(f)?,
             Ok(Asked::Nothing) => return Ok(()),
-            Ok(Asked::Sum) => Sums { procs: self.procs, book: self.book, frames: self.frames }.fmt(f)?,
-            Ok(Asked::Map { number }) => Map { book: self.book, procs: self.procs, number }.fmt(f)?,
-            Ok(Asked::Rule { bss, free, addr }) => Rule { setup: self.setup, bss, free, addr }.fmt(f)?,
+            Ok(Asked::Sum) => Sums {
+                procs: self.procs,
+                book: self.book,
+                frames: self.frames,
+            }
+            .fmt(f)?,
+            Ok(Asked::Map { number }) => Map {
+                book: self.book,
+                procs: self.procs,
+                number,
+            }
+            .fmt(f)?,
+            Ok(Asked::Rule { bss, free, addr }) => Rule {
+                setup: self.setup,
+                bss,
+                free,
+                addr,
+            }
+            .fmt(f)?,
             Ok(Asked::Range { .. }) => self.range(f)?,
             Ok(Asked::From { size, .. } | Asked::Text { size, .. }) => self.copied(f, size)?,
             Ok(Asked::Name { size }) => {
