@@ -16,11 +16,12 @@ struct Name<'a>(&'a [u8; 28]);
 
 impl<'a> Display for Name<'a> {
     fn fmt<W: Write>(&self, f: &mut Formatter<W>) -> fmt::Result {
-        let Some(last) = self.0.iter().rposition(|b| *b != 0) else {
+        let name = self.0;
+        let Some(last) = name.iter().rposition(|b| *b != 0) else {
             return Ok(());
         };
         write!(f, " ")?;
-        for b in &self.0[..last + 1] {
+        for b in &name[..last + 1] {
             let sign = if b.is_ascii_graphic() {
                 char::from(*b)
             } else {
@@ -127,7 +128,13 @@ pub(crate) struct Map<'a> {
 impl<'a> Map<'a> {
     // The record of the process, or why there is none.
     fn record(&self) -> Result<Proc, Refusal> {
-        Ok(Proc::default())
+        if !call_front::is_number(self.number) {
+            return Err(Refusal::Number);
+        }
+        if !call_front::lives(*self.procs, self.number) {
+            return Err(Refusal::Dead);
+        }
+        Ok(self.procs.all[(self.number - 1) as usize])
     }
 
     fn table<W: Write>(&self, f: &mut Formatter<W>, p: &Proc) -> fmt::Result {

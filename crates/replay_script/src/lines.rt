@@ -23,7 +23,11 @@ fn numbers<const N: usize>(line: &[u8], first: usize) -> Result<[u64; N], Why> {
 
 // A number that is at most `most`.
 fn size(n: u64, most: usize) -> Result<usize, Why> {
-    if n <= most as u64 { Ok(n as usize) } else { Err(Why::Bad) }
+    if n <= most as u64 {
+        Ok(n as usize)
+    } else {
+        Err(Why::Bad)
+    }
 }
 
 // A number that is a byte.
@@ -35,7 +39,11 @@ fn byte(n: u64) -> Result<u8, Why> {
 fn image_place(line: &[u8]) -> usize
     ensures { result ≤ 4 }
 {
-    if words::word(line, 3).starts_with(b"aout=") { 4 } else { 3 }
+    if words::word(line, 3).starts_with(b"aout=") {
+        4
+    } else {
+        3
+    }
 }
 
 // The form that word 3 says, if it says one.
@@ -100,7 +108,11 @@ fn lend(line: &[u8], bytes: usize, words: usize) -> Result<Asked, Why> {
 fn word(line: &[u8], words: usize) -> Result<Asked, Why> {
     let [place, word] = numbers::<2>(line, 1)?;
     let place = size(place, words)?;
-    if place < words { Ok(Asked::Word { place, word }) } else { Err(Why::Bad) }
+    if place < words {
+        Ok(Asked::Word { place, word })
+    } else {
+        Err(Why::Bad)
+    }
 }
 
 // start NUMBER NAME [aout=MAGIC] IMAGE [ARG ..]
@@ -112,7 +124,11 @@ fn start(rt: &impl Files, b: &mut Buffers, line: &[u8]) -> Result<Asked, Why> {
     let args = b.take_args(rt, line, place + 1)?;
     let size = b.take(rt, words::word(line, place))?;
     let image = Image { form, name, size };
-    Ok(Asked::Start { number, image, args })
+    Ok(Asked::Start {
+        number,
+        image,
+        args,
+    })
 }
 
 // replace NUMBER NAME [aout=MAGIC] IMAGE ARGV
@@ -124,14 +140,23 @@ fn replace(rt: &impl Files, b: &mut Buffers, line: &[u8]) -> Result<Asked, Why> 
     let size = b.take(rt, words::word(line, place))?;
     let [argv] = numbers::<1>(line, place + 1)?;
     let image = Image { form, name, size };
-    Ok(Asked::Replace { number, image, argv })
+    Ok(Asked::Replace {
+        number,
+        image,
+        argv,
+    })
 }
 
 // push NUMBER PC TOP [ARG ..]
 fn push(rt: &impl Files, b: &mut Buffers, line: &[u8]) -> Result<Asked, Why> {
     let [number, pc, top] = numbers::<3>(line, 1)?;
     let args = b.take_args(rt, line, 4)?;
-    Ok(Asked::Push { number, pc, top, args })
+    Ok(Asked::Push {
+        number,
+        pc,
+        top,
+        args,
+    })
 }
 
 // fork PARENT CHILD START END PERM ..: as many numbers as there is room for.
@@ -141,7 +166,11 @@ fn fork_list(b: &mut Buffers, line: &[u8]) -> Result<Asked, Why> {
     if words::spaces(line) % 3 != 2 {
         return Err(Why::Bad);
     }
-    Ok(Asked::ForkList { number, child, count })
+    Ok(Asked::ForkList {
+        number,
+        child,
+        count,
+    })
 }
 
 // range NUMBER ADDRESS LENGTH r|w
@@ -152,7 +181,12 @@ fn range(line: &[u8]) -> Result<Asked, Why> {
         b"w" => true,
         _ => return Err(Why::Bad),
     };
-    Ok(Asked::Range { number, addr, len, write })
+    Ok(Asked::Range {
+        number,
+        addr,
+        len,
+        write,
+    })
 }
 
 // from NUMBER ADDRESS LENGTH
@@ -180,7 +214,11 @@ fn text(line: &[u8]) -> Result<Asked, Why> {
 fn rule(line: &[u8]) -> Result<Asked, Why> {
     if words::word(line, 1) == b"none".as_slice() && words::word(line, 2) == b"none".as_slice() {
         let [free, addr] = numbers::<2>(line, 3)?;
-        return Ok(Asked::Rule { bss: None, free, addr });
+        return Ok(Asked::Rule {
+            bss: None,
+            free,
+            addr,
+        });
     }
     let [start, end, free, addr] = numbers::<4>(line, 1)?;
     let bss = Some(VirtRange { start, end });
@@ -234,7 +272,12 @@ fn known(
         (b"word", 2) => word(line, words),
         (b"numbers", 4) => {
             let [utzero, ustktop, ustksize, uaddrtop] = numbers::<4>(line, 1)?;
-            Ok(Asked::Numbers { utzero, ustktop, ustksize, uaddrtop })
+            Ok(Asked::Numbers {
+                utzero,
+                ustktop,
+                ustksize,
+                uaddrtop,
+            })
         }
         (b"numbers", 1) => numbers_file(rt, b, line),
         (b"flags", 8) => codes(line),
