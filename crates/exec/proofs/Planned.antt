@@ -12,17 +12,18 @@ use Rattle.spec.specs.Numbers.{SetupOk, limit, page_up}
 use Rattle.spec.specs.Book.{zero_segment, stack, bss_segment, page_count}
 use Rattle.spec.specs.Program.{Segment, Program}
 use Rattle.spec.specs.Image.{read_error, program_of}
-use Rattle.spec.specs.Exec.{layout_ok, layout_error, bss_of, program_segments, program_bss, start_pieces}
+use Rattle.spec.specs.Exec.{layout_ok, layout_error, image_error, bss_of, program_segments, program_bss, start_pieces}
 use Rattle.spec.specs.declared.UserSegment.{UserSegment}
 use Rattle.spec.specs.declared.Form.{Form}
 use Rattle.spec.specs.declared.Setup.{Setup}
-use Rattle.spec_laws.proofs.Accepted.{read-means, recorded-all}
+use Rattle.spec_laws.proofs.Accepted.{Accepted, accepted-means, read-means, recorded-all}
 use Rattle.spec_laws.proofs.Loads.{AllLoad}
 use Rattle.spec.proofs.Free.{count-append}
-use Rattle.image.specs.Images.{program}
+use Rattle.image.specs.Images.{form, bytes, program}
 use Rattle.image.specs.declared.Image.{Image}
 use Rattle.exec.specs.Pages.{recorded}
 use Rattle.exec.specs.Plan.{plan_segments, SameImage}
+use Rattle.exec.specs.declared.Plan.{Plan}
 
 -- an image that was read of these bytes holds their program
 pub same-program : (image : Image) (setup : Setup) (form : Form) (bytes : List ℕ) → SameImage image setup form bytes → program image ≡ program_of setup form bytes
@@ -59,3 +60,12 @@ module _ (setup : Setup) where
       let us = program_segments p in
       let one : 16 - length us ≡ suc (15 - length us) = omega arith in
       rw one (set-append_seam us zero_segment (replicate (15 - length us) zero_segment) (stack setup))
+
+-- ---- what a caller reads off a plan
+
+-- its image is accepted, and so is its program
+pub plan-accepted : (plan : Plan) → image_error plan.image.setup (form plan.image) (bytes plan.image) ≡ 0
+plan-accepted plan = rw plan.image.accepted plan.accepted
+
+pub plan-means : (plan : Plan) → Accepted plan.image.setup (program plan.image)
+plan-means plan = accepted-means plan.image.setup plan.image.setup_ok (form plan.image) (bytes plan.image) (plan-accepted plan)

@@ -6,14 +6,14 @@ ghost use Rattle.std.specs.Prelude.{◌≡◌, List, ℕ, ◌*◌, ◌-◌, ◌�
 ghost use Rattle.spec.specs.Numbers.{SetupOk};
 ghost use Rattle.spec.specs.Book.{frame_count};
 ghost use Rattle.spec.specs.Frames.{store};
-ghost use Rattle.spec.specs.Image.{program_of};
 ghost use Rattle.spec.specs.Exec.{registers};
 ghost use Rattle.spec.specs.World.{push_in};
 ghost use Rattle.pagealloc.specs.Lent.{Mapped};
+ghost use Rattle.image.specs.Images.{program};
 ghost use Rattle.exec_load.specs.Installing.{Installable, Fitting, installed, record_of};
 
 use exec::Plan;
-use spec::{Form, Proc, Setup, UserRegs};
+use spec::{Proc, Setup, UserRegs};
 
 // Pushes arguments onto the stack of process `number`, whose pages are placed, as `push_args`: the strings, which are the first `size`
 // bytes of `buf`, up to the stack's top, and the pointers behind them in `buf` below them. The answer is the registers to start at
@@ -44,41 +44,33 @@ fn push_args(
 }
 
 // The record of a program by its plan, with the last element of `name`, as `set_text`.
-pub fn record_of(plan: Plan, name: &[u8]) -> Proc
-    ensures { result ≡ record_of plan name.now }
+pub fn record_of(plan: &Plan, name: &[u8]) -> Proc
+    ensures { result ≡ record_of plan.now name.now }
 {
-    let segments = plan.segments;
-    let bss = plan.bss;
-    let last = kstr::elem(name);
     let mut text = [0u8; 28];
-    kstr::kstrcpy(&mut text, last);
+    kstr::kstrcpy(&mut text, kstr::elem(name));
     Proc {
-        segments: segments,
-        text: text,
-        bss: bss,
+        segments: plan.segments,
+        text,
+        bss: plan.bss,
     }
 }
 
-// Installs an accepted image, whose plan is `plan`, for process `number`, which has no pages: the image's pages, then its arguments on
-// the stack. The answer is the registers to enter it with; its record is `record_of`'s. Callers have checked image and arguments and
-// counted the free frames.
+// Installs a plan for process `number`, which has no pages: the image's pages, then its arguments on the stack. The answer is the
+// registers to enter it with; its record is `record_of`'s. Callers have checked the arguments and counted the free frames.
 pub fn install(
-    setup: Setup,
     frames: &mut [u8],
     book: &mut [u64],
     number: u64,
-    form: Form,
-    image: &[u8],
-    plan: Plan,
+    plan: &Plan,
     buf: &[u8],
     size: usize,
     nargs: usize,
 ) -> UserRegs
-    requires installable { Installable setup (store frames.old book.old) number form image.now plan }
-    requires by_index { (args : List (List ℕ)) × Fitting setup args buf.now size nargs }
-    ensures { (args : List (List ℕ)) → Fitting setup args buf.now size nargs → (store frames.new book.new ≡ installed setup (store frames.old book.old) number (program_of setup form image.now) args) × (result ≡ registers (program_of setup form image.now).entry setup.ustktop args) }
+    requires installable { Installable (store frames.old book.old) number plan.now }
+    requires by_index { (args : List (List ℕ)) × Fitting plan.now.image.setup args buf.now size nargs }
+    ensures { (args : List (List ℕ)) → Fitting plan.now.image.setup args buf.now size nargs → (store frames.new book.new ≡ installed plan.now.image.setup (store frames.old book.old) number (program plan.now.image) args) × (result ≡ registers (program plan.now.image).entry plan.now.image.setup.ustktop args) }
 {
-    let bss = plan.bss;
-    crate::loader::load(setup, frames, book, number, form, image, bss);
-    push_args(setup, frames, book, number, plan.entry, buf, size, nargs)
+    crate::loader::load(frames, book, number, plan);
+    push_args(plan.image.setup(), frames, book, number, plan.entry, buf, size, nargs)
 }
