@@ -11,8 +11,8 @@ os.chdir(os.path.join(os.path.dirname(os.path.abspath(__file__)), '..'))
 # A folder is src, specs or proofs. The module of crates/fork/src/copy.rt is `copy`, of lib.rt and main.rt the empty text, of
 # crates/fork/proofs/copy/copy_segment/Answers.antt `copy.copy_segment.Answers`.
 File = collections.namedtuple('File', 'crate folder module path')
-# `kind`: fn, const, struct, enum, mod, variant; record, data, constructor, field, name, local. `owner`: the type of a method, a
-# variant, a constructor or a field. `public`: pub, C (exported) or empty. `says`: what follows the name on its line.
+# `kind`: fn, const, struct, enum, trait, type, mod, variant; record, data, constructor, field, name, local. `owner`: the type of a method,
+# a variant, a constructor or a field; of a trait's method `<TYPE as TRAIT>`. `public`: pub, C (exported) or empty. `says`: what follows the name on its line.
 Item = collections.namedtuple('Item', 'file kind owner name public line says')
 
 
@@ -57,25 +57,65 @@ def goal(item):
     return answers(item.file) and re.match(r': goal\.', item.says)
 
 
-RUST = re.compile(r'^( *)(pub )?(?:pub\(crate\) )?(extern "C" )?(fn|const|struct|enum|mod) (\w+)(.*)')
+RUST = re.compile(r'^( *)(pub )?(?:pub\(crate\) )?(extern "C" )?(fn|const|struct|enum|trait|type|mod) (\w+)(.*)')
+
+
+def outside(text, mark):
+    """The parts of a text between the marks that stand in no angle brackets. The `>` of an arrow closes none."""
+    parts, depth, n = [''], 0, 0
+    while n < len(text):
+        arrow = text[n] == '>' and text[n - 1:n] in ('-', '=')
+        if not depth and not arrow and text.startswith(mark, n):
+            parts.append('')
+            n += len(mark)
+            continue
+        depth += (text[n] == '<') - (text[n] == '>' and not arrow)
+        parts[-1] += text[n]
+        n += 1
+    return parts
+
+
+def owner_of(head):
+    """Whose are the methods of an `impl`: `Plan` of `impl<'a> Plan<'a>`, and of `impl From<ElfError> for u64`, as Rust writes it,
+    `<u64 as From<ElfError>>`."""
+    head = re.sub(r"(?:\w+::)+(?=\w)|<(?:'\w+(?:, )?)+>|&|'\w+ ", '', head.split(' where')[0].strip())
+    if head.startswith('<'):
+        first = outside(head[1:] + ' ', '>')[0]  # its parameters
+        head = head[len(first) + 2:]
+    *trait, of = [part.strip() for part in outside(head, ' for ')]
+    bare = re.match(r'\w*', of).group()
+    return '<%s as %s>' % (bare, trait[0]) if trait else bare
+
+
+def type_of(owner):
+    """The type of an owner."""
+    m = re.match(r'<(\w*) as ', owner)
+    return m.group(1) if m else owner
 
 
 def rust(file):
-    """The declarations of a file of src/: methods have their type for an owner, variants their enum."""
-    owner = ''
-    for n, line in enumerate(lines(file.path), 1):
+    """The declarations of a file of src/: methods have their type for an owner, variants their enum. A method of an `impl` of a trait is
+    public where its type is."""
+    kind = owner = ''
+    text = lines(file.path)
+    for n, line in enumerate(text, 1):
         m = RUST.match(line)
-        variant = re.match(r'    (?:pub )?(\w+)(?:\(|,|:| \{|$)', line)
+        variant = re.match(r'    (?:pub )?(?:ghost )?(\w+)(?:\(|,|:| \{|$)', line)
         if m:
-            public = 'C' if m.group(3) else 'pub' if m.group(2) else ''
+            of_trait = owner.startswith('<') or kind == 'trait'
+            public = 'C' if m.group(3) else 'pub' if m.group(2) or (m.group(1) and of_trait) else ''
             yield Item(file, m.group(4), owner if m.group(1) else '', m.group(5), public, n, m.group(6))
-        elif owner and variant and kind != 'impl':
+        elif owner and variant and kind in ('enum', 'struct'):
             yield Item(file, 'variant' if kind == 'enum' else 'field', owner, variant.group(1), 'pub', n, line)
-        opened = re.match(r"(?:pub )?(impl|enum|struct)(?:<'a>)? (\w+).*\{$", line)
+        opened = re.match(r'(?:pub )?(impl|enum|struct|trait)\b', line)
         if opened:
-            kind, owner = opened.groups()
+            head = ' '.join(text[n - 1:next(k for k in range(n, len(text) + 1) if re.search(r'[{;]', text[k - 1]))])
+            if '{' in head and not line.endswith('}'):
+                kind = opened.group(1)
+                head = head[opened.end():head.index('{')]
+                owner = owner_of(head) if kind == 'impl' else re.match(r'\w+', head.strip()).group()
         elif line == '}':
-            owner = ''
+            kind = owner = ''
 
 
 ANTT = re.compile(r'^( *)((?:pub |abbrev |unfoldable )*)(?:(record|data|module) ([^\s{]+)|((?:[^\s(){};:,.λ]+ )+)(?=: ))(.*)')
@@ -164,7 +204,8 @@ def declared(file):
 
 
 def resolve(file, path, seen=()):
-    """The item that a path leads to from a file of src/, or None."""
+    """The item that a path leads to from a file of src/, or None. A method of a trait has the path `crate::<TYPE as TRAIT>::method`, and
+    is found where the type is passed on, too."""
     if not file or (file, tuple(path)) in seen:
         return None
     seen += ((file, tuple(path)),)
@@ -185,6 +226,8 @@ def resolve(file, path, seen=()):
         return exported[0] if exported else resolve(source(first, ''), rest, seen)
     if first in uses(file):
         return resolve(file, uses(file)[first][0] + rest, seen)
+    if rest and first.startswith('<') and type_of(first) in uses(file):
+        return resolve(file, uses(file)[type_of(first)][0][:-1] + path, seen)
     return None
 
 
