@@ -11,7 +11,13 @@ use Rattle.spec.specs.Numbers.{limit, arg_limit}
 use Rattle.spec.specs.SetupText.{number_line, setup_text, read_setup, read_file, numbers_text}
 use Rattle.spec.specs.declared.Setup.{Setup}
 use Rattle.text.specs.Text.{number_text, field_text}
-use Rattle.setup.specs.Text.{lines_text, limits_text}
+use Rattle.setup.specs.Text.{limits_text}
+
+-- the lines as they are put
+abbrev lines_text : Setup → List ℕ
+lines_text s =
+    field_text (ascii "UTZERO=") s.utzero ++ field_text (ascii "USTKTOP=") s.ustktop
+    ++ field_text (ascii "USTKSIZE=") s.ustksize ++ field_text (ascii "UADDRTOP=") s.uaddrtop
 
 pub lines_are : (s : Setup) → lines_text s ≡ setup_text s
 unfolding setup_text number_text
@@ -30,20 +36,13 @@ module _ (bytes : List ℕ) where
   unfolding numbers_text number_text
   refused-text n e z = rw (← e, ne_eqb n 0 z)
 
-  pub long-file : 4096 < length bytes → 37 ≡ (read_file bytes).error
-  long-file h = rw (lt-ltb 4096 (length bytes) h)
-
-  pub short-file : length bytes ≤ 4096 → read_file bytes ≡ read_setup bytes
-  short-file h = rw (le-ltb 4096 (length bytes) h)
-
   shown : 0 ≡ (read_file bytes).error → numbers_text bytes
       ≡ setup_text (read_file bytes).setup ++ number_line (ascii "LIMIT") (limit (read_file bytes).setup) ++ number_line (ascii "ARGLIMIT") (arg_limit (read_file bytes).setup)
   unfolding numbers_text
   shown z = otherwise ((read_file bytes).error isnt 0) _ _ (ap (λ (n : ℕ). n isnt 0) (sym z))
 
-  pub shown-text : (s : Setup) → 0 ≡ (read_file bytes).error → s ≡ (read_file bytes).setup → lines_text s ++ limits_text s ≡ numbers_text bytes
-  shown-text s z e =
-      ap (λ (x : Setup). lines_text x ++ limits_text x) e ∙ both (read_file bytes).setup ∙ sym (shown z)
+  pub shown-text : (s : Setup) → 0 ≡ (read_file bytes).error → s ≡ (read_file bytes).setup → setup_text s ++ limits_text s ≡ numbers_text bytes
+  shown-text s z e = ap (λ (x : Setup). setup_text x ++ limits_text x) e ∙ both (read_file bytes).setup ∙ sym (shown z)
     where
-      both : (x : Setup) → lines_text x ++ limits_text x ≡ setup_text x ++ number_line (ascii "LIMIT") (limit x) ++ number_line (ascii "ARGLIMIT") (arg_limit x)
-      both x = ap (λ (l : List ℕ). l ++ limits_text x) (lines_are x) ∙ ap (λ (l : List ℕ). setup_text x ++ l) (limits-are x) ∙ sym (append_assoc (setup_text x) (number_line (ascii "LIMIT") (limit x)) (number_line (ascii "ARGLIMIT") (arg_limit x)))
+      both : (x : Setup) → setup_text x ++ limits_text x ≡ setup_text x ++ number_line (ascii "LIMIT") (limit x) ++ number_line (ascii "ARGLIMIT") (arg_limit x)
+      both x = ap (λ (l : List ℕ). setup_text x ++ l) (limits-are x) ∙ sym (append_assoc (setup_text x) (number_line (ascii "LIMIT") (limit x)) (number_line (ascii "ARGLIMIT") (arg_limit x)))

@@ -14,11 +14,6 @@ setup_in n setup = n below 117 ⇒ [] else setup_text setup
 abbrev pub numbers_in : ℕ → List ℕ → List ℕ
 numbers_in n bytes = n below 174 ⇒ [] else numbers_text bytes
 
--- the lines as they are put
-abbrev pub lines_text : Setup → List ℕ
-lines_text s =
-    field_text (ascii "UTZERO=") s.utzero ++ field_text (ascii "USTKTOP=") s.ustktop
-    ++ field_text (ascii "USTKSIZE=") s.ustksize ++ field_text (ascii "UADDRTOP=") s.uaddrtop
-
+-- the two lines behind them as they are put
 abbrev pub limits_text : Setup → List ℕ
 limits_text s = field_text (ascii "LIMIT=") (limit s) ++ field_text (ascii "ARGLIMIT=") (arg_limit s)

@@ -3,11 +3,12 @@
 
 ghost use Rattle.std.specs.Prelude.{◌+◌, ◌≤◌, ◌≡◌, length, take};
 ghost use Rattle.text.specs.Text.{Puts};
-ghost use Rattle.spec.specs.SetupText.{numbers_text};
-ghost use Rattle.setup.specs.Text.{lines_text, limits_text, setup_in, numbers_in};
+ghost use Rattle.spec.specs.SetupText.{setup_text, read_file, numbers_text};
+ghost use Rattle.setup.specs.Text.{limits_text, setup_in, numbers_in};
+ghost use Rattle.setup.specs.Said.{told};
 
 use spec::{Refusal, Setup};
-use text::put_field;
+use text::Writer;
 
 // Room for the longest texts: four lines of numbers of twenty digits, and six.
 const SETUP_MAX: usize = 117;
@@ -18,42 +19,50 @@ const NUMBERS_MAX: usize = 174;
 const FILE_MAX: usize = 4096;
 
 // Puts the four lines.
-fn put_setup(out: &mut [u8], setup: Setup) -> usize
-    requires { 117 ≤ length out.old }
-    ensures puts { Puts out.old 0 (lines_text setup) out.new result }
-    ensures upper_bound { result ≤ 117 }
+fn put_setup(w: &mut Writer, setup: Setup)
+    requires { w.old.len + 117 ≤ length w.old.out.now }
+    ensures same_reference { w.new.out.ghost_name ≡ w.old.out.ghost_name }
+    ensures puts { Puts w.old.out.now w.old.len (setup_text setup) w.new.out.now w.new.len }
+    ensures upper_bound { w.new.len ≤ w.old.len + 117 }
 {
-    let a = put_field(out, 0, b"UTZERO=", setup.utzero);
-    let b = put_field(out, a, b"USTKTOP=", setup.ustktop);
-    let c = put_field(out, b, b"USTKSIZE=", setup.ustksize);
-    put_field(out, c, b"UADDRTOP=", setup.uaddrtop)
+    w.put_field(b"UTZERO=", setup.utzero);
+    w.put_field(b"USTKTOP=", setup.ustktop);
+    w.put_field(b"USTKSIZE=", setup.ustksize);
+    w.put_field(b"UADDRTOP=", setup.uaddrtop);
 }
 
 // Puts what follows from them.
-fn put_limits(out: &mut [u8], at: usize, setup: Setup) -> usize
-    requires { at + 57 ≤ length out.old }
-    ensures { Puts out.old at (limits_text setup) out.new result }
+fn put_limits(w: &mut Writer, setup: Setup)
+    requires { w.old.len + 57 ≤ length w.old.out.now }
+    ensures same_reference { w.new.out.ghost_name ≡ w.old.out.ghost_name }
+    ensures puts { Puts w.old.out.now w.old.len (limits_text setup) w.new.out.now w.new.len }
 {
-    let limit = crate::limit(setup);
-    let args = crate::arg_limit(setup);
-    let a = put_field(out, at, b"LIMIT=", limit);
-    put_field(out, a, b"ARGLIMIT=", args)
+    w.put_field(b"LIMIT=", crate::limit(setup));
+    w.put_field(b"ARGLIMIT=", crate::arg_limit(setup));
+}
+
+// What a file is read as: a longer one is not as described.
+fn read_file(bytes: &[u8]) -> Result<Setup, Refusal>
+    ensures { told result ≡ read_file bytes.now }
+{
+    if bytes.len() > FILE_MAX {
+        return Err(Refusal::SetupLines);
+    }
+    crate::setup_read::read_setup(bytes)
 }
 
 // Puts what the numbers program prints of a file.
-fn put_numbers(bytes: &[u8], out: &mut [u8]) -> usize
-    requires { 174 ≤ length out.old }
-    ensures { Puts out.old 0 (numbers_text bytes.now) out.new result }
+fn put_numbers(bytes: &[u8], w: &mut Writer)
+    requires { w.old.len + 174 ≤ length w.old.out.now }
+    ensures same_reference { w.new.out.ghost_name ≡ w.old.out.ghost_name }
+    ensures puts { Puts w.old.out.now w.old.len (numbers_text bytes.now) w.new.out.now w.new.len }
 {
-    if bytes.len() > FILE_MAX {
-        return put_field(out, 0, b"refused=", u64::from(Refusal::SetupLines));
-    }
-    match crate::setup_read::read_setup(bytes) {
+    match read_file(bytes) {
         Ok(setup) => {
-            let a = put_setup(out, setup);
-            put_limits(out, a, setup)
+            put_setup(w, setup);
+            put_limits(w, setup);
         }
-        Err(e) => put_field(out, 0, b"refused=", u64::from(e)),
+        Err(e) => w.put_field(b"refused=", u64::from(e)),
     }
 }
 
@@ -65,7 +74,9 @@ pub fn setup_into(out: &mut [u8], setup: Setup) -> usize
     if out.len() < SETUP_MAX {
         return 0;
     }
-    put_setup(out, setup)
+    let mut w = Writer::new(out);
+    put_setup(&mut w, setup);
+    w.len()
 }
 
 // Puts what the numbers program prints of a file, and answers its length. A buffer without room for the longest is left as it is, and the
@@ -77,5 +88,7 @@ pub fn numbers_into(bytes: &[u8], out: &mut [u8]) -> usize
     if out.len() < NUMBERS_MAX {
         return 0;
     }
-    put_numbers(bytes, out)
+    let mut w = Writer::new(out);
+    put_numbers(bytes, &mut w);
+    w.len()
 }

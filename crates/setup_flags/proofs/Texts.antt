@@ -5,7 +5,12 @@ use mathlib.Core.List.{List}
 use Prim.Native.Nat.{ℕ, ◌≤◌, ◌<◌}
 use lib.ListN.{length}
 use borrow.Author.Tests.{lt-ltb, le-ltb, ne_eqb}
-use Rattle.spec.specs.Tests.{ascii}
+use native.Mathlib.Omega.{arith}
+use mathlib.Core.Bool.{true}
+use Rattle.spec.specs.Tests.{ascii, ◌above◌}
+use Rattle.spec.specs.Flags.{flags_ok}
+use Rattle.spec.proofs.Bools.{split}
+use Rattle.spec.proofs.FlagsTexts.{written_back}
 use Rattle.spec.specs.FlagsText.{table_line, row_lines, read_flags, read_flags_file, table_text}
 
 module _ (bytes : List ℕ) where
@@ -14,6 +19,13 @@ module _ (bytes : List ℕ) where
 
   pub short-file : length bytes ≤ 4096 → read_flags_file bytes ≡ read_flags bytes
   short-file h = rw (le-ltb 4096 (length bytes) h)
+
+  -- a table that is read is accepted
+  pub file_ok : (read_flags_file bytes).error ≡ 0 → flags_ok (read_flags_file bytes).flags ≡ true
+  file_ok e =
+      split (length bytes above 4096)
+      (λ q. absurd (let w = rw q at e in omega arith))
+      (λ q. rw q ((written_back bytes (rw q at e)).1))
 
   pub refused-text : (n : ℕ) → n ≡ (read_flags_file bytes).error → (n ≡ 0 → ⊥) → ascii "refused=39\n" ≡ table_text bytes
   unfolding table_text

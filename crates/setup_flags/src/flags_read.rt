@@ -4,6 +4,7 @@ ghost use Rattle.std.specs.Prelude.{◌≡◌, ◌<◌, length, drop, IfSome};
 ghost use Rattle.spec.specs.FlagsText.{flag_line, code_at, read_flags};
 ghost use Rattle.setup_flags.specs.Rows.{code_of, told};
 
+use crate::flags_put::line_into;
 use spec::Refusal;
 
 // A row's code, and the bytes behind its line.
@@ -21,7 +22,7 @@ fn read_row(s: &[u8], row: u8) -> Option<Row>
 {
     for code in 0..4 {
         let mut line = [0u8; 15];
-        let n = crate::flags_put::put_line(&mut line, 0, row, code);
+        let n = line_into(&mut line, row, code);
         if let Some(rest) = s.strip_prefix(&line[..n]) {
             return Some(Row { code, rest });
         }

@@ -1,68 +1,73 @@
-// Text in a buffer that the caller lends: bytes, numbers in decimal, and a named number's line. Each function that puts text puts it from
-// a place on and answers the place behind it; the last says what text begins with.
+// Text in bytes that the caller lends: bytes, numbers in decimal, and a named number's line, one behind the other.
 
 #![tactic(auto)]
 
-ghost use Rattle.std.specs.Prelude.{◌+◌, ◌≤◌, ◌≡◌, length, take};
-ghost use Rattle.spec.specs.Tests.{◌is◌, same};
+ghost use Rattle.std.specs.Prelude.{◌+◌, ◌≤◌, ◌≡◌, length};
 ghost use Rattle.text.specs.Text.{Puts, number_text, field_text};
 
-// Puts bytes.
-pub fn put(out: &mut [u8], at: usize, s: &[u8]) -> usize
-    requires { at + length s.now ≤ length out.old }
-    ensures { Puts out.old at s.now out.new result }
-{
-    let mut i = 0;
-    while i < s.len() {
-        out[at + i] = s[i];
-        i += 1;
-    }
-    at + i
+// Bytes that the caller lends, and how many of them are put, from the front on.
+#[derive(Drop)]
+pub struct Writer<'a> {
+    out: &'a mut [u8],
+    len: usize,
 }
 
-// Puts a number in decimal, which takes at most twenty digits.
-pub fn put_decimal(out: &mut [u8], at: usize, n: u64) -> usize
-    requires { at + 20 ≤ length out.old }
-    ensures puts { Puts out.old at (number_text n) out.new result }
-    ensures upper_bound { result ≤ at + 20 }
-{
-    let mut digits = [0u8; 20];
-    let mut i = 20;
-    let mut m = n;
-    while m >= 10 {
-        i -= 1;
-        digits[i] = 48 + (m % 10) as u8;
-        m /= 10;
+impl<'a> Writer<'a> {
+    pub fn new(out: &'a mut [u8]) -> Writer<'a>
+        ensures same_reference { result.out.ghost_name ≡ out.entry.ghost_name }
+        ensures bytes { result.out.now ≡ out.old }
+        ensures len { result.len ≡ 0 }
+    {
+        Writer { out, len: 0 }
     }
-    i -= 1;
-    digits[i] = 48 + m as u8;
-    put(out, at, &digits[i..])
-}
 
-// Puts a name, a number and the end of the line.
-pub fn put_field(out: &mut [u8], at: usize, name: &[u8], n: u64) -> usize
-    requires { at + length name.now + 21 ≤ length out.old }
-    ensures puts { Puts out.old at (field_text name.now n) out.new result }
-    ensures upper_bound { result ≤ at + length name.now + 21 }
-{
-    let a = put(out, at, name);
-    let b = put_decimal(out, a, n);
-    put(out, b, b"\n")
-}
-
-// Whether bytes begin with others.
-pub fn begins(s: &[u8], front: &[u8]) -> bool
-    ensures { result ≡ same ◌is◌ (take (length front.now) s.now) front.now }
-{
-    if s.len() < front.len() {
-        return false;
+    // How many bytes are put.
+    pub fn len(&self) -> usize
+        ensures { result ≡ self.now.len }
+    {
+        self.len
     }
-    let mut i = 0;
-    while i < front.len() {
-        if s[i] != front[i] {
-            return false;
+
+    // Puts bytes.
+    pub fn put(&mut self, s: &[u8])
+        requires { self.old.len + length s.now ≤ length self.old.out.now }
+        ensures same_reference { self.new.out.ghost_name ≡ self.old.out.ghost_name }
+        ensures puts { Puts self.old.out.now self.old.len s.now self.new.out.now self.new.len }
+    {
+        let end = self.len + s.len();
+        self.out[self.len..end].copy_from_slice(s);
+        self.len = end;
+    }
+
+    // Puts a number in decimal, which takes at most twenty digits.
+    pub fn put_decimal(&mut self, n: u64)
+        requires { self.old.len + 20 ≤ length self.old.out.now }
+        ensures same_reference { self.new.out.ghost_name ≡ self.old.out.ghost_name }
+        ensures puts { Puts self.old.out.now self.old.len (number_text n) self.new.out.now self.new.len }
+        ensures upper_bound { self.new.len ≤ self.old.len + 20 }
+    {
+        let mut digits = [0u8; 20];
+        let mut i = 20;
+        let mut m = n;
+        while m >= 10 {
+            i -= 1;
+            digits[i] = b'0' + (m % 10) as u8;
+            m /= 10;
         }
-        i += 1;
+        i -= 1;
+        digits[i] = b'0' + m as u8;
+        self.put(&digits[i..]);
     }
-    true
+
+    // Puts a name, a number and the end of the line.
+    pub fn put_field(&mut self, name: &[u8], n: u64)
+        requires { self.old.len + length name.now + 21 ≤ length self.old.out.now }
+        ensures same_reference { self.new.out.ghost_name ≡ self.old.out.ghost_name }
+        ensures puts { Puts self.old.out.now self.old.len (field_text name.now n) self.new.out.now self.new.len }
+        ensures upper_bound { self.new.len ≤ self.old.len + length name.now + 21 }
+    {
+        self.put(name);
+        self.put_decimal(n);
+        self.put(b"\n");
+    }
 }

@@ -1,36 +1,22 @@
--- `flags_put::put_rows` meets its contract. The invariant: the lines of the rows passed are put.
+-- `flags_put::put_rows` meets its contract: line after line; an accepted table has codes below 4.
 -- Assumes nothing.
-use mathlib.Core.Path.{◌≡◌, ap, ◌∙◌}
-use Prim.Native.Nat.{ℕ}
-use native.Mathlib.Omega.{arith}
-use lib.ListN.{take}
-use lib.Seq.{take_all}
-use borrow.Author.Rules.{rules}
-use Rattle.spec.specs.FlagsText.{table_line, row_lines}
+use Rattle.std.proofs.Common.{arith}
+use Rattle.spec.specs.FlagsText.{table_line}
 use Rattle.spec.proofs.Flags.{code-most}
-use Rattle.text.proofs.Behind.{behind, same_text, same-room, puts_none}
+use Rattle.text.proofs.Behind.{behind, same_text}
 use Rattle.setup_flags.proofs.Lines.{lines_next}
 use Rattle.setup_flags.proofs.flags_put.put_rows.Goals as goal
 
-pub loop-row-init : goal.loop-row-init
-loop-row-init c = (omega arith, search rules, puts_none c.args.out.now 0 (omega arith), omega arith)
-
-pub put_row-at-requires : goal.put_row-at-requires
-put_row-at-requires c = let l = c.loop-row in (omega arith, omega (arith, code-most c.args.flags l.row c.requires.0 (omega arith)), omega (arith, same-room l.invariant.2, l.invariant.3))
+pub overflow_add-code : goal.overflow_add-code
+overflow_add-code c = omega (arith, code-most c.args.flags c.loop-row.row c.requires.0 (omega arith))
 
 pub loop-row-preserved : goal.loop-row-preserved
 loop-row-preserved c =
     let l = c.loop-row in
-    let flags = c.args.flags in
-    let p = c.put_row-at.ensures in
-    (omega arith, l.invariant.1, same_text (lines_next table_line flags l.row (omega arith)) (behind l.invariant.2 p.puts), omega (arith, p.upper_bound, l.invariant.3))
-
-pub shape_of-out : goal.shape_of-out
-shape_of-out c = same-room c.loop-row.invariant.2
-
-pub returns : goal.returns
-returns c =
-    let l = c.loop-row in
-    let flags = c.args.flags in
-    let e : l.row ≡ 8 = omega arith in
-    same_text (ap (λ (k : ℕ). row_lines table_line 0 (take k flags)) e ∙ ap (row_lines table_line 0) (take_all 8 flags (omega arith))) l.invariant.2
+    let p = c.put_line.ensures in
+    record {
+      same_reference = cc (p.same_reference, l.invariant.same_reference);
+      codes = l.invariant.codes;
+      puts = same_text (lines_next table_line c.args.flags l.row (omega arith)) (behind l.invariant.puts p.puts);
+      room = omega (arith, p.upper_bound, l.invariant.room);
+    }

@@ -1,16 +1,17 @@
--- `text::put_decimal` meets its contract. The invariant: the digits of what is left, in front of those written.
+-- `text::Writer::put_decimal` meets its contract. The invariant: the digits of what is left, in front of those written.
 -- Assumes nothing.
-use mathlib.Core.Path.{◌≡◌, sym, subst, ◌∙◌}
-use mathlib.Core.List.{List, [], ◌++◌, append-nil}
+use mathlib.Core.Path.{◌≡◌, sym, ◌∙◌}
+use mathlib.Core.List.{[], ◌++◌, append-nil}
 use Prim.Native.Nat.{ℕ, ◌+◌, ◌-◌, ◌≤◌}
 use native.Mathlib.Omega.{arith}
 use lib.ListN.{length, drop, set, length-set, length-take, length-drop}
 use lib.Seq.{take_all}
 use borrow.Author.Rules.{rules}
 use Rattle.spec.specs.Listing.{decimal, decimal_of}
-use Rattle.text.specs.Text.{Puts, number_text}
+use Rattle.text.specs.Text.{number_text}
+use Rattle.text.proofs.Behind.{same_text}
 use Rattle.text.proofs.Digits.{digit-turn, digit-end, digits-left}
-use Rattle.text.proofs.put_decimal.Goals as goal
+use Rattle.text.proofs.Writer.put_decimal.Goals as goal
 
 -- before the first digit
 start : (n : ℕ) → number_text n ≡ decimal_of 20 n ++ []
@@ -32,12 +33,14 @@ loop-m-preserved c =
 pub put-requires : goal.put-requires
 put-requires c = simp length-take (omega arith)
 
-pub returns : goal.returns
-returns c =
-    let p = c.put.ensures in
+pub returns-clause-puts : goal.returns-clause-puts
+returns-clause-puts c =
     let l = c.loop-m in
     let a = c.args in
     let digits = set l.digits (l.i - 1) (48 + l.m) in
     let whole = digit-end (number_text a.n) l.m l.i l.digits l.invariant.0 (omega arith) (omega arith) l.invariant.4 in
     let long : length (drop (l.i - 1) digits) ≤ 20 - (l.i - 1) = simp (length-drop, length-set) (omega arith) in
-    record { puts = subst (λ (s : List ℕ). Puts a.out.now a.at s c.put.new.out c.put.result) (take_all _ _ long ∙ sym whole) p; upper_bound = omega (arith, simp length-take at p.place) }
+    same_text (take_all _ _ long ∙ sym whole) c.put.ensures.puts
+
+pub returns-clause-upper_bound : goal.returns-clause-upper_bound
+returns-clause-upper_bound c = omega (arith, simp length-take at c.put.ensures.puts.place)
