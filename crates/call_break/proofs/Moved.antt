@@ -1,5 +1,5 @@
 -- A break: what moves, and its answer.
-use Prim.Native.Nat.{ℕ, zero, suc, ◌-◌, ◌/◌, ◌≤◌}
+use Prim.Native.Nat.{ℕ, zero, suc, ◌-◌, ◌/◌, ◌^◌, ◌≤◌, ◌<◌}
 use native.Mathlib.Omega.{arith}
 use mathlib.Core.Path.{◌≡◌, refl, sym, ap, ap₂, ◌∙◌}
 use mathlib.Core.Bool.{Bool, false, ◌&&◌, and-false}
@@ -8,7 +8,7 @@ use mathlib.Core.List.{List, [], ◌∷◌}
 use borrow.Author.Tests.{eq-eqb, ne_eqb}
 use Rattle.spec.specs.Tests.{◌is◌, ◌isnt◌, within, ◌⇒◌else◌}
 use Rattle.spec.specs.Numbers.{page_up, zero_page}
-use Rattle.spec.specs.Book.{page_of, frame_count, mapping, holders, segment, proc_at}
+use Rattle.spec.specs.Book.{range, page_of, frame_count, mapping, holders, segment, proc_at}
 use Rattle.spec.specs.Frames.{Store, enter, sweep, pages_of, place, let_go, release}
 use Rattle.spec.specs.Segment.{Break, ibrk}
 use Rattle.spec.specs.Machine.{weigh_break}
@@ -17,6 +17,8 @@ use Rattle.spec.specs.declared.Setup.{Setup}
 use Rattle.spec.specs.declared.VirtRange.{VirtRange}
 use Rattle.spec.specs.declared.Answer.TheVariants.{Value, Refused}
 use Rattle.spec.proofs.Bools.{within-not}
+use Rattle.spec_history.proofs.Accepted.{Moves}
+use Rattle.segment.proofs.Cases.{moves}
 use Rattle.spec.proofs.Chain.{isnt-holds, isnt-fails}
 
 -- ---- pages
@@ -52,6 +54,14 @@ module _ (b x : Break) (rule : b ≡ x) where
 
   pub break-accepted : b.error ≡ 0 → weigh_break x ≡ Value b.value
   break-accepted z = ap weigh_break (sym rule) ∙ rw (isnt-fails b.error 0 z)
+
+-- an end that moves is the address, rounded up
+pub break-ends : (setup : Setup) (bss : VirtRange) (addr free value : ℕ) (x : VirtRange) → record { error = 0; value = value; bss = Some x } ≡ ibrk setup (Some bss) addr free → (addr ≡ 0 → ⊥) → Moves setup bss addr free → page_up addr < 2 ^ 64 → x.end ≡ page_up addr
+break-ends setup bss addr free value x rule ne m fits =
+    let e = rule ∙ moves setup bss addr free ne m.above-start fits m.low (omega (arith, m.room)) in
+    let s : Some x ≡ Some (range bss.start (page_up addr)) = ap (λ (y : Break). y.bss) e in
+    let same : x ≡ range bss.start (page_up addr) = cc in
+    ap (λ (r : VirtRange). r.end) same
 
 -- ---- what it leaves
 

@@ -12,6 +12,9 @@ ghost use Rattle.spec.specs.Machine.{break, plainly, call};
 ghost use Rattle.spec.specs.World.{brk, Does, state_of};
 ghost use Rattle.spec.specs.declared.Setup.{Setup};
 
+use call_front::ending::refused;
+use call_front::numbers::plain_ready;
+use sound::Lookup;
 use spec::{Answer, Left, Procs, Setup};
 
 // The pages of a bss whose end moves from `old` to `new`: those past the new end are freed, and new ones are zeroed.
@@ -35,10 +38,8 @@ fn move_break(frames: &mut [u8], book: &mut [u64], procs: Procs, number: u64, to
     ensures { (setup : Setup) → state_of setup frames.new book.new result ≡ brk (state_of setup frames.old book.old procs) number (proc_at procs number) top }
 {
     let mut p = call_front::record::proc_at(procs, number);
-    let start = p.bss.start;
-    let end = p.bss.end;
-    move_pages(frames, book, number, end, top);
-    p.bss = mem::range(start, top);
+    move_pages(frames, book, number, p.bss.end, top);
+    p.bss.end = top;
     call_front::record::with_proc(procs, number, p)
 }
 
@@ -54,34 +55,20 @@ pub fn brk(
 ) -> Left
     ensures { Does (state_of setup frames.old book.old procs) (call number (break addr)) (state_of setup frames.new book.new result.procs) (plainly result.answer) }
 {
-    let e = call_front::numbers::plain_error(setup, frames, book, procs, number, true);
-    if e != 0 {
-        return Left {
-            procs: procs,
-            answer: Answer::Refused(e),
-        };
+    let mut lookup = Lookup::new();
+    if let Err(e) = plain_ready(setup, frames, book, procs, number, true, &mut lookup) {
+        return refused(procs, e);
     }
-    let p = call_front::record::proc_at(procs, number);
-    let bss = p.bss;
+    let bss = call_front::record::proc_at(procs, number).bss;
     let free = book::free_count(book) as u64;
-    let b = segment::ibrk(setup, segment::Bss::Set(bss), addr, free);
-    let error = b.error;
-    let value = b.value;
-    if error != 0 {
-        return Left {
-            procs: procs,
-            answer: Answer::Refused(error),
-        };
-    }
+    let moved = match segment::ibrk(setup, Some(bss), addr, free) {
+        Ok(moved) => moved,
+        Err(e) => return refused(procs, e),
+    };
+    let answer = Answer::Value(moved.value);
     if addr == 0 {
-        return Left {
-            procs: procs,
-            answer: Answer::Value(value),
-        };
+        return Left { procs, answer };
     }
-    let after = move_break(frames, book, procs, number, mem::page_up(addr));
-    Left {
-        procs: after,
-        answer: Answer::Value(value),
-    }
+    let procs = move_break(frames, book, procs, number, moved.bss.end);
+    Left { procs, answer }
 }

@@ -2,9 +2,8 @@
 use Prim.Native.Nat.{◌%◌}
 use native.Mathlib.Omega.{arith}
 use mathlib.Core.Path.{ap, ◌∙◌}
-use Rattle.spec.specs.World.{set_proc, brk, state_of}
+use Rattle.spec.specs.World.{brk, state_of}
 use Rattle.spec.specs.declared.Proc.{Proc}
-use Rattle.spec.specs.declared.VirtRange.{VirtRange}
 use Rattle.spec.proofs.Bools.{within-means}
 use Rattle.call_front.proofs.States.{state-is}
 use Rattle.call_break.proofs.move_break.Goals as goal
@@ -18,5 +17,5 @@ pub returns : goal.returns
 returns c setup =
     let a = c.args in
     let from = state_of setup a.frames.now a.book.now a.procs in
-    state-is _ _ _ _ _ c.move_pages.ensures (c.with_proc.ensures ∙ ap (λ (x : VirtRange). set_proc a.procs a.number (record { segments = c.proc_at-p.result.segments; text = c.proc_at-p.result.text; bss = x })) c.range-p.ensures)
+    state-is _ _ _ _ _ c.move_pages.ensures c.with_proc.ensures
     ∙ ap (λ (p : Proc). brk from a.number p a.top) c.proc_at-p.ensures
