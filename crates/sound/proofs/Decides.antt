@@ -25,7 +25,7 @@ use Rattle.sound_plan.specs.Plan.{hits, rank, nth, LaidAll}
 use Rattle.sound_table.specs.Table.{place_at, place_with, Planned, FramedAll, Full, Marked}
 use Rattle.sound_plan.proofs.Within.{rank_below, rank-word}
 use Rattle.sound.proofs.Entries.{place_of}
-use Rattle.sound_table.proofs.Pass.{with-found, with-missing, option-some}
+use Rattle.sound_table.proofs.Places.{with-found, with-missing, option-some}
 use Rattle.sound_table.proofs.Counting.{numbered, place_number}
 use Rattle.sound_plan.proofs.Parts.{each-made, parts-of, place-gives}
 use Rattle.sound_plan.proofs.Passing.{Mapped, shape-pass, pass_shape}

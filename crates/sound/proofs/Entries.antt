@@ -12,7 +12,7 @@ use Rattle.spec_laws.proofs.Frame.{frame_found, once-means, frame_is}
 use Rattle.sound_plan.specs.Plan.{owner, hits, nth, rank}
 use Rattle.sound_plan.proofs.Within.{hit-fact, rank_below, rank-word, hit-owner}
 use Rattle.sound_table.specs.Table.{place_at, place_with, entry, first_of}
-use Rattle.sound_table.proofs.Pass.{with-found, option-some}
+use Rattle.sound_table.proofs.Places.{with-found, option-some}
 use Rattle.sound_table.proofs.Counting.{rank-own}
 use Rattle.sound.specs.declared.Lookup.{Lookup}
 use Rattle.sound.specs.Ready.{Ready}

@@ -12,7 +12,7 @@ use Rattle.sound.specs.declared.Lookup.{Lookup}
 use Rattle.sound.specs.Table.{Zeros, Filled, Ready, Leaves, found}
 use Rattle.spec_laws.proofs.Lists.{get_or-same}
 use Rattle.sound_plan.proofs.Laying.{tags-are, bases-are}
-use Rattle.sound_table.proofs.Pass.{table_is}
+use Rattle.sound_table.proofs.Places.{table_is}
 use Rattle.sound.proofs.Planning.{Made, plan}
 
 -- ---- zeros

@@ -15,7 +15,7 @@ use Rattle.sound_plan.specs.Plan.{owner, hits, nth, rank, Plan}
 use Rattle.sound_plan.proofs.Ranks.{base-up, nth-at}
 use Rattle.sound_plan.proofs.Within.{hit-fact}
 use Rattle.sound_table.specs.Table.{place_at, place_with, FramedAll, Full, first_of, count_of}
-use Rattle.sound_table.proofs.Pass.{with-found, option-some}
+use Rattle.sound_table.proofs.Places.{with-found, option-some}
 
 -- f numbers what is below T apart, by numbers below N
 pub numbered : (N T : ℕ) (f : ℕ → ℕ) → ((i : ℕ) → i < T → f i < N) → ((i j : ℕ) → i < T → j < T → f i ≡ f j → i ≡ j) → T ≤ N

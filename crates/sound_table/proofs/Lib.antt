@@ -2,7 +2,7 @@
 pub mod Folds
 pub mod Frames
 pub mod Bits
-pub mod Pass
+pub mod Places
 pub mod Words
 pub mod RowPass
 pub mod Counting

@@ -10,7 +10,7 @@ use Rattle.spec.specs.Book.{frame_count}
 use Rattle.spec.proofs.Bools.{below_at, below-test}
 use Rattle.sound_plan.specs.Plan.{nth}
 use Rattle.sound_table.specs.Table.{place_with, taken, Planned, Full, first_of, count_of, bit_of, Noted, FramedAll, Marked, marked}
-use Rattle.sound_table.proofs.Pass.{taken_none}
+use Rattle.sound_table.proofs.Places.{taken_none}
 
 module _ (book tags bases : List ℕ) (number : ℕ) (table : List ℕ) where
   pub marked-no : (Planned book tags bases (16 * frame_count book) → FramedAll book (frame_count book) → Full book tags bases → ⊥) → Marked book tags bases number table false

@@ -17,7 +17,7 @@ use Rattle.spec.proofs.Words.{repack}
 use Rattle.sound_plan.specs.Plan.{hits, rank, Plan}
 use Rattle.sound_table.specs.Rows.{Free, Only}
 use Rattle.sound_table.specs.Table.{place_at, bit_of, Planned, Noted, BitSet, Stored, Framed, FramedAll, Entered, Passes}
-use Rattle.sound_table.proofs.Pass.{planned-free, noted-free, planned-more, noted_more, planned-twice}
+use Rattle.sound_table.proofs.Places.{planned-free, noted-free, planned-more, noted_more, planned-twice}
 
 valid-test : (n : ℕ) → 1 ≤ n → n ≤ 16 → valid n ≡ true
 valid-test n l h = within-test 1 17 n l (omega arith)

@@ -6,13 +6,14 @@
 
 mod rows;
 
-ghost use Rattle.std.specs.Prelude.{◌≡◌, true, ◌+◌, ◌-◌, ◌*◌, ◌/◌, ◌%◌, ◌^◌, ◌<◌, ◌≤◌, length};
+ghost use Rattle.std.specs.Prelude.{◌≡◌, true, ◌+◌, ◌-◌, ◌*◌, ◌/◌, ◌%◌, ◌^◌, ◌<◌, ◌≤◌, length, get_or};
 ghost use Rattle.spec.specs.Tests.{◌is◌, all_below};
 ghost use Rattle.spec.specs.Book.{owner_of, frame_count};
-ghost use Rattle.sound_plan.specs.Plan.{Plan as IsPlan, Rising, hits};
+ghost use Rattle.sound_plan.specs.Plan.{Plan as IsPlan, hits};
 ghost use Rattle.sound_table.specs.Rows.{Single, Singles};
-ghost use Rattle.sound_table.specs.Table.{Planned, FramedAll, Hints, Takes, Stored, Entered, Near, Noted, Passes, Passed, Marked, Blank, marked, first_of, count_of};
+ghost use Rattle.sound_table.specs.Table.{Planned, FramedAll, Hints, Takes, Stored, Entered, Near, Noted, Passes, Passed, Marked, Blank, marked};
 
+use rows::singles;
 use sound_plan::Plan;
 use spec::DATA;
 
@@ -38,153 +39,128 @@ fn with_bit(word: u64, bit: u64) -> u64
     word | (1u64 << bit)
 }
 
-// Takes a rank, by its bit. The answer is no where it is taken already.
-fn take(bits: &mut [u64; 256], rank: u64) -> bool
-    requires { (rank < 16384) × (length bits.old ≡ 256) }
-    ensures { Takes bits.old bits.new rank result }
-{
-    let small = rank as u32;
-    let at = (small / 64) as usize;
-    let bit = (small % 64) as u64;
-    let word = bits[at];
-    if (word >> bit) % 2 != 0 {
-        return false;
-    }
-    bits[at] = with_bit(word, bit);
-    true
+// What the pass reads: the book and its plan, and which pages are those of the process that makes the call, by their ranks: `pages` of
+// them, from `own` on.
+#[derive(Clone, Copy)]
+struct Pass<'a> {
+    book: &'a [u64],
+    plan: &'a Plan,
+    own: u64,
+    pages: u64,
+    ghost planned: { IsPlan plan.now.tags plan.now.bases },
+    ghost few: { pages ≤ 1024 },
 }
 
-// Enters frame `k` for a rank that is among the `pages` ranks from `own` on.
-fn store(table: &mut [u16; 1024], own: u64, pages: u64, rank: u64, k: usize)
-    requires { (pages ≤ 1024) × (k < 1024) × (length table.old ≡ 1024) }
-    ensures { Stored own pages table.old table.new rank (k + 1) }
-{
-    if own <= rank {
-        let at = rank - own;
-        if at < pages {
-            table[at as usize] = (k + 1) as u16;
+// What it notes besides the table: of each rank whether it is taken, by a bit, and for each owner and permission the part that the last
+// word with them was of, to be tried first.
+#[derive(Drop)]
+struct Notes {
+    bits: [u64; 256],
+    hints: [usize; 272],
+    ghost parts: { Hints hints },
+}
+
+impl Notes {
+    // Takes a rank. The answer is no where it is taken already.
+    fn take(&mut self, rank: u64) -> bool
+        requires { rank < 16384 }
+        ensures { Takes self.old.bits self.new.bits rank result }
+    {
+        let small = rank as u32;
+        let at = (small / 64) as usize;
+        let bit = (small % 64) as u64;
+        let word = self.bits[at];
+        if (word >> bit) % 2 != 0 {
+            return false;
+        }
+        self.bits[at] = with_bit(word, bit);
+        true
+    }
+}
+
+impl<'a> Pass<'a> {
+    // Enters frame `k` for a rank that is of the process that makes the call.
+    fn store(&self, table: &mut [u16; 1024], rank: u64, k: usize)
+        requires { k < 1024 }
+        ensures { Stored self.now.own self.now.pages table.old table.new rank (k + 1) }
+    {
+        if self.own <= rank && rank - self.own < self.pages {
+            table[(rank - self.own) as usize] = (k + 1) as u16;
         }
     }
-}
 
-// Takes the rank of the page that w, a word of part p, names, and enters frame `k` for it if it is of the process that makes the call,
-// whose `pages` pages have the ranks from `own` on. The answer is no where the rank is taken already.
-fn enter(
-    plan: &Plan,
-    bits: &mut [u64; 256],
-    table: &mut [u16; 1024],
-    own: u64,
-    pages: u64,
-    p: usize,
-    w: u64,
-    k: usize,
-) -> bool
-    requires p_bound { (p < 272) × (k < 1024) × IsPlan plan.now.tags plan.now.bases × (hits plan.now.tags plan.now.bases w p ≡ true) }
-    requires bits_len { (length bits.old ≡ 256) × (length table.old ≡ 1024) × (pages ≤ 1024) }
-    ensures { Entered plan.now.tags plan.now.bases own pages bits.old table.old bits.new table.new w k result }
-{
-    let rank = plan.bases[p] + (w - plan.tags[p]) / 4096;
-    if !take(bits, rank) {
-        return false;
+    // Takes the rank of the page that w, a word of part p, names, and enters frame `k` for it if it is of the process that makes the
+    // call. The answer is no where the rank is taken already.
+    fn enter(
+        &self,
+        notes: &mut Notes,
+        table: &mut [u16; 1024],
+        p: usize,
+        w: u64,
+        k: usize,
+    ) -> bool
+        requires { (p < 272) × (k < 1024) × (hits self.now.plan.now.tags self.now.plan.now.bases w p ≡ true) }
+        ensures { Entered self.now.plan.now.tags self.now.plan.now.bases self.now.own self.now.pages notes.old.bits table.old notes.new.bits table.new w k result }
+    {
+        let rank = self.plan.bases[p] + (w - self.plan.tags[p]) / 4096;
+        if !notes.take(rank) {
+            return false;
+        }
+        self.store(table, rank, k);
+        true
     }
-    store(table, own, pages, rank, k);
-    true
-}
 
-// The same where the word is of the part that the last word with its owner and permission was of, as it mostly is.
-fn mark_near(
-    plan: &Plan,
-    bits: &mut [u64; 256],
-    table: &mut [u16; 1024],
-    own: u64,
-    pages: u64,
-    hints: &[usize; 272],
-    w: u64,
-    k: usize,
-) -> Option<bool>
-    requires k_bound { (k < 1024) × IsPlan plan.now.tags plan.now.bases × Hints hints.now × (w % 4096 < 272) }
-    requires bits_len { (length bits.old ≡ 256) × (length table.old ≡ 1024) × (pages ≤ 1024) }
-    ensures { Near plan.now.tags plan.now.bases own pages bits.old table.old bits.new table.new w k result }
-{
-    let hint = hints[hint_at(w)];
-    if !plan.hits(hint, w) {
-        return None;
+    // The same where the word is of the part that the last word with its owner and permission was of, as it mostly is.
+    fn mark_near(&self, notes: &mut Notes, table: &mut [u16; 1024], w: u64, k: usize) -> Option<bool>
+        requires { (k < 1024) × (w % 4096 < 272) }
+        ensures { Near self.now.plan.now.tags self.now.plan.now.bases self.now.own self.now.pages notes.old.bits table.old notes.new.bits table.new w k result }
+    {
+        let hint = notes.hints[hint_at(w)];
+        if !self.plan.hits(hint, w) {
+            return None;
+        }
+        Some(self.enter(notes, table, hint, w, k))
     }
-    Some(enter(plan, bits, table, own, pages, hint, w, k))
-}
 
-// The same by a search for the part, which is the hint from then on. Where no part has the word, the answer is no.
-fn mark_far(
-    plan: &Plan,
-    bits: &mut [u64; 256],
-    table: &mut [u16; 1024],
-    own: u64,
-    pages: u64,
-    hints: &mut [usize; 272],
-    w: u64,
-    k: usize,
-) -> bool
-    requires k_bound { (k < 1024) × IsPlan plan.now.tags plan.now.bases × Hints hints.old × (w % 4096 < 272) }
-    requires bits_len { (length bits.old ≡ 256) × (length table.old ≡ 1024) × (pages ≤ 1024) }
-    ensures entered { Entered plan.now.tags plan.now.bases own pages bits.old table.old bits.new table.new w k result }
-    ensures hints { Hints hints.new }
-{
-    let Some(p) = plan.part_of(w) else {
-        return false;
-    };
-    hints[hint_at(w)] = p;
-    enter(plan, bits, table, own, pages, p, w, k)
-}
-
-// The same with the hint tried first.
-fn mark_word(
-    plan: &Plan,
-    bits: &mut [u64; 256],
-    table: &mut [u16; 1024],
-    own: u64,
-    pages: u64,
-    hints: &mut [usize; 272],
-    w: u64,
-    k: usize,
-) -> bool
-    requires k_bound { (k < 1024) × IsPlan plan.now.tags plan.now.bases × Hints hints.old × (w % 4096 < 272) }
-    requires bits_len { (length bits.old ≡ 256) × (length table.old ≡ 1024) × (pages ≤ 1024) }
-    ensures entered { Entered plan.now.tags plan.now.bases own pages bits.old table.old bits.new table.new w k result }
-    ensures hints { Hints hints.new }
-{
-    match mark_near(plan, bits, table, own, pages, hints, w, k) {
-        Some(entered) => entered,
-        None => mark_far(plan, bits, table, own, pages, hints, w, k),
+    // The same by a search for the part, which is the hint from then on. Where no part has the word, the answer is no.
+    fn mark_far(&self, notes: &mut Notes, table: &mut [u16; 1024], w: u64, k: usize) -> bool
+        requires { (k < 1024) × (w % 4096 < 272) }
+        ensures { Entered self.now.plan.now.tags self.now.plan.now.bases self.now.own self.now.pages notes.old.bits table.old notes.new.bits table.new w k result }
+    {
+        let Some(p) = self.plan.part_of(w) else {
+            return false;
+        };
+        notes.hints[hint_at(w)] = p;
+        self.enter(notes, table, p, w, k)
     }
-}
 
-// The pass over frame `k`, place by place: each mapping stands in its owner's place, all agree on page and permission, data stands
-// alone, and the count is theirs.
-fn mark_frame(
-    book: &[u64],
-    plan: &Plan,
-    bits: &mut [u64; 256],
-    table: &mut [u16; 1024],
-    own: u64,
-    pages: u64,
-    hints: &mut [usize; 272],
-    k: usize,
-) -> bool
-    requires k_bound { (k < 1024) × (k < frame_count book.now) × IsPlan plan.now.tags plan.now.bases × Hints hints.old }
-    requires planned { Planned book.now plan.now.tags plan.now.bases (16 * k) × Noted book.now plan.now.tags plan.now.bases own pages bits.old table.old (16 * k) }
-    ensures passes { Passes book.now plan.now.tags plan.now.bases own pages bits.new table.new k result }
-    ensures hints { Hints hints.new }
-{
-    let first = 17 * k;
-    let mut base: u64 = 0;
-    let mut seen: u64 = 0;
-    let mut i: usize = 0;
-    while i < 16 {
-        let w = book[first + i];
-        i += 1;
-        if w != 0 {
-            let n = i as u64;
-            if book::owner_of(w) != n {
+    // The same with the hint tried first.
+    fn mark_word(&self, notes: &mut Notes, table: &mut [u16; 1024], w: u64, k: usize) -> bool
+        requires { (k < 1024) × (w % 4096 < 272) }
+        ensures { Entered self.now.plan.now.tags self.now.plan.now.bases self.now.own self.now.pages notes.old.bits table.old notes.new.bits table.new w k result }
+    {
+        match self.mark_near(notes, table, w, k) {
+            Some(entered) => entered,
+            None => self.mark_far(notes, table, w, k),
+        }
+    }
+
+    // The pass over frame `k`, place by place: each mapping stands in its owner's place, all agree on page and permission, data stands
+    // alone, and the count is theirs.
+    fn mark_frame(&self, notes: &mut Notes, table: &mut [u16; 1024], k: usize) -> bool
+        requires k_bound { (k < 1024) × (k < frame_count self.now.book.now) }
+        requires planned { Planned self.now.book.now self.now.plan.now.tags self.now.plan.now.bases (16 * k) × Noted self.now.book.now self.now.plan.now.tags self.now.plan.now.bases self.now.own self.now.pages notes.old.bits table.old (16 * k) }
+        ensures { Passes self.now.book.now self.now.plan.now.tags self.now.plan.now.bases self.now.own self.now.pages notes.new.bits table.new k result }
+    {
+        let first = 17 * k;
+        let mut base: u64 = 0;
+        let mut seen: u64 = 0;
+        for i in 0..16 {
+            let w = self.book[first + i];
+            if w == 0 {
+                continue;
+            }
+            if book::owner_of(w) != i as u64 + 1 {
                 return false;
             }
             let b = unowned(w);
@@ -198,120 +174,72 @@ fn mark_frame(
             }
             base = b;
             seen += 1;
-            if !mark_word(plan, bits, table, own, pages, hints, w, k) {
+            if !self.mark_word(notes, table, w, k) {
                 return false;
             }
         }
+        seen == self.book[first + 16]
     }
-    seen == book[first + 16]
-}
 
-// The pass over frame `k`, of which w was found: its only mapping, 1 where it is free, or 0, and then it is passed place by place. The
-// only mapping's two tries are written out: mark_word, used twice, would be compiled as a call, which took 1.1 times as long.
-fn mark_row(
-    book: &[u64],
-    plan: &Plan,
-    bits: &mut [u64; 256],
-    table: &mut [u16; 1024],
-    own: u64,
-    pages: u64,
-    hints: &mut [usize; 272],
-    w: u64,
-    k: usize,
-) -> bool
-    requires k_bound { (k < 1024) × (k < frame_count book.now) × IsPlan plan.now.tags plan.now.bases × Hints hints.old × Single book.now k w }
-    requires planned { Planned book.now plan.now.tags plan.now.bases (16 * k) × Noted book.now plan.now.tags plan.now.bases own pages bits.old table.old (16 * k) }
-    ensures passes { Passes book.now plan.now.tags plan.now.bases own pages bits.new table.new k result }
-    ensures hints { Hints hints.new }
-{
-    if w == 0 {
-        return mark_frame(book, plan, bits, table, own, pages, hints, k);
-    }
-    if w == 1 {
-        return true;
-    }
-    match mark_near(plan, bits, table, own, pages, hints, w, k) {
-        Some(entered) => entered,
-        None => mark_far(plan, bits, table, own, pages, hints, w, k),
-    }
-}
-
-// The pass over the `count` frames from `from` on, of which the words were found.
-fn mark_block(
-    book: &[u64],
-    plan: &Plan,
-    bits: &mut [u64; 256],
-    table: &mut [u16; 1024],
-    own: u64,
-    pages: u64,
-    hints: &mut [usize; 272],
-    words: &[u64; 128],
-    from: usize,
-    count: usize,
-) -> bool
-    requires count_bound { (count ≤ 128) × (from + count ≤ 1024) × (from + count ≤ frame_count book.now) × IsPlan plan.now.tags plan.now.bases × Hints hints.old × Singles book.now words.now from count }
-    requires planned { Planned book.now plan.now.tags plan.now.bases (16 * from) × Noted book.now plan.now.tags plan.now.bases own pages bits.old table.old (16 * from) × FramedAll book.now from }
-    ensures passed { Passed book.now plan.now.tags plan.now.bases own pages bits.new table.new (from + count) result }
-    ensures hints { Hints hints.new }
-{
-    let mut i = 0;
-    while i < count {
-        if !mark_row(
-            book,
-            plan,
-            bits,
-            table,
-            own,
-            pages,
-            hints,
-            words[i],
-            from + i,
-        ) {
-            return false;
+    // The pass over frame `k`, of which w was found: its only mapping, 1 where it is free, or 0, and then it is passed place by place. The
+    // only mapping's two tries are written out: mark_word, used twice, would be compiled as a call, which took 1.1 times as long.
+    fn mark_row(&self, notes: &mut Notes, table: &mut [u16; 1024], w: u64, k: usize) -> bool
+        requires k_bound { (k < 1024) × (k < frame_count self.now.book.now) × Single self.now.book.now k w }
+        requires planned { Planned self.now.book.now self.now.plan.now.tags self.now.plan.now.bases (16 * k) × Noted self.now.book.now self.now.plan.now.tags self.now.plan.now.bases self.now.own self.now.pages notes.old.bits table.old (16 * k) }
+        ensures { Passes self.now.book.now self.now.plan.now.tags self.now.plan.now.bases self.now.own self.now.pages notes.new.bits table.new k result }
+    {
+        if w == 0 {
+            return self.mark_frame(notes, table, k);
         }
-        i += 1;
-    }
-    true
-}
-
-// How many of the frames that are left the next block has.
-fn block(left: usize) -> usize
-    ensures { (result ≤ 128) × (result ≤ left) × (0 < left → 0 < result) }
-{
-    if left < 128 {
-        return left;
-    }
-    128
-}
-
-// The pass, block by block. The answer is no where a frame is torn, a mapping is of no part's page, or its rank is taken already.
-fn mark_all(
-    book: &[u64],
-    plan: &Plan,
-    bits: &mut [u64; 256],
-    table: &mut [u16; 1024],
-    own: u64,
-    pages: u64,
-) -> bool
-    requires { (length book.now ≤ 17408) × IsPlan plan.now.tags plan.now.bases × Noted book.now plan.now.tags plan.now.bases own pages bits.old table.old 0 }
-    ensures { Passed book.now plan.now.tags plan.now.bases own pages bits.new table.new (frame_count book.now) result }
-{
-    let mut words = [0u64; 128];
-    let mut hints = [0usize; 272];
-    let frames = book.len() / 17;
-    let mut last = 0;
-    let mut k = 0;
-    while k < frames {
-        let count = block(frames - k);
-        last = crate::rows::singles(book, &mut words, k, count, last);
-        if !mark_block(
-            book, plan, bits, table, own, pages, &mut hints, &words, k, count,
-        ) {
-            return false;
+        if w == 1 {
+            return true;
         }
-        k += count;
+        match self.mark_near(notes, table, w, k) {
+            Some(entered) => entered,
+            None => self.mark_far(notes, table, w, k),
+        }
     }
-    true
+
+    // The pass over the `count` frames from `from` on, of which the words were found.
+    fn mark_block(
+        &self,
+        notes: &mut Notes,
+        table: &mut [u16; 1024],
+        words: &[u64; 128],
+        from: usize,
+        count: usize,
+    ) -> bool
+        requires count_bound { (count ≤ 128) × (from + count ≤ 1024) × (from + count ≤ frame_count self.now.book.now) × Singles self.now.book.now words.now from count }
+        requires planned { Planned self.now.book.now self.now.plan.now.tags self.now.plan.now.bases (16 * from) × Noted self.now.book.now self.now.plan.now.tags self.now.plan.now.bases self.now.own self.now.pages notes.old.bits table.old (16 * from) × FramedAll self.now.book.now from }
+        ensures { Passed self.now.book.now self.now.plan.now.tags self.now.plan.now.bases self.now.own self.now.pages notes.new.bits table.new (from + count) result }
+    {
+        for i in 0..count {
+            if !self.mark_row(notes, table, words[i], from + i) {
+                return false;
+            }
+        }
+        true
+    }
+
+    // The pass, block by block. The answer is no where a frame is torn, a mapping is of no part's page, or its rank is taken already.
+    fn mark_all(&self, notes: &mut Notes, table: &mut [u16; 1024]) -> bool
+        requires { (length self.now.book.now ≤ 17408) × Noted self.now.book.now self.now.plan.now.tags self.now.plan.now.bases self.now.own self.now.pages notes.old.bits table.old 0 }
+        ensures { Passed self.now.book.now self.now.plan.now.tags self.now.plan.now.bases self.now.own self.now.pages notes.new.bits table.new (frame_count self.now.book.now) result }
+    {
+        let mut words = [0u64; 128];
+        let frames = self.book.len() / 17;
+        let mut last = 0;
+        let mut k = 0;
+        while k < frames {
+            let count = (frames - k).min(128);
+            last = singles(self.book, &mut words, k, count, last);
+            if !self.mark_block(notes, table, &words, k, count) {
+                return false;
+            }
+            k += count;
+        }
+        true
+    }
 }
 
 // Whether the first `n` bits of a word are all 1.
@@ -345,54 +273,34 @@ fn all_marked(bits: &[u64; 256], total: usize) -> bool
     ones(bits[words], rest) & ok
 }
 
-// The first rank of the pages of process `number`, and how many they are: a number that no process has, has none.
-fn first_of(bases: &[u64; 273], number: u64) -> u64
-    requires { length bases.now ≡ 273 }
-    ensures { result ≡ first_of bases.now number }
+// The base of the first part behind those of `processes` processes; there are sixteen.
+fn base_behind(plan: &Plan, processes: u64) -> u64
+    ensures { result ≡ get_or plan.now.bases (17 * processes) 0 }
 {
-    if number == 0 {
-        return bases[0];
-    }
-    if 17 < number {
-        return 0;
-    }
-    bases[17 * (number as usize - 1)]
-}
-
-fn count_of(bases: &[u64; 273], number: u64) -> u64
-    requires { (length bases.now ≡ 273) × Rising bases.now }
-    ensures { result ≡ count_of bases.now number }
-{
-    if number == 0 {
-        return 0;
-    }
-    if 16 < number {
-        return 0;
-    }
-    let n = number as usize;
-    bases[17 * n] - bases[17 * (n - 1)]
+    if 16 < processes { 0 } else { plan.bases[17 * processes as usize] }
 }
 
 // Whether each frame is in order, and the book has the plan's words, each once. If so, `table` has the frames of the pages of process
 // `number`; it comes in as zeros.
-pub fn mark(
-    book: &[u64],
-    plan: &Plan,
-    table: &mut [u16; 1024],
-    number: u64,
-) -> bool
-    requires { (length book.now ≤ 17408) × IsPlan plan.now.tags plan.now.bases × Blank table.old × (length table.old ≡ 1024) }
+pub fn mark(book: &[u64], plan: &Plan, table: &mut [u16; 1024], number: u64) -> bool
+    requires { (length book.now ≤ 17408) × IsPlan plan.now.tags plan.now.bases × Blank table.old }
     ensures { Marked book.now plan.now.tags plan.now.bases number table.new result }
 {
-    let mut bits = [0u64; 256];
-    let pages = count_of(&plan.bases, number);
+    let own = base_behind(plan, number.saturating_sub(1));
+    let pages = base_behind(plan, number).saturating_sub(own);
     let frames = (book.len() / 17) as u64;
     if frames < pages {
         return false;
     }
-    let own = first_of(&plan.bases, number);
-    if !mark_all(book, plan, &mut bits, table, own, pages) {
-        return false;
-    }
-    all_marked(&bits, plan.bases[272] as usize)
+    let pass = Pass {
+        book,
+        plan,
+        own,
+        pages,
+    };
+    let mut notes = Notes {
+        bits: [0; 256],
+        hints: [0; 272],
+    };
+    pass.mark_all(&mut notes, table) && all_marked(&notes.bits, plan.bases[272] as usize)
 }

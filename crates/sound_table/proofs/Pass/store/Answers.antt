@@ -1,12 +1,13 @@
 -- `store` meets its contract.
 use Prim.Native.Nat.{ℕ, ◌+◌, ◌-◌, ◌<◌, ◌≤◌}
 use native.Mathlib.Omega.{arith}
+use borrow.Author.Rules.{rules}
 use mathlib.Core.Path.{◌≡◌, refl}
 use mathlib.Core.List.{List}
 use lib.ListN.{length, set, length-set}
 use lib.Seq.{get_or-set_same, get_or-set_other}
 use Rattle.sound_table.specs.Table.{Stored}
-use Rattle.sound_table.proofs.store.Goals as goal
+use Rattle.sound_table.proofs.Pass.store.Goals as goal
 
 -- a rank that is not among the process's
 none : (first count : ℕ) (table : List ℕ) (t v : ℕ) → length table ≡ 1024 → ((u : ℕ) → u < count → first + u ≡ t → ⊥) → Stored first count table table t v
@@ -19,11 +20,8 @@ one first count table t v long few lo hi = record {
   long = simp length-set long;
 }
 
-pub returns-then-at-pages : goal.returns-then-at-pages
-returns-then-at-pages c = one c.args.own c.args.pages c.args.table.now c.args.rank _ c.requires.2 c.requires.0 c.if-own-rank.true c.if-at-pages.true
+pub returns-then-rank-self : goal.returns-then-rank-self
+returns-then-rank-self c = let p = c.args.self.now in one p.own p.pages c.args.table.now c.args.rank _ (search rules) p.few (omega arith) (omega arith)
 
-pub returns-else-at-pages : goal.returns-else-at-pages
-returns-else-at-pages c = none c.args.own c.args.pages c.args.table.now c.args.rank _ c.requires.2 (λ u l e. omega arith)
-
-pub returns-else-own-rank : goal.returns-else-own-rank
-returns-else-own-rank c = none c.args.own c.args.pages c.args.table.now c.args.rank _ c.requires.2 (λ u l e. omega arith)
+pub returns-else-self-rank : goal.returns-else-self-rank
+returns-else-self-rank c = let p = c.args.self.now in none p.own p.pages c.args.table.now c.args.rank _ (search rules) (λ u l e. grind arith)
