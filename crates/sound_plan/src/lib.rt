@@ -68,12 +68,17 @@ impl Plan {
     }
 
     // Whether a word is of a page of part k.
+    #[tactic(auto, unfolding(crate::specs::Plan::hits))]
     pub fn hits(&self, k: usize, w: u64) -> bool
         requires { (k < 272) × Rising self.now.bases }
         ensures { result ≡ hitsOf self.now.tags self.now.bases w k }
     {
         let tag = self.tags[k];
-        tag <= w && (w - tag) % 4096 == 0 && (w - tag) / 4096 < self.bases[k + 1] - self.bases[k]
+        if w < tag {
+            return false;
+        }
+        let d = w - tag;
+        d % 4096 == 0 && d / 4096 < self.bases[k + 1] - self.bases[k]
     }
 
     // The later of two places, k + step and k, whose tag is at most w.

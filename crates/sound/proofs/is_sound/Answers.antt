@@ -1,7 +1,6 @@
 -- `is_sound` meets its contract: each no is given where the book isn't sound, and what the last test answers decides.
 use Prim.Native.Nat.{◌+◌, ◌-◌, ◌≤◌}
 use native.Mathlib.Omega.{arith}
-use borrow.Author.Rules.{rules}
 use mathlib.Core.Path.{◌≡◌, sym, ◌∙◌}
 use mathlib.Core.Bool.{true, false≢true}
 use Rattle.spec.specs.Tests.{all}
@@ -42,7 +41,7 @@ returns-then-places-total c =
 pub mark-requires : goal.mark-requires
 mark-requires c =
     let ps = c.args.procs in
-    (omega arith, plan (made c.args.setup c.requires.setup_ok ps (whole (goal.at.mark-requires c).Start) (pass (goal.at.mark-requires c).Else-not-records_ok) _ _ _ c.lay_all-total.ensures) (omega arith), table-blank c.requires.book_len_bound.1, search rules)
+    (omega arith, plan (made c.args.setup c.requires.setup_ok ps (whole (goal.at.mark-requires c).Start) (pass (goal.at.mark-requires c).Else-not-records_ok) _ _ _ c.lay_all-total.ensures) (omega arith), table-blank c.requires.book_len_bound.1)
 
 pub returns : goal.returns
 returns c =
