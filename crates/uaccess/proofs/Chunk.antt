@@ -1,4 +1,5 @@
 -- A string copy, part by part: what the part of a buffer that one page fills makes of the whole copy.
+use Rattle.std.specs.Prelude.{Ok, Err}
 use Prim.Native.Nat.{ℕ, zero, suc, ◌+◌, ◌≤◌, ◌<◌}
 use native.Mathlib.Omega.{arith}
 use native.Mathlib.Nat.{add-zero}
@@ -10,11 +11,10 @@ use borrow.Author.Tests.{eq-eqb, ne_eqb}
 use Rattle.spec.specs.Frames.{Mem}
 use Rattle.spec.specs.Access.{access, byte_of, Str, longer, copy_str}
 use Rattle.spec.specs.declared.Setup.{Setup}
-use Rattle.spec.specs.declared.Checked.TheVariants.{Fine, Bad}
 
 -- bytes s can be read from address a on
 pub record Readable (setup : Setup) (mem : Mem) (a : ℕ) (s : List ℕ) : Type 0 where
-  pub ok : (i : ℕ) → i < length s → access setup mem false (a + i) 1 ≡ Fine
+  pub ok : (i : ℕ) → i < length s → access setup mem false (a + i) 1 ≡ Ok tt
   pub bytes : (i : ℕ) → i < length s → byte_of (mem (a + i)) ≡ get_or s i 0
 
 readable-rest : (setup : Setup) (mem : Mem) (a x : ℕ) (s : List ℕ) → Readable setup mem a (x ∷ s) → Readable setup mem (a + 1) s
@@ -35,10 +35,10 @@ one : (x : ℕ) (s : List ℕ) (t : Str) → longer x (after_bytes s t) ≡ afte
 one x s t = let z : length s + t.size + 1 ≡ suc (length s) + t.size = omega arith in λ i. record { access = t.access; size = z i; buffer = x ∷ (s ++ t.buffer) }
 
 module _ (setup : Setup) where
-  first : (mem : Mem) (a x : ℕ) (s : List ℕ) → Readable setup mem a (x ∷ s) → (access setup mem false a 1 ≡ Fine) × (byte_of (mem a) ≡ x)
+  first : (mem : Mem) (a x : ℕ) (s : List ℕ) → Readable setup mem a (x ∷ s) → (access setup mem false a 1 ≡ Ok tt) × (byte_of (mem a) ≡ x)
   first mem a x s r = (rw (add-zero a) at (r.ok 0 (omega arith)), rw (add-zero a) at (r.bytes 0 (omega arith)))
 
-  next : (mem : Mem) (d : ℕ) (dst : List ℕ) (a x : ℕ) → access setup mem false a 1 ≡ Fine → byte_of (mem a) ≡ x → (x ≡ 0 → ⊥)
+  next : (mem : Mem) (d : ℕ) (dst : List ℕ) (a x : ℕ) → access setup mem false a 1 ≡ Ok tt → byte_of (mem a) ≡ x → (x ≡ 0 → ⊥)
       → copy_str setup mem (d ∷ dst) a ≡ longer x (copy_str setup mem dst (a + 1))
   next mem d dst a x ok e nz = rw (ok, e, ne_eqb x 0 nz)
 
@@ -57,7 +57,7 @@ module _ (setup : Setup) where
 
   -- a part with its first NUL at place k ends the copy
   pub chunk-nul : (mem : Mem) (s dst : List ℕ) (a k : ℕ) → Readable setup mem a s → length s ≤ length dst → k < length s → get_or s k 0 ≡ 0
-      → ((i : ℕ) → i < k → get_or s i 0 ≡ 0 → ⊥) → copy_str setup mem dst a ≡ record { access = Fine; size = k; buffer = take k s ++ drop k dst }
+      → ((i : ℕ) → i < k → get_or s i 0 ≡ 0 → ⊥) → copy_str setup mem dst a ≡ record { access = Ok tt; size = k; buffer = take k s ++ drop k dst }
   chunk-nul mem [] dst a k r l h z nz = absurd (omega arith)
   chunk-nul mem (x ∷ s) [] a k r l h z nz = absurd (omega arith)
   chunk-nul mem (x ∷ s) (d ∷ dst) a zero r l h z nz =
@@ -68,8 +68,8 @@ module _ (setup : Setup) where
       let e : k + 1 ≡ suc k = omega arith in
       next mem d dst a x f.0 f.1 (nz 0 (omega arith))
       ∙ ap (longer x) (chunk-nul mem s dst (a + 1) k (readable-rest setup mem a x s r) (omega arith) (omega arith) z (λ i g. nz (suc i) (omega arith)))
-      ∙ (λ i. record { access = Fine; size = e i; buffer = x ∷ (take k s ++ drop k dst) })
+      ∙ (λ i. record { access = Ok tt; size = e i; buffer = x ∷ (take k s ++ drop k dst) })
 
   -- an address that can't be read ends it too
-  pub chunk-bad : (mem : Mem) (d : ℕ) (dst : List ℕ) (a b : ℕ) → access setup mem false a 1 ≡ Bad b → copy_str setup mem (d ∷ dst) a ≡ record { access = Bad b; size = 0; buffer = d ∷ dst }
+  pub chunk-bad : (mem : Mem) (d : ℕ) (dst : List ℕ) (a b : ℕ) → access setup mem false a 1 ≡ Err b → copy_str setup mem (d ∷ dst) a ≡ record { access = Err b; size = 0; buffer = d ∷ dst }
   chunk-bad mem d dst a b e = rw e

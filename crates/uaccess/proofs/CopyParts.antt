@@ -4,7 +4,7 @@ use native.Mathlib.Omega.{arith}
 use native.Mathlib.Nat.{add_assoc}
 use mathlib.Core.Path.{◌≡◌, sym, ap, ◌∙◌}
 use mathlib.Core.Bool.{Bool, true}
-use mathlib.Core.Option.{none, some}
+use Rattle.std.specs.Prelude.{None, Some}
 use mathlib.Core.List.{List}
 use lib.ListN.{length, get_or, take, drop, length-drop}
 use lib.Seq.{length-take-le, get_or-take, get_or-drop, ext_get_or, take-add}
@@ -21,13 +21,13 @@ use Rattle.uaccess.proofs.Found.{page-none}
 use Rattle.spec_laws.proofs.Overwrite.{mix, mix-part}
 
 -- a page that may be used has a frame
-pub unmapped : {P : Type 0} (write : Bool) (frames book : List ℕ) (n va : ℕ) → frame_of book n (page_down va) ≡ none → cell_ok write (mem_of (store frames book) n va) ≡ true → P
+pub unmapped : {P : Type 0} (write : Bool) (frames book : List ℕ) (n va : ℕ) → frame_of book n (page_down va) ≡ None → cell_ok write (mem_of (store frames book) n va) ≡ true → P
 unmapped write frames book n va e h = clash _ h (sym (page-none write frames book n va e))
 
 -- ---- reads
 
 -- the bytes of an address in its page's frame are those that the process sees
-pub bytes-page : (frames book : List ℕ) (n va k len : ℕ) → length frames ≡ 4096 * frame_count book → frame_of book n (page_down va) ≡ some k → va % 4096 + len ≤ 4096
+pub bytes-page : (frames book : List ℕ) (n va k len : ℕ) → length frames ≡ 4096 * frame_count book → frame_of book n (page_down va) ≡ Some k → va % 4096 + len ≤ 4096
     → take len (drop (4096 * k + va % 4096) frames) ≡ bytes_at (mem_of (store frames book) n) va len
 bytes-page frames book n va k len fits e h =
     let at : ℕ = 4096 * k + va % 4096 in
@@ -39,7 +39,7 @@ bytes-page frames book n va k len fits e h =
     (λ i g.
     let p : page_down (va + i) ≡ page_down va = omega arith in
     let q : 4096 * k + (va + i) % 4096 ≡ at + i = omega arith in
-    let cell : frame_of book n (page_down (va + i)) ≡ some k = ap (frame_of book n) p ∙ e in
+    let cell : frame_of book n (page_down (va + i)) ≡ Some k = ap (frame_of book n) p ∙ e in
     get_or-take len (drop at frames) i 0 (omega arith) ∙ get_or-drop at frames i 0 ∙ ap (λ (j : ℕ). get_or frames j 0) (sym q)
     ∙ sym (get-bytes f va len i (omega arith) ∙ ap (λ (o : _). byte_of (cell_in (store frames book) n (va + i) o)) cell))
 
@@ -65,7 +65,7 @@ read-turn mem a i n d x h e =
 -- ---- writes
 
 -- bytes that are put into a page's frame are written
-pub write-page : (frames g book bs : List ℕ) (n va k at : ℕ) → length frames ≡ 4096 * frame_count book → frame_of book n (page_down va) ≡ some k → va % 4096 + length bs ≤ 4096
+pub write-page : (frames g book bs : List ℕ) (n va k at : ℕ) → length frames ≡ 4096 * frame_count book → frame_of book n (page_down va) ≡ Some k → va % 4096 + length bs ≤ 4096
     → at ≡ 4096 * k + va % 4096 → g ≡ put frames at bs → store g book ≡ pokes (store frames book) n va bs
 write-page frames g book bs n va k at fits e h ea eg =
     ap (λ (y : List ℕ). store y book) (eg ∙ ap (λ (j : ℕ). put frames j bs) ea) ∙ sym (pokes-page (store frames book) n va bs k fits e h)

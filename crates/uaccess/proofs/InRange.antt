@@ -1,18 +1,15 @@
 -- A range, page by page.
+use Rattle.std.specs.Prelude.{Ok}
 use Prim.Native.Nat.{ℕ, zero, suc, ◌+◌, ◌%◌, ◌≤◌, ◌<◌}
 use native.Mathlib.Omega.{arith}
 use mathlib.Core.Path.{◌≡◌, sym, ap, ◌∙◌}
 use mathlib.Core.Bool.{Bool, true, false}
 use mathlib.Core.List.{List}
-use lib.Dec.{ltb}
-use borrow.Author.Tests.{ltb-true, ltb-false}
 use Rattle.spec.specs.Numbers.{page_down, SetupOk}
 use Rattle.spec.specs.Frames.{Mem, mem_of, store}
 use Rattle.spec.specs.Access.{cell_ok, access, user_range_ok}
-use Rattle.spec.proofs.Bools.{split}
 use Rattle.spec.proofs.Ranges.{access-passed, range-means, one-fine}
 use Rattle.spec.specs.declared.Setup.{Setup}
-use Rattle.spec.specs.declared.Checked.TheVariants.{Fine}
 use Rattle.spec_laws.proofs.Allowed.{cell-allowed}
 
 -- each address is allowed what its page is
@@ -25,19 +22,12 @@ Paged mem = (a : ℕ) (write : Bool) → cell_ok write (mem a) ≡ cell_ok write
 abbrev pub Clear : Mem → Bool → ℕ → ℕ → Type 0
 Clear mem write low high = (a : ℕ) → low ≤ a → a < high → cell_ok write (mem a) ≡ true
 
--- after a page that is, it goes on
-pub checked-page : (mem : Mem) → Paged mem → (write : Bool) (low va : ℕ) → va % 4096 ≡ 0 → cell_ok write (mem va) ≡ true → Clear mem write low va → Clear mem write low (va + 4096)
-checked-page mem paged write low va z e h a l u =
-    split (ltb a va)
-    (λ q. h a l (ltb-true a va q))
-    (λ q. let p : page_down a ≡ va = omega (arith, ltb-false a va q) in paged a write ∙ ap (λ (x : ℕ). cell_ok write (mem x)) p ∙ e)
-
 -- a page that isn't has no address that is
 pub page-bad : (mem : Mem) → Paged mem → (write : Bool) (va a : ℕ) → page_down a ≡ va → cell_ok write (mem va) ≡ false → cell_ok write (mem a) ≡ false
 page-bad mem paged write va a p e = paged a write ∙ ap (λ (x : ℕ). cell_ok write (mem x)) p ∙ e
 
 -- a range that is fine has passed
-pub fine-ok : (setup : Setup) (mem : Mem) (write : Bool) (addr len : ℕ) → access setup mem write addr len ≡ Fine → user_range_ok setup mem write addr len ≡ true
+pub fine-ok : (setup : Setup) (mem : Mem) (write : Bool) (addr len : ℕ) → access setup mem write addr len ≡ Ok tt → user_range_ok setup mem write addr len ≡ true
 fine-ok setup mem write addr len e = rw e
 
 -- ---- what a range that passed says
@@ -54,7 +44,7 @@ range-end setup mem write addr zero e = omega (arith, (range-means setup mem wri
 range-end setup mem write addr (suc n) e = omega (arith, ((range-means setup mem write addr (suc n) e).each (addr + n) (omega arith) (omega arith)).0)
 
 -- where one byte of a page can be read, each further one can
-pub range-along : (setup : Setup) (ok : SetupOk setup) (mem : Mem) → Paged mem → (a i : ℕ) → access setup mem false a 1 ≡ Fine → a % 4096 + i < 4096 → access setup mem false (a + i) 1 ≡ Fine
+pub range-along : (setup : Setup) (ok : SetupOk setup) (mem : Mem) → Paged mem → (a i : ℕ) → access setup mem false a 1 ≡ Ok tt → a % 4096 + i < 4096 → access setup mem false (a + i) 1 ≡ Ok tt
 range-along setup ok mem paged a i e h =
     let r = (access-passed setup mem false a 1 e).each a (omega arith) (omega arith) in
     let q : page_down (a + i) ≡ page_down a = omega arith in

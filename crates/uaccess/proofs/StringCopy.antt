@@ -1,4 +1,5 @@
 -- The loop of a string copy.
+use Rattle.std.specs.Prelude.{Ok, Err}
 use Prim.Native.Nat.{ℕ, zero, suc, ◌+◌, ◌-◌, ◌%◌, ◌≤◌, ◌<◌}
 use native.Mathlib.Omega.{arith}
 use native.Mathlib.Nat.{add-zero}
@@ -9,19 +10,20 @@ use lib.ListN.{length, get_or, take, drop, length-append, length-drop, take-appe
 use lib.Seq.{drop-cons, length-take-le, take-add, drop-drop, take-take}
 use borrow.Rule.Slice.PartMut.{put_mid, mid_of}
 use Rattle.spec.specs.Frames.{Mem}
-use Rattle.spec.specs.Access.{access, byte_of, bytes_at, Str, copy_str}
+use Rattle.spec.specs.Access.{Checked, access, byte_of, bytes_at, Str, copy_str}
 use Rattle.spec.specs.Numbers.{SetupOk}
 use Rattle.spec.specs.declared.Setup.{Setup}
-use Rattle.spec.specs.declared.Checked.{Checked}
-use Rattle.spec.specs.declared.Checked.TheVariants.{Fine, Bad}
 use Rattle.spec_laws.proofs.Contents.{length-bytes, get-bytes}
 use Rattle.kstr.specs.Nul.{to_nul}
 use Rattle.kstr.proofs.BeforeNul.{nul-most, nul-before, nul-at}
-use Rattle.uaccess.specs.Copied.{copied}
 use Rattle.uaccess.proofs.InRange.{Paged, range-along}
 use Rattle.uaccess.proofs.CopyParts.{bytes-part}
 use Rattle.spec_laws.proofs.Overwrite.{mix, mix-part}
 use Rattle.uaccess.proofs.Chunk.{Readable, after_bytes, none, chunk_whole, chunk-nul, chunk-bad}
+
+-- what a copy comes to, part by part
+abbrev pub copied : Checked → ℕ → List ℕ → Str
+copied access size buffer = record { access = access; size = size; buffer = buffer }
 
 -- of a lent part only the first k bytes changed
 drop-split : (r : List ℕ) (k chunk : ℕ) → k ≤ chunk → drop k (take chunk r) ++ drop chunk r ≡ drop k r
@@ -37,7 +39,7 @@ part-front l s n chunk k h =
     rw (c, d, append_assoc (take k s) (drop k (take chunk (drop n l))) (drop chunk (drop n l)), drop-split (drop n l) k chunk h) refl
 
 -- the bytes that a process sees in one page can be read
-readable : (setup : Setup) (ok : SetupOk setup) (mem : Mem) → Paged mem → (a chunk : ℕ) → access setup mem false a 1 ≡ Fine → a % 4096 + chunk ≤ 4096 → Readable setup mem a (bytes_at mem a chunk)
+readable : (setup : Setup) (ok : SetupOk setup) (mem : Mem) → Paged mem → (a chunk : ℕ) → access setup mem false a 1 ≡ Ok tt → a % 4096 + chunk ≤ 4096 → Readable setup mem a (bytes_at mem a chunk)
 readable setup ok mem paged a chunk may h =
     let f : ℕ → ℕ = λ b. byte_of (mem b) in
     let l = length-bytes f a chunk in
@@ -73,19 +75,19 @@ module _ (setup : Setup) (ok : SetupOk setup) where
     str-none = none (copy_str setup mem dst src) ∙ ap (λ (a : ℕ). after_bytes [] (copy_str setup mem dst a)) (sym (add-zero src))
 
     -- the buffer is full
-    pub str-end : (n : ℕ) → n ≤ length dst → length dst ≤ n → copy_from setup mem dst src n ≡ copied Fine n (mix bytes dst n)
+    pub str-end : (n : ℕ) → n ≤ length dst → length dst ≤ n → copy_from setup mem dst src n ≡ copied (Ok tt) n (mix bytes dst n)
     str-end n h l =
         let e : drop n dst ≡ [] = drop_of_length-le dst l in
-        halted Fine n h (rw e)
+        halted (Ok tt) n h (rw e)
 
     -- a bad page
-    pub str-bad : (n b : ℕ) → n < length dst → access setup mem false (src + n) 1 ≡ Bad b → copy_from setup mem dst src n ≡ copied (Bad b) n (mix bytes dst n)
+    pub str-bad : (n b : ℕ) → n < length dst → access setup mem false (src + n) 1 ≡ Err b → copy_from setup mem dst src n ≡ copied (Err b) n (mix bytes dst n)
     str-bad n b h e =
         let c : drop n dst ≡ get_or dst n 0 ∷ drop (suc n) dst = drop-cons dst n 0 h in
-        halted (Bad b) n (omega arith) (rw c (chunk-bad setup mem (get_or dst n 0) (drop (suc n) dst) (src + n) b e))
+        halted (Err b) n (omega arith) (rw c (chunk-bad setup mem (get_or dst n 0) (drop (suc n) dst) (src + n) b e))
 
     -- one page's part
-    module _ (n chunk : ℕ) (room : n + chunk ≤ length dst) (may : access setup mem false (src + n) 1 ≡ Fine) (page : (src + n) % 4096 + chunk ≤ 4096) (k : ℕ) (count : k ≡ to_nul (bytes_at mem (src + n) chunk)) where
+    module _ (n chunk : ℕ) (room : n + chunk ≤ length dst) (may : access setup mem false (src + n) 1 ≡ Ok tt) (page : (src + n) % 4096 + chunk ≤ 4096) (k : ℕ) (count : k ≡ to_nul (bytes_at mem (src + n) chunk)) where
       abbrev part : List ℕ
       part = bytes_at mem (src + n) chunk
 
@@ -113,13 +115,13 @@ module _ (setup : Setup) (ok : SetupOk setup) where
           ∙ mix-part bytes dst (take k part) n k length-all (omega (arith, most)) front
 
       -- a NUL in it
-      pub str-nul : k < chunk → copy_from setup mem dst src n ≡ copied Fine (n + k) (mix bytes dst (n + k))
+      pub str-nul : k < chunk → copy_from setup mem dst src n ≡ copied (Ok tt) (n + k) (mix bytes dst (n + k))
       str-nul l =
           ap (after_bytes (take n bytes))
           (chunk-nul setup mem part (drop n dst) (src + n) k (readable setup ok mem paged (src + n) chunk may page) fits (omega (arith, length_part)) (rw count (nul-at part (omega (arith, length_part, count))))
           (λ i h. nul-before part i (omega (arith, count)))
-          ∙ ap (λ (x : List ℕ). copied Fine k (x ++ drop k (drop n dst))) front)
-          ∙ stopped Fine n k (omega arith)
+          ∙ ap (λ (x : List ℕ). copied (Ok tt) k (x ++ drop k (drop n dst))) front)
+          ∙ stopped (Ok tt) n k (omega arith)
 
       -- none
       pub str-whole : chunk ≤ k → copy_from setup mem dst src n ≡ copy_from setup mem dst src (n + k)

@@ -1,2 +1,1 @@
--- What a string copy comes to.
 pub mod Copied

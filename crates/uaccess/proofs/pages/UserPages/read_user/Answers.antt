@@ -1,4 +1,4 @@
--- `copies::read_user` meets its contract. The loop's invariant: the first `i` bytes are read, and the others as they were.
+-- `read_user` meets its contract. The loop's invariant: the first `i` bytes are read, and the others as they were.
 use Prim.Native.Nat.{◌+◌, ◌-◌, ◌≤◌}
 use native.Mathlib.Omega.{arith}
 use mathlib.Core.Path.{◌≡◌, refl, sym, ap, ◌∙◌}
@@ -12,16 +12,16 @@ use Rattle.spec_laws.proofs.Contents.{length-bytes}
 use Rattle.uaccess.proofs.InRange.{range-cell, range-end}
 use Rattle.uaccess.proofs.CopyParts.{read-turn}
 use Rattle.spec_laws.proofs.Overwrite.{mix-none, mix_all}
-use Rattle.uaccess.proofs.copies.read_user.Goals as goal
-use Rattle.uaccess.proofs.copies.read_user.Goals.{Start}
+use Rattle.uaccess.proofs.pages.UserPages.read_user.Goals as goal
+use Rattle.uaccess.proofs.pages.UserPages.read_user.Goals.{Start}
 
 -- the range that has been checked
 module _ (c : Start) where
   abbrev memory : Mem
-  memory = mem_of (store c.args.frames.now c.args.book.now) c.args.number
+  memory = mem_of (store c.args.frames.now c.args.self.now.book.now) c.args.self.now.number
 
   top : c.args.addr + length c.args.buf.now ≤ max_top
-  top = omega (arith, c.requires.setup_ok.1, range-end c.requires.setup_ok.0 memory false c.args.addr (length c.args.buf.now) c.requires.setup_ok.2)
+  top = omega (arith, c.args.self.now.accepted, range-end c.args.self.now.setup memory false c.args.addr (length c.args.buf.now) c.requires.in_range)
 
 pub loop-i-init : goal.loop-i-init
 loop-i-init c = (omega arith, refl, mix-none _ _)
@@ -29,17 +29,12 @@ loop-i-init c = (omega arith, refl, mix-none _ _)
 pub overflow_add-va : goal.overflow_add-va
 overflow_add-va c = omega (arith, top (goal.at.overflow_add-va c).Start)
 
-pub overflow_add-e : goal.overflow_add-e
-overflow_add-e c = omega (arith, c.in_page-n.ensures)
-
-pub user_bytes-s-requires : goal.user_bytes-s-requires
-user_bytes-s-requires c =
+pub user_bytes-requires-clause-n_bound : goal.user_bytes-requires-clause-n_bound
+user_bytes-requires-clause-n_bound c =
     let a = c.args in
+    let u = a.self.now in
     let i = c.loop-i.i in
-    record { frames_len = c.requires.frames_len; n_bound = (omega (arith, c.in_page-n.ensures), range-cell c.requires.setup_ok.0 a.frames.now a.frames.now a.book.now a.number false a.addr (length a.buf.now) (a.addr + i) c.requires.setup_ok.2 (omega arith) (omega arith)) }
-
-pub slice_bounds-copy-end : goal.slice_bounds-copy-end
-slice_bounds-copy-end c = omega (arith, c.in_page-n.ensures)
+    (omega (arith, c.in_page-n.ensures), range-cell u.setup a.frames.now a.frames.now u.book.now u.number false a.addr (length a.buf.now) (a.addr + i) c.requires.in_range (omega arith) (omega arith))
 
 pub copy-requires : goal.copy-requires
 copy-requires c =
@@ -47,10 +42,7 @@ copy-requires c =
     let n = c.in_page-n.result in
     let q : l.i + n - l.i ≡ n = omega arith in
     mid_len l.i (l.i + n) l.buf (omega (arith, c.in_page-n.ensures)) ∙ q
-    ∙ sym (ap length c.user_bytes-s.ensures ∙ length-bytes (λ b. byte_of (memory (goal.at.copy-requires c).Start b)) (c.args.addr + l.i) n)
-
-pub loop-i-smaller : goal.loop-i-smaller
-loop-i-smaller c = omega (arith, c.in_page-n.ensures)
+    ∙ sym (ap length c.user_bytes.ensures ∙ length-bytes (λ b. byte_of (memory (goal.at.copy-requires c).Start b)) (c.args.addr + l.i) n)
 
 pub loop-i-preserved : goal.loop-i-preserved
 loop-i-preserved c =
@@ -59,7 +51,7 @@ loop-i-preserved c =
     let n = c.in_page-n in (
       omega (arith, n.ensures),
       omega arith,
-      rw l.invariant.2 (read-turn (memory (goal.at.loop-i-preserved c).Start) a.addr l.i n.result a.buf.now _ (omega (arith, n.ensures)) (c.copy.ensures ∙ c.user_bytes-s.ensures)),
+      rw l.invariant.2 (read-turn (memory (goal.at.loop-i-preserved c).Start) a.addr l.i n.result a.buf.now _ (omega (arith, n.ensures)) (c.copy.ensures ∙ c.user_bytes.ensures)),
     )
 
 pub returns : goal.returns
