@@ -6,13 +6,14 @@ use native.Mathlib.Numerals.{add-one}
 use mathlib.Core.Path.{◌≡◌, refl, sym, ap, ap₂, ◌∙◌}
 use mathlib.Core.Bool.{false}
 use mathlib.Core.List.{List, [], ◌∷◌, ◌++◌}
+use Rattle.std.specs.Prelude.{Result, Ok, Err}
 use lib.ListN.{length, take, drop, length-replicate, length-drop, take-append-drop}
 use lib.Seq.{length-take-le}
 use borrow.Rule.Slice.PartMut.{put_mid, mid_of}
 use Rattle.spec.specs.Tests.{◌is◌}
 use Rattle.spec.specs.Numbers.{arg_limit}
 use Rattle.spec.specs.Frames.{Mem, put}
-use Rattle.spec.specs.Access.{access, byte_of, bytes_at, Str, copy_str}
+use Rattle.spec.specs.Access.{Checked, access, byte_of, bytes_at, Str, copy_str}
 use Rattle.spec.specs.Exec.{arg_buffer}
 use Rattle.spec.proofs.Bools.{split}
 use Rattle.spec.proofs.Ranges.{access-passed, either}
@@ -20,10 +21,40 @@ use Rattle.spec.specs.declared.Setup.{Setup}
 use Rattle.spec_laws.proofs.Contents.{length-bytes}
 use Rattle.spec_laws.proofs.Buffers.{string-copied}
 use Rattle.spec_laws.proofs.Lists.{put-part}
-use Rattle.uaccess.specs.declared.Str.{Str as Held}
+use Rattle.uaccess.specs.declared.strings.Unread.{Unread}
 use Rattle.uaccess.specs.Copied.{copied}
 use Rattle.uaccess.proofs.StringCopy.{part-front}
 use Rattle.exec_argv.specs.Strings.{Told}
+
+-- how many bytes a copy tells
+abbrev pub size_of : Result ℕ Unread → ℕ
+size_of r = (copied r []).size
+
+-- what is told of a copy, with any buffer
+copied-size : (r : Result ℕ Unread) (x : List ℕ) → (copied r x).size ≡ size_of r
+copied-size (Ok n) x = refl
+copied-size (Err e) x = refl
+
+copied-buffer : (r : Result ℕ Unread) (x : List ℕ) → (copied r x).buffer ≡ x
+copied-buffer (Ok n) x = refl
+copied-buffer (Err e) x = refl
+
+copied-is : (r : Result ℕ Unread) (x : List ℕ) (t : Str) → (copied r x).access ≡ t.access → size_of r ≡ t.size → copied r t.buffer ≡ t
+copied-is (Ok n) x t p q = λ i. record { access = p i; size = q i; buffer = t.buffer }
+copied-is (Err e) x t p q = λ i. record { access = p i; size = q i; buffer = t.buffer }
+
+-- a copy that goes on after n bytes
+abbrev pub behind : ℕ → Result ℕ Unread → Result ℕ Unread
+behind n (Ok more) = Ok (n + more)
+behind n (Err e) = Err (record { address = e.address; size = n + e.size })
+
+behind-access : (n : ℕ) (r : Result ℕ Unread) (x : List ℕ) → (copied (behind n r) x).access ≡ (copied r x).access
+behind-access n (Ok more) x = refl
+behind-access n (Err e) x = refl
+
+behind-size : (n : ℕ) (r : Result ℕ Unread) → size_of (behind n r) ≡ n + size_of r
+behind-size n (Ok more) = refl
+behind-size n (Err e) = refl
 
 -- what a copy into one buffer and into another have in common
 pub record Alike (s t : Str) : Type 0 where
@@ -51,8 +82,19 @@ module _ (setup : Setup) (mem : Mem) where
       (λ q. split (byte_of (mem a) is 0) (λ z. rw (q, z) (omega arith)) (λ z. rw (q, z) (omega (arith, str-most d (a + 1)))))
       (λ b q. rw q (omega arith))
 
-  pub copied-most : (d : List ℕ) (a : ℕ) (r : Held) (x : List ℕ) → copied r.access r.size x ≡ copy_str setup mem d a → r.size ≤ length d
-  copied-most d a r x e = omega (arith, ap (λ (s : Str). s.size) e, str-most d a)
+  -- a byte that can't be read stands before the end
+  str-before : (d : List ℕ) (a b : ℕ) → (copy_str setup mem d a).access ≡ Err b → (copy_str setup mem d a).size < length d
+  str-before [] a b h = cc
+  str-before (x ∷ d) a b h =
+      either (access setup mem false a 1)
+      (λ q. split (byte_of (mem a) is 0) (λ z. let w : ◌≡◌ {A = Checked} (Ok tt) (Err b) = rw (q, z) at h in cc) (λ z. rw (q, z) (omega (arith, str-before d (a + 1) b (rw (q, z) at h)))))
+      (λ b q. rw q (omega arith))
+
+  pub copied-before : (d : List ℕ) (a : ℕ) (u : Unread) (x : List ℕ) → copied (Err u) x ≡ copy_str setup mem d a → u.size < length d
+  copied-before d a u x e = omega (arith, ap (λ (s : Str). s.size) e, str-before d a u.address (sym (ap (λ (s : Str). s.access) e)))
+
+  pub copied-most : (d : List ℕ) (a : ℕ) (r : Result ℕ Unread) (x : List ℕ) → copied r x ≡ copy_str setup mem d a → size_of r ≤ length d
+  copied-most d a r x e = omega (arith, sym (copied-size r x) ∙ ap (λ (s : Str). s.size) e, str-most d a)
 
   -- the rest of the buffer is unchanged
   str-rest : (d : List ℕ) (a : ℕ) → drop (copy_str setup mem d a).size (copy_str setup mem d a).buffer ≡ drop (copy_str setup mem d a).size d
@@ -142,49 +184,53 @@ module _ (setup : Setup) (mem : Mem) where
     both = ap (λ (b : List ℕ). copy_str setup mem b a) (sym (take-append-drop size (arg_buffer setup)))
 
     -- what was read, where it ends there
-    module _ (r : Held) (x : List ℕ) (read : copied r.access r.size x ≡ copy_str setup mem part a) where
-      told-access : r.access ≡ (copy_str setup mem part a).access
+    module _ (r : Result ℕ Unread) (x : List ℕ) (read : copied r x ≡ copy_str setup mem part a) where
+      told-access : (copied r x).access ≡ (copy_str setup mem part a).access
       told-access = ap (λ (s : Str). s.access) read
 
-      told-size : r.size ≡ (copy_str setup mem part a).size
-      told-size = ap (λ (s : Str). s.size) read
+      told-size : size_of r ≡ (copy_str setup mem part a).size
+      told-size = sym (copied-size r x) ∙ ap (λ (s : Str). s.size) read
 
-      pub told-most : r.size ≤ size
+      told-buffer : x ≡ (copy_str setup mem part a).buffer
+      told-buffer = sym (copied-buffer r x) ∙ ap (λ (s : Str). s.buffer) read
+
+      pub told-most : size_of r ≤ size
       told-most = omega (arith, told-size, str-most part a, length_part)
 
-      pub told-short : r.size < size → Told (arg_limit setup) (string a) used buf r (put_mid used size buf x)
+      pub told-short : size_of r < size → Told (arg_limit setup) (string a) used buf r (put_mid used size buf x)
       told-short h =
+          let k : ℕ = size_of r in
           let s = str-short fore aft a (omega (arith, told-size, alike.size, length-fore)) in
-          let n : r.size ≡ (string a).size = told-size ∙ alike.size ∙ sym s.size ∙ sym (ap (λ (t : Str). t.size) both) in
-          let t : take r.size x ≡ take (string a).size (string a).buffer =
-          ap (λ (s : Str). take s.size s.buffer) read ∙ string-copied setup mem part a ∙ ap (bytes_at mem a) (sym told-size ∙ n) ∙ sym (string-copied setup mem (arg_buffer setup) a) in
-          let rest : drop r.size x ≡ drop r.size part = ap (λ (s : Str). drop s.size s.buffer) read ∙ str-rest part a ∙ ap (λ (k : ℕ). drop k part) (sym told-size) in
-          let all : x ≡ take r.size x ++ drop r.size part = sym (take-append-drop r.size x) ∙ ap (λ (y : List ℕ). take r.size x ++ y) rest in
-          let k : used + size - used ≡ size = omega arith in
-          let l : length (take r.size x) ≡ used + r.size - used = ap length t ∙ str-length (arg_buffer setup) a ∙ sym n ∙ (let z : r.size ≡ used + r.size - used = omega arith in z) in
+          let n : k ≡ (string a).size = told-size ∙ alike.size ∙ sym s.size ∙ sym (ap (λ (t : Str). t.size) both) in
+          let t : take k x ≡ take (string a).size (string a).buffer =
+          ap₂ take told-size told-buffer ∙ string-copied setup mem part a ∙ ap (bytes_at mem a) (sym told-size ∙ n) ∙ sym (string-copied setup mem (arg_buffer setup) a) in
+          let rest : drop k x ≡ drop k part = ap₂ drop told-size told-buffer ∙ str-rest part a ∙ ap (λ (k : ℕ). drop k part) (sym told-size) in
+          let all : x ≡ take k x ++ drop k part = sym (take-append-drop k x) ∙ ap (λ (y : List ℕ). take k x ++ y) rest in
+          let j : used + size - used ≡ size = omega arith in
+          let l : length (take k x) ≡ used + k - used = ap length t ∙ str-length (arg_buffer setup) a ∙ sym n ∙ (let z : k ≡ used + k - used = omega arith in z) in
           record {
-            access = told-access ∙ alike.access ∙ sym s.access ∙ sym (ap (λ (t : Str). t.access) both);
-            size = n;
+            said = copied-is r x (string a) (told-access ∙ alike.access ∙ sym s.access ∙ sym (ap (λ (t : Str). t.access) both)) n;
             text = λ g.
-                ap (put_mid used size buf) all ∙ rw k at (part-front buf x used size r.size told-most) ∙ put-part buf (take r.size x) used (used + r.size - used) l ∙ ap (put buf used) t;
+                ap (put_mid used size buf) all ∙ rw j at (part-front buf x used size k told-most) ∙ put-part buf (take k x) used (used + k - used) l ∙ ap (put buf used) t;
           }
 
       -- and where it goes on
-      module _ (h : size ≤ r.size) where
+      module _ (h : size ≤ size_of r) where
         full : (copy_str setup mem fore a).size ≡ length fore
         full = omega (arith, told-size, told-most, alike.size, length-fore)
 
         pub told-low : a + size ≤ setup.uaddrtop
         told-low = omega (arith, length-fore, str-low fore a full (omega (arith, length-fore)))
 
-        pub told-full : (d : List ℕ) (q : Held) (y after : List ℕ) → length d ≡ used → copied q.access q.size y ≡ copy_str setup mem d (a + size)
-            → Told (arg_limit setup) (string a) used buf (record { access = q.access; size = size + q.size }) after
+        pub told-full : (d : List ℕ) (q : Result ℕ Unread) (y after : List ℕ) → length d ≡ used → copied q y ≡ copy_str setup mem d (a + size) → Told (arg_limit setup) (string a) used buf (behind size q) after
         told-full d q y after l e =
             let s = str-full fore aft a full in
             let m = str-alike d aft (a + size) (l ∙ (let z : used ≡ length aft = omega (arith, length-drop size (arg_buffer setup), buffer-length) in z)) in
             let f : copy_str setup mem aft (a + length fore) ≡ copy_str setup mem aft (a + size) = ap (λ (k : ℕ). copy_str setup mem aft (a + k)) length-fore in
+            let more : size_of (behind size q) ≡ (string a).size =
+            behind-size size q
+            ∙ ap₂ ◌+◌ (sym length-fore) (sym (copied-size q y) ∙ ap (λ (t : Str). t.size) e ∙ m.size ∙ sym (ap (λ (t : Str). t.size) f)) ∙ sym (ap (λ (t : Str). t.size) both ∙ s.1) in
             record {
-              access = ap (λ (t : Str). t.access) e ∙ m.access ∙ sym (ap (λ (t : Str). t.access) both ∙ s.0 ∙ ap (λ (t : Str). t.access) f);
-              size = ap₂ ◌+◌ (sym length-fore) (ap (λ (t : Str). t.size) e ∙ m.size ∙ sym (ap (λ (t : Str). t.size) f)) ∙ sym (ap (λ (t : Str). t.size) both ∙ s.1);
-              text = λ g. absurd (omega arith);
+              said = copied-is (behind size q) y (string a) (behind-access size q y ∙ ap (λ (t : Str). t.access) e ∙ m.access ∙ sym (ap (λ (t : Str). t.access) both ∙ s.0 ∙ ap (λ (t : Str). t.access) f)) more;
+              text = λ g. absurd (omega (arith, more, behind-size size q));
             }

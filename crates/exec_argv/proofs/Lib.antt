@@ -1,6 +1,6 @@
--- The arguments of replace, turn by turn.
+-- The arguments of replace: a pointer, a string, and the loop over both.
+pub mod Pointing
 pub mod Buffered
 pub mod Adding
-pub mod Pointing
 pub mod Turned
 pub mod SoFar

@@ -4,6 +4,7 @@ use native.Mathlib.Omega.{arith}
 use mathlib.Core.Path.{◌≡◌, refl, sym, ap, ap₂, ◌∙◌}
 use mathlib.Core.Bool.{false}
 use mathlib.Core.List.{List, [], ◌∷◌, ◌++◌}
+use Rattle.std.specs.Prelude.{Option, None, Some, Result, Ok, Err}
 use lib.ListN.{length, take, drop, replicate, length-append}
 use lib.Seq.{take_at}
 use borrow.Author.Tests.{ltb-false}
@@ -17,17 +18,13 @@ use Rattle.spec_laws.proofs.Lists.{put-append, length-put}
 use Rattle.spec.proofs.Ranges.{access-passed}
 use Rattle.exec_args.specs.Sizes.{saturated}
 use Rattle.exec_args.proofs.Saturated.{saturated-fits}
-use Rattle.exec_argv.specs.declared.pointers.Pointer.{Pointer}
-use Rattle.exec_argv.specs.declared.pointers.Pointer.TheVariants as placed
 use Rattle.exec_argv.specs.Places.{pointer_at}
-use Rattle.exec_argv.specs.declared.copy_arg.More.{More}
-use Rattle.exec_argv.specs.declared.copy_arg.More.TheVariants as more
 use Rattle.exec_argv.specs.Strings.{more_of, added_to, Added}
 use Rattle.exec_argv.proofs.Buffered.{str-length}
 use Rattle.exec_argv.proofs.Adding.{more-size}
 use Rattle.exec_argv.specs.declared.Strings.{Strings}
-use Rattle.exec_argv.specs.declared.Argv.{Argv as Held}
-use Rattle.exec_argv.specs.declared.Argv.TheVariants.{Bad, Over, Read}
+use Rattle.exec_argv.specs.declared.ArgvError.{ArgvError}
+use Rattle.exec_argv.specs.declared.ArgvError.TheVariants.{Bad, Over}
 use Rattle.exec_argv.specs.Reading.{held_of, left_in, Reads}
 use Rattle.exec_argv.proofs.Turned.{turn-bad, turn-null, pointer_read, turn-string-bad, turn-string-over, turn-next}
 
@@ -36,19 +33,19 @@ pub read-strings : (args : List (List ℕ)) (before after : List ℕ) (used : �
 read-strings args before after used e h = ap₂ take e h ∙ take_at (strings args) (drop (0 + length (strings args)) before) _ refl
 
 -- what it tells, turned round
-pub was-bad : (a : Argv) (x : ℕ) → held_of a ≡ Bad x → a ≡ bad x
+pub was-bad : (a : Argv) (x : ℕ) → held_of a ≡ Err (Bad x) → a ≡ bad x
 was-bad (bad y) x e = let z : y ≡ x = cc in ap bad z
-was-bad over x e = absurd (let w : ◌≡◌ {A = ℕ} 0 1 = cc in omega arith)
-was-bad (read args) x e = absurd (let w : ◌≡◌ {A = ℕ} 0 1 = cc in omega arith)
+was-bad over x e = cc
+was-bad (read args) x e = cc
 
-pub was-over : (a : Argv) → held_of a ≡ Over → a ≡ over
-was-over (bad y) e = absurd (let w : ◌≡◌ {A = ℕ} 0 1 = cc in omega arith)
+pub was-over : (a : Argv) → held_of a ≡ Err Over → a ≡ over
+was-over (bad y) e = cc
 was-over over e = refl
-was-over (read args) e = absurd (let w : ◌≡◌ {A = ℕ} 0 1 = cc in omega arith)
+was-over (read args) e = cc
 
-pub was_read : (a : Argv) (x : Strings) → held_of a ≡ Read x → (args : List (List ℕ)) × (a ≡ read args) × (x ≡ record { used = length (strings args); count = length args })
-was_read (bad y) x e = absurd (let w : ◌≡◌ {A = ℕ} 0 1 = cc in omega arith)
-was_read over x e = absurd (let w : ◌≡◌ {A = ℕ} 0 1 = cc in omega arith)
+pub was_read : (a : Argv) (x : Strings) → held_of a ≡ Ok x → (args : List (List ℕ)) × (a ≡ read args) × (x ≡ record { used = length (strings args); count = length args })
+was_read (bad y) x e = cc
+was_read over x e = cc
 was_read (read args) x e = (args, refl, (cc))
 
 -- the strings of `count` arguments are read, `used` bytes, over the first bytes of a buffer, they are within the limit, and the definition
@@ -79,49 +76,47 @@ module _ {setup : Setup} (mem : Mem) (argv : ℕ) (buf₀ buf : List ℕ) (used 
   again = so.rest ∙ (let e : arg_limit setup - count ≡ suc turns = omega (arith, so.limit) in ap (argv_from setup mem argv so.before) e)
 
   -- a refusal
-  refused : (e : Argv) (r : Held) → argv_from setup mem argv so.before (suc turns) ≡ e → r ≡ held_of e → (left : List ℕ) → left ≡ left_in buf₀ e → Reads (copy_argv setup mem argv) buf₀ r left
+  refused : (e : Argv) (r : Result Strings ArgvError) → argv_from setup mem argv so.before (suc turns) ≡ e → r ≡ held_of e → (left : List ℕ) → left ≡ left_in buf₀ e → Reads (copy_argv setup mem argv) buf₀ r left
   refused e r h s left zeros = let all = sym (again ∙ h) in record { said = s ∙ ap held_of all; bytes = zeros ∙ ap (left_in buf₀) all }
 
   zeros : (left : List ℕ) → left ≡ replicate (length buf) 0 → left ≡ replicate (length buf₀) 0
   zeros left e = e ∙ ap (λ (n : ℕ). replicate n 0) so.same
 
   -- the pointer that was read
-  module _ (p : Pointer) (told : p ≡ pointer_at setup mem (saturated (argv + 8 * count))) where
+  module _ (p : Result (Option ℕ) ℕ) (told : p ≡ pointer_at setup mem (saturated (argv + 8 * count))) where
     here : pointer_at setup mem (argv + 8 * length so.before) ≡ p
     here =
         ap (λ (n : ℕ). pointer_at setup mem (argv + 8 * n)) (sym so.counted)
         ∙ sym (told ∙ ap (pointer_at setup mem) (saturated-fits (argv + 8 * count) so.place))
 
-    pub so-bad : (a : ℕ) → p ≡ placed.Bad a → (left : List ℕ) → left ≡ replicate (length buf) 0 → Reads (copy_argv setup mem argv) buf₀ (Bad a) left
-    so-bad a e left z = refused (bad a) (Bad a) (turn-bad setup mem argv turns so.before a (here ∙ e)) refl left (zeros left z)
+    pub so-bad : (a : ℕ) → p ≡ Err a → (left : List ℕ) → left ≡ replicate (length buf) 0 → Reads (copy_argv setup mem argv) buf₀ (Err (Bad a)) left
+    so-bad a e left z = refused (bad a) (Err (Bad a)) (turn-bad setup mem argv turns so.before a (here ∙ e)) refl left (zeros left z)
 
-    pub so-null : p ≡ placed.Null → Reads (copy_argv setup mem argv) buf₀ (Read (record { used = used; count = count })) buf
+    pub so-null : p ≡ Ok None → Reads (copy_argv setup mem argv) buf₀ (Ok (record { used = used; count = count })) buf
     so-null e =
         let all = sym (again ∙ turn-null setup mem argv turns so.before (here ∙ e)) in
         record {
-          said = (λ i. Read (record { used = so.sized i; count = so.counted i })) ∙ ap held_of all;
+          said = (λ i. Ok (record { used = so.sized i; count = so.counted i })) ∙ ap held_of all;
           bytes = so.bytes ∙ ap (left_in buf₀) all;
         }
 
     -- and the string that it points to
-    module _ (s : ℕ) (points : p ≡ placed.At s) (r : More) (after : List ℕ) (added : Added setup (copy_str setup mem (arg_buffer setup) s) used count buf r after) where
+    module _ (s : ℕ) (points : p ≡ Ok (Some s)) (r : Result ℕ ArgvError) (after : List ℕ) (added : Added setup (copy_str setup mem (arg_buffer setup) s) used count buf r after) where
       abbrev str : Str
       str = copy_str setup mem (arg_buffer setup) s
 
       said : r ≡ more_of setup str (length (strings so.before)) (length so.before)
       said = added.said ∙ ap₂ (more_of setup str) so.sized so.counted
 
-      pub so-string-bad : (a : ℕ) → r ≡ more.Bad a → Reads (copy_argv setup mem argv) buf₀ (Bad a) after
-      so-string-bad a e =
-          refused (bad a) (Bad a) (turn-string-bad setup mem argv turns so.before s (here ∙ points) a (sym e ∙ said)) refl after
+      pub so-string-refused : (e : ArgvError) → r ≡ Err e → (x : Result Strings ArgvError) → x ≡ Err e → Reads (copy_argv setup mem argv) buf₀ x after
+      so-string-refused (Bad a) e x h =
+          refused (bad a) x (turn-string-bad setup mem argv turns so.before s (here ∙ points) a (sym e ∙ said)) h after
+          (zeros after (added.bytes ∙ ap (added_to buf used str) e))
+      so-string-refused Over e x h =
+          refused over x (turn-string-over setup mem argv turns so.before s (here ∙ points) (sym e ∙ said)) h after
           (zeros after (added.bytes ∙ ap (added_to buf used str) e))
 
-      pub so-string-over : r ≡ more.Over → Reads (copy_argv setup mem argv) buf₀ Over after
-      so-string-over e =
-          refused over Over (turn-string-over setup mem argv turns so.before s (here ∙ points) (sym e ∙ said)) refl after
-          (zeros after (added.bytes ∙ ap (added_to buf used str) e))
-
-      pub so-next : (size : ℕ) → r ≡ more.Size size → SoFar setup mem argv buf₀ after (used + (size + 1)) (count + 1)
+      pub so-next : (size : ℕ) → r ≡ Ok size → SoFar setup mem argv buf₀ after (used + (size + 1)) (count + 1)
       so-next size e =
           let m = more-size setup str used count size (sym added.said ∙ e) in
           let l : stack_size (used + str.size + 1) (count + 1) ≤ arg_limit setup = ltb-false (arg_limit setup) _ m.2 in

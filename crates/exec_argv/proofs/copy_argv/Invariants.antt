@@ -6,9 +6,9 @@ use Rattle.spec.specs.Frames.{mem_of, store}
 use Rattle.exec_argv.proofs.SoFar.{SoFar}
 use Rattle.exec_argv.proofs.copy_argv.Given as goal
 
-abbrev pub invariant-loop-address : goal.invariant-loop-address
-invariant-loop-address l =
-    SoFar l.setup (mem_of (store l.frames l.book) l.number) l.argv l.initial.buf l.buf l.used l.count
+abbrev pub invariant-loop-s : goal.invariant-loop-s
+invariant-loop-s l =
+    SoFar l.pages.setup (mem_of (store l.frames l.pages.book.now) l.pages.number) l.argv l.initial.buf l.buf l.used l.count
 
-abbrev pub decreases-loop-address : goal.decreases-loop-address
-decreases-loop-address l = arg_limit l.setup - l.count
+abbrev pub decreases-loop-s : goal.decreases-loop-s
+decreases-loop-s l = arg_limit l.pages.setup - l.count
