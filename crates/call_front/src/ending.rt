@@ -1,11 +1,11 @@
-// A process that ends, and a call that is refused.
+// A process that ends, a call that is refused, and one that meets a bad address.
 
 ghost use Rattle.std.specs.Prelude.{◌≡◌, true, List, ℕ};
 ghost use Rattle.spec.specs.Book.{valid};
 ghost use Rattle.spec.specs.Refusals.{refusal_number};
 ghost use Rattle.spec.specs.World.{forget, state_of};
 ghost use Rattle.spec.specs.declared.Setup.{Setup};
-ghost use Rattle.spec.specs.declared.Answer.TheVariants.{Refused};
+ghost use Rattle.spec.specs.declared.Answer.TheVariants.{Refused, EndedAt};
 
 use spec::{Answer, Left, Procs, Refusal};
 
@@ -25,5 +25,17 @@ pub fn refused(procs: Procs, e: Refusal) -> Left
     Left {
         procs,
         answer: Answer::from(e),
+    }
+}
+
+// What a call leaves that meets a bad address, 35: the process has ended.
+pub fn bad_address(book: &mut [u64], procs: Procs, number: u64, address: u64) -> Left
+    requires { valid number ≡ true }
+    ensures ends { (setup : Setup) (frames : List ℕ) → state_of setup frames book.new result.procs ≡ forget (state_of setup frames book.old procs) number }
+    ensures says { result.answer ≡ EndedAt address }
+{
+    Left {
+        procs: forget(book, procs, number),
+        answer: Answer::EndedAt(address),
     }
 }

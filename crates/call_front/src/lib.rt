@@ -12,9 +12,9 @@ mod first;
 // 1, 38, 39 and 2 to 5, for each kind of call.
 pub mod numbers;
 
-// A process that ends, and a call that is refused.
+// A process that ends, a call that is refused, and one that meets a bad address.
 pub mod ending;
 
-pub use ending::refused;
+pub use ending::{bad_address, refused};
 pub use first::sizes_ok;
 pub use record::{is_number, lives, zero_proc};
