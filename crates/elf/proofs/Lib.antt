@@ -2,4 +2,3 @@ pub mod Image
 pub mod Walk
 pub mod Checked
 pub mod HeaderAt
-pub mod Parts

@@ -81,10 +81,6 @@ unfolding phdr_error
 no-headers flags image end = refl
 
 module _ (flags image : List ℕ) (a end : ℕ) (found : Bool) (p : Phdr) (ps : List Phdr) where
-  -- it is skipped
-  pub skips : loads p ≡ false → scan_error flags image a end found (keep p ps) ≡ scan_error flags image a end found ps
-  skips e = rw e
-
   -- it is refused
   pub refuses : (n : ℕ) → loads p ≡ true → phdr_error flags image end (p ∷ []) ≡ n → (n ≡ 0 → ⊥) → scan_error flags image a end found (keep p ps) ≡ n
   unfolding scan_error

@@ -16,13 +16,7 @@ pub struct Seen {
 }
 
 // One program header: skipped, or checked and its end and its text noted.
-fn advance(
-    flags: [u8; 8],
-    image: &[u8],
-    entry: u64,
-    seen: Seen,
-    p: Phdr,
-) -> Result<Seen, ElfError>
+fn advance(flags: [u8; 8], image: &[u8], entry: u64, seen: Seen, p: Phdr) -> Result<Seen, ElfError>
     ensures { Steps flags image.now entry seen (phdr_of p) result }
 {
     if !elf_header::is_load(p) {

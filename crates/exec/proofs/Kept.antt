@@ -33,13 +33,6 @@ module _ (image : List ℕ) (bss : VirtRange) where
       let u : UserSegment = pages_in bss g in
       split (u.range.start below u.range.end) (λ q. rw q) (λ q. rw q)
 
-  -- at most one
-  pub added-one : (l : Option Held) → length (added image bss l) ≤ 1
-  added-one None = omega arith
-  added-one (Some g) =
-      let u : UserSegment = pages_in bss g in
-      split (u.range.start below u.range.end) (λ q. rw q (omega arith)) (λ q. rw q (omega arith))
-
 -- ---- a segment behind those recorded
 
 put-more : (done : List UserSegment) (u : UserSegment) → length done < 15 → set (done ++ replicate (16 - length done) zero_segment) (length done) u ≡ (done ++ u ∷ []) ++ replicate (16 - length (done ++ u ∷ [])) zero_segment

@@ -105,7 +105,9 @@ fn fill<'a>(image: Image<'a>, bss: VirtRange) -> Result<Plan<'a>, Unplanned>
         start: mem::page_up(bss.start),
         end: bss.end,
     };
-    let pages = mem::page_count(&segments[..count]) + mem::pages(behind) + setup.ustksize / spec::PAGE_SIZE_4K;
+    let pages = mem::page_count(&segments[..count])
+        + mem::pages(behind)
+        + setup.ustksize / spec::PAGE_SIZE_4K;
     segments[count] = setup::stack(setup);
     Ok(Plan {
         image,

@@ -16,15 +16,11 @@ use Rattle.spec.proofs.Bools.{split}
 use Rattle.spec.specs.declared.Setup.{Setup}
 use Rattle.std.specs.Prelude.{Option, None, Some}
 use Rattle.elf.specs.declared.Segment.{Segment as Held}
-use Rattle.elf.specs.Reader.{Checked, CheckedLoad}
 use Rattle.elf.proofs.Walk.{segment_in, front}
 use Rattle.spec_laws.proofs.Accepted.{layout-first}
 use Rattle.exec.specs.Pages.{pages_in}
 use Rattle.pagealloc.specs.Contents.{file_at}
 use Rattle.exec_load.specs.Pages.{segment_pages, load_pages, LaidLoad}
-
-pub checked-of : (n : ℕ) (l : Option Held) (g : Held) → l ≡ Some g → CheckedLoad n l → Checked n g
-checked-of n l g e h = subst (CheckedLoad n) e h
 
 pub laid_of : (l : Option Held) (g : Held) → l ≡ Some g → LaidLoad l → g.vaddr + g.memsz ≤ max_top
 laid_of l g e h = subst LaidLoad e h

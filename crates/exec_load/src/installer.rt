@@ -72,5 +72,14 @@ pub fn install(
     ensures { (args : List (List ℕ)) → Fitting plan.now.image.setup args buf.now size nargs → (store frames.new book.new ≡ installed plan.now.image.setup (store frames.old book.old) number (program plan.now.image) args) × (result ≡ registers (program plan.now.image).entry plan.now.image.setup.ustktop args) }
 {
     crate::loader::load(frames, book, number, plan);
-    push_args(plan.image.setup(), frames, book, number, plan.entry, buf, size, nargs)
+    push_args(
+        plan.image.setup(),
+        frames,
+        book,
+        number,
+        plan.entry,
+        buf,
+        size,
+        nargs,
+    )
 }

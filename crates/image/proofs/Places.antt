@@ -20,7 +20,6 @@ use Rattle.elf.specs.declared.Segment.{Segment as Held}
 use Rattle.std.specs.Prelude.{Option, None, Some}
 use Rattle.elf.proofs.Walk.{front, segs, segs-some, segs-all}
 use Rattle.elf.proofs.Checked.{perm_of, perm-most}
-use Rattle.elf.proofs.Image.{accepted}
 use Rattle.elf.proofs.HeaderAt.{checked-at}
 use Rattle.image.specs.Places.{aout_load, places, load_at}
 
@@ -61,11 +60,6 @@ rest_all setup Elf image =
     elf-places setup image 0 (phnum image - 0) ∙ ap (segs setup.flags image (phoff image + 56 * 0)) n ∙ ap (λ (at : ℕ). segs setup.flags image at (phnum image)) z
     ∙ segs-all setup.flags image
 rest_all setup (Aout magic) image = split (data_size image + bss_size image is 0) (λ q. rw q) (λ q. rw q)
-
--- an ELF's headers lie in the image
-pub few-places : (setup : Setup) (form : Form) (image : List ℕ) → read_error setup form image ≡ 0 → 56 * places form image ≤ length image + 112
-few-places setup Elf image e = omega (arith, (accepted setup.flags image e).table)
-few-places setup (Aout magic) image e = omega arith
 
 -- the file bytes of what is read lie in the image
 abbrev pub WithinLoad : ℕ → Option Held → Type 0
