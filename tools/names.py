@@ -217,6 +217,9 @@ def resolve(file, path, seen=()):
         return here['', first]
     if len(rest) == 1 and (first, rest[0]) in here:
         return here[first, rest[0]]
+    if len(rest) == 1 and ('', type_of(first)) in here and here['', type_of(first)].kind in ('struct', 'enum'):
+        # its `impl` may stand in any file of its crate
+        return next((declared(f)[first, rest[0]] for f in files() if (f.crate, f.folder) == (file.crate, 'src') and (first, rest[0]) in declared(f)), None)
     if rest and ('', first) in here and here['', first].kind == 'mod':
         return resolve(source(file.crate, '.'.join(filter(None, [file.module, first]))), rest, seen)
     if first in uses(file) and uses(file)[first][0][0] == 'crate':
