@@ -49,7 +49,7 @@ fn is_sound(setup: Setup, book: &[u64], procs: Procs, number: u64, lookup: &mut 
     ensures value { result ≡ sound_book setup book.now procs }
     ensures filled { result ≡ true → Filled book.now procs number lookup.new }
 {
-    if !sound_records::records_ok(setup, procs) {
+    if !sound_records::records_ok(setup, &procs) {
         return false;
     }
     let total = lookup.plan.lay_all(procs);

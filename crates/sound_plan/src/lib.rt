@@ -33,9 +33,9 @@ fn seat(s: UserSegment) -> UserSegment
 
 impl Plan {
     // Lays the parts of process n + 1, where the processes before it have `total` pages, and gives the pages up to its last.
-    fn lay(&mut self, p: Proc, n: usize, total: u64) -> u64
-        requires { (n < 16) × SmallParts p × (total ≤ 17 * n * max_pages) }
-        ensures { Laid p n total self.old.tags self.old.bases self.new.tags self.new.bases result 17 }
+    fn lay(&mut self, p: &Proc, n: usize, total: u64) -> u64
+        requires { (n < 16) × SmallParts p.now × (total ≤ 17 * n * max_pages) }
+        ensures { Laid p.now n total self.old.tags self.old.bases self.new.tags self.new.bases result 17 }
     {
         let owner = n as u64 + 1;
         let first = 17 * n;
@@ -61,7 +61,7 @@ impl Plan {
     {
         let mut t = 0;
         for (n, p) in procs.all.iter().enumerate() {
-            t = self.lay(*p, n, t);
+            t = self.lay(p, n, t);
         }
         self.bases[272] = t;
         t

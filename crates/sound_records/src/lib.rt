@@ -101,8 +101,8 @@ fn record_ok(setup: Setup, p: &Proc) -> bool
 }
 
 // Whether all records are.
-pub fn records_ok(setup: Setup, procs: Procs) -> bool
-    ensures { result ≡ all (passes setup) procs.all }
+pub fn records_ok(setup: Setup, procs: &Procs) -> bool
+    ensures { result ≡ all (passes setup) procs.now.all }
 {
     procs.all.iter().all(|p| record_ok(setup, p))
 }

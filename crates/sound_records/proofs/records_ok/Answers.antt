@@ -8,4 +8,4 @@ use Rattle.sound_records.proofs.records_ok.Goals as goal
 
 pub returns : goal.returns
 returns c =
-    all_from_yields_List (passes c.args.setup) _ _ c.all.result c.all.ensures.ran (YieldsList-from_slice c.args.procs.all cc) (λ x b q k. search (rules, tests)) ∙ sym (all-list (passes c.args.setup) c.args.procs.all)
+    all_from_yields_List (passes c.args.setup) _ _ c.all.result c.all.ensures.ran (YieldsList-from_slice c.args.procs.now.all cc) (λ x b q k. search (rules, tests)) ∙ sym (all-list (passes c.args.setup) c.args.procs.now.all)
