@@ -3,12 +3,11 @@
 use mathlib.Core.Path.{◌≡◌, refl, sym, ap, ◌∙◌}
 use mathlib.Core.Bool.{Bool, true, false}
 use mathlib.Core.List.{List, ◌++◌, append_assoc}
-use Prim.Native.Nat.{ℕ, ◌≤◌, ◌<◌}
-use lib.ListN.{length}
-use borrow.Author.Tests.{lt-ltb, le-ltb, ne_eqb}
+use Prim.Native.Nat.{ℕ}
+use borrow.Author.Tests.{ne_eqb}
 use Rattle.spec.specs.Tests.{ascii, ◌isnt◌, ◌⇒◌else◌}
 use Rattle.spec.specs.Numbers.{limit, arg_limit}
-use Rattle.spec.specs.SetupText.{number_line, setup_text, read_setup, read_file, numbers_text}
+use Rattle.spec.specs.SetupText.{number_line, setup_text, read_file, numbers_text}
 use Rattle.spec.specs.declared.Setup.{Setup}
 use Rattle.text.specs.Text.{number_text, field_text}
 use Rattle.setup.specs.Text.{limits_text}

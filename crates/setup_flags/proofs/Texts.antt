@@ -2,24 +2,18 @@
 -- Assumes nothing.
 use mathlib.Core.Path.{◌≡◌, ap, ◌∙◌}
 use mathlib.Core.List.{List}
-use Prim.Native.Nat.{ℕ, ◌≤◌, ◌<◌}
+use Prim.Native.Nat.{ℕ}
 use lib.ListN.{length}
-use borrow.Author.Tests.{lt-ltb, le-ltb, ne_eqb}
+use borrow.Author.Tests.{ne_eqb}
 use native.Mathlib.Omega.{arith}
 use mathlib.Core.Bool.{true}
 use Rattle.spec.specs.Tests.{ascii, ◌above◌}
 use Rattle.spec.specs.Flags.{flags_ok}
 use Rattle.spec.proofs.Bools.{split}
 use Rattle.spec.proofs.FlagsTexts.{written_back}
-use Rattle.spec.specs.FlagsText.{table_line, row_lines, read_flags, read_flags_file, table_text}
+use Rattle.spec.specs.FlagsText.{table_line, row_lines, read_flags_file, table_text}
 
 module _ (bytes : List ℕ) where
-  pub long-file : 4096 < length bytes → 39 ≡ (read_flags_file bytes).error
-  long-file h = rw (lt-ltb 4096 (length bytes) h)
-
-  pub short-file : length bytes ≤ 4096 → read_flags_file bytes ≡ read_flags bytes
-  short-file h = rw (le-ltb 4096 (length bytes) h)
-
   -- a table that is read is accepted
   pub file_ok : (read_flags_file bytes).error ≡ 0 → flags_ok (read_flags_file bytes).flags ≡ true
   file_ok e =

@@ -1,7 +1,6 @@
 -- `setup_put::put_numbers` meets its contract: a refusal, or the numbers.
 -- Assumes nothing.
 use mathlib.Core.Path.{sym, ap, ◌∙◌}
-use native.Mathlib.Omega.{arith}
 use Rattle.spec.specs.SetupText.{Read}
 use Rattle.spec.proofs.Refused.{refused-not-0}
 use Rattle.text.proofs.Behind.{behind, same_text}
