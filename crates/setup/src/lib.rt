@@ -39,21 +39,14 @@ pub fn deposit() -> Setup
 pub fn stack_start(setup: Setup) -> u64
     ensures { result ≡ setup.ustktop - setup.ustksize }
 {
-    if setup.ustktop < setup.ustksize {
-        return 0;
-    }
-    setup.ustktop - setup.ustksize
+    setup.ustktop.saturating_sub(setup.ustksize)
 }
 
 // The highest address that an image or a bss may end at: one guard page lies between it and the stack.
 pub fn limit(setup: Setup) -> u64
     ensures { result ≡ limitOf setup }
 {
-    let start = stack_start(setup);
-    if start < spec::PAGE_SIZE_4K {
-        return 0;
-    }
-    start - spec::PAGE_SIZE_4K
+    stack_start(setup).saturating_sub(spec::PAGE_SIZE_4K)
 }
 
 // What arguments may take of the stack.
@@ -109,24 +102,20 @@ pub fn setup_ok(setup: Setup) -> bool
 fn row_ok(row: u8, code: u8) -> bool
     ensures { result ≡ row_ok row code }
 {
-    let open = !(row < 4) & (row < 7);
-    (code == 0)
-        | (open
-            & (((code == 1) & (row % 2 == 1)) | (code == 2) | ((code == 3) & (row / 2 % 2 == 1))))
+    match code {
+        0 => true,
+        1 => (4..7).contains(&row) && row % 2 == 1,
+        2 => (4..7).contains(&row),
+        3 => (4..7).contains(&row) && row / 2 % 2 == 1,
+        _ => false,
+    }
 }
 
 // Whether a flag table is accepted.
 pub fn flags_ok(flags: [u8; 8]) -> bool
     ensures { result ≡ flags_ok flags }
 {
-    row_ok(7, flags[7])
-        & row_ok(6, flags[6])
-        & row_ok(5, flags[5])
-        & row_ok(4, flags[4])
-        & row_ok(3, flags[3])
-        & row_ok(2, flags[2])
-        & row_ok(1, flags[1])
-        & row_ok(0, flags[0])
+    (0..8).all(|row| row_ok(row, flags[row as usize]))
 }
 
 // Whether a setup is accepted: its numbers, then its flag table.

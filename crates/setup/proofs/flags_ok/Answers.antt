@@ -1,20 +1,26 @@
--- `flags_ok` meets its contract, row by row.
+-- `flags_ok` meets its contract: each row is judged, and the order of the rows doesn't matter.
 -- Assumes nothing.
-use mathlib.Core.Path.{◌≡◌}
-use mathlib.Core.Bool.{Bool, ◌&&◌, and_assoc, and-true}
-use Prim.Native.Nat.{ℕ}
-use lib.ListN.{get_or}
-use Rattle.spec.specs.Tests.{all_below}
+use Rattle.std.proofs.Common.{rules, ◌≡◌, ℕ, Bool, true, false, ◌&&◌, refl, ◌∙◌, get_or}
+use Rattle.std.proofs.Math.Bool.{and-false}
+use Rattle.std.specs.List.{list_all, range_with_len}
+use Rattle.std.proofs.lemmas.Iterator.{YieldsList-from_range}
+use Rattle.std.proofs.lemmas.Iterator.Search.{all_from_yields_List}
 use Rattle.spec.specs.Flags.{row_ok, flags_ok}
 use Rattle.setup.proofs.flags_ok.Goals as goal
 
-eight : (t : ℕ → Bool) {a b c d e f g h : Bool} → a ≡ t 7 → b ≡ t 6 → c ≡ t 5 → d ≡ t 4 → e ≡ t 3 → f ≡ t 2 → g ≡ t 1 → h ≡ t 0
-    → (a && b && c && d && e && f && g && h) ≡ all_below 8 t
-eight t ea eb ec ed ee ef eg eh = rw (ea, eb, ec, ed, ee, ef, eg, eh) (simp (and_assoc, and-true))
+turned : (a b c d e f g h : Bool) → (a && (b && (c && (d && (e && (f && (g && (h && true)))))))) ≡ (h && (g && (f && (e && (d && (c && (b && (a && true))))))))
+turned false b c d e f g h = simp and-false
+turned true false c d e f g h = simp and-false
+turned true true false d e f g h = simp and-false
+turned true true true false e f g h = simp and-false
+turned true true true true false f g h = simp and-false
+turned true true true true true false g h = simp and-false
+turned true true true true true true false h = simp and-false
+turned true true true true true true true h = refl
 
 pub returns : goal.returns
 unfolding flags_ok
 returns c =
-    eight (λ row. row_ok row (get_or c.args.flags row 0)) c.row_ok.ensures c.row_ok-2.ensures
-    c.row_ok-3.ensures c.row_ok-4.ensures c.row_ok-5.ensures c.row_ok-6.ensures
-    c.row_ok-7.ensures c.row_ok-8.ensures
+    let t = λ (row : ℕ). row_ok row (get_or c.args.flags row 0) in
+    let h : c.all.result ≡ list_all t (range_with_len 0 8) = all_from_yields_List t _ _ _ c.all.ensures.ran (YieldsList-from_range 0 8 8 refl refl) (λ x b q k. search rules) in
+    h ∙ turned (t 0) (t 1) (t 2) (t 3) (t 4) (t 5) (t 6) (t 7)
