@@ -2,7 +2,7 @@
 // follows data, and the bss is what the last segment leaves behind it. It is the second half of refusal 30.
 
 ghost use Rattle.std.specs.Prelude.{◌≡◌, ◌+◌, ◌-◌, ◌^◌, ◌≤◌, ◌<◌};
-ghost use Rattle.image.specs.Images.{program, place_count, segment_at};
+ghost use Rattle.image.specs.Images.{program};
 ghost use Rattle.exec.specs.Fits.{fit_of, bss_behind};
 
 use elf::Segment;
@@ -39,17 +39,6 @@ fn lay(setup: Setup, before: Laid, g: Segment) -> Option<Laid>
     })
 }
 
-// The layout with the segment at one more place, if there is one.
-fn lay_at(image: &Image, i: usize, before: Laid) -> Option<Laid>
-    requires { i < place_count image.now }
-    ensures { result ≡ fit_of image.now.setup before (segment_at image.now i) }
-{
-    match image.segment(i) {
-        None => Some(before),
-        Some(g) => lay(image.setup(), before, g),
-    }
-}
-
 // Checks that an image's program fits the user address space, as text and rodata, then at most one data segment, which the bss follows.
 // The answer is the bss.
 pub fn layout(image: &Image) -> Option<VirtRange>
@@ -57,7 +46,9 @@ pub fn layout(image: &Image) -> Option<VirtRange>
 {
     let mut seen = Laid::default();
     for i in 0..image.places() {
-        seen = lay_at(image, i, seen)?;
+        if let Some(g) = image.segment(i) {
+            seen = lay(image.setup(), seen, g)?;
+        }
     }
     Some(seen.bss)
 }

@@ -3,8 +3,8 @@
 
 ghost use Rattle.std.specs.Prelude.{◌≡◌, ◌+◌, ◌-◌, ◌*◌, ◌^◌, ◌≤◌, ◌<◌};
 ghost use Rattle.spec.specs.Exec.{kept};
-ghost use Rattle.image.specs.Images.{program, place_count, segment_at};
-ghost use Rattle.exec.specs.Pages.{pages_in, pushed, recorded_with, all_recorded};
+ghost use Rattle.image.specs.Images.{program};
+ghost use Rattle.exec.specs.Pages.{pages_in, pushed, all_recorded};
 
 use elf::Segment;
 use image::Image;
@@ -51,18 +51,6 @@ impl Recorded {
         }
         Some(self)
     }
-
-    // The recorded segments with that at one more place, if there is one.
-    fn push_at(self, image: &Image, i: usize, bss: VirtRange) -> Option<Self>
-        requires place { i < place_count image.now }
-        requires start_bound { bss.start ≤ 2 ^ 64 - 4096 }
-        ensures { result ≡ recorded_with bss self (segment_at image.now i) }
-    {
-        match image.segment(i) {
-            None => Some(self),
-            Some(g) => self.push(user_segment(bss, g)),
-        }
-    }
 }
 
 // The segments that an image's pages make, given its bss, as Plan 9's TSEG and DSEG, or none where they are too many.
@@ -75,7 +63,9 @@ pub fn segments(image: &Image, bss: VirtRange) -> Option<Recorded>
         count: 0,
     };
     for i in 0..image.places() {
-        seen = seen.push_at(image, i, bss)?;
+        if let Some(g) = image.segment(i) {
+            seen = seen.push(user_segment(bss, g))?;
+        }
     }
     Some(seen)
 }
