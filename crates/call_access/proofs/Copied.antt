@@ -7,19 +7,19 @@ use lib.ListN.{length}
 use Rattle.spec.specs.Access.{access, bytes_at}
 use Rattle.spec.specs.Machine.{plainly, Machine, weigh, copy-from-user, copy-to-user}
 use Rattle.spec.specs.declared.Answer.TheVariants.{Done, EndedAt}
-use Rattle.spec.specs.declared.Checked.TheVariants.{Fine, Bad}
+use Rattle.std.specs.Prelude.{Ok, Err}
 
 module _ (m : Machine) (free : ℕ) where
   -- bytes read
-  pub reads-bad : (buffer : List ℕ) (src a : ℕ) → access m.setup m.mem false src (length buffer) ≡ Bad a → weigh m free 0 (copy-from-user buffer src) ≡ record { says = EndedAt a; buffer = buffer }
+  pub reads-bad : (buffer : List ℕ) (src a : ℕ) → access m.setup m.mem false src (length buffer) ≡ Err a → weigh m free 0 (copy-from-user buffer src) ≡ record { says = EndedAt a; buffer = buffer }
   reads-bad buffer src a e = rw e
 
-  pub reads : (buffer : List ℕ) (src : ℕ) → access m.setup m.mem false src (length buffer) ≡ Fine → weigh m free 0 (copy-from-user buffer src) ≡ record { says = Done; buffer = bytes_at m.mem src (length buffer) }
+  pub reads : (buffer : List ℕ) (src : ℕ) → access m.setup m.mem false src (length buffer) ≡ Ok tt → weigh m free 0 (copy-from-user buffer src) ≡ record { says = Done; buffer = bytes_at m.mem src (length buffer) }
   reads buffer src e = rw e
 
   -- bytes written
-  pub writes-bad : (dst : ℕ) (bytes : List ℕ) (a : ℕ) → access m.setup m.mem true dst (length bytes) ≡ Bad a → weigh m free 0 (copy-to-user dst bytes) ≡ plainly (EndedAt a)
+  pub writes-bad : (dst : ℕ) (bytes : List ℕ) (a : ℕ) → access m.setup m.mem true dst (length bytes) ≡ Err a → weigh m free 0 (copy-to-user dst bytes) ≡ plainly (EndedAt a)
   writes-bad dst bytes a e = rw e
 
-  pub writes : (dst : ℕ) (bytes : List ℕ) → access m.setup m.mem true dst (length bytes) ≡ Fine → weigh m free 0 (copy-to-user dst bytes) ≡ plainly Done
+  pub writes : (dst : ℕ) (bytes : List ℕ) → access m.setup m.mem true dst (length bytes) ≡ Ok tt → weigh m free 0 (copy-to-user dst bytes) ≡ plainly Done
   writes dst bytes e = rw e

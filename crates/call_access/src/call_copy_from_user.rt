@@ -3,7 +3,11 @@
 ghost use Rattle.spec.specs.Machine.{copy-from-user, call};
 ghost use Rattle.spec.specs.World.{Does, state_of};
 
-use spec::{Answer, Checked, Left, Procs, Setup};
+use call_front::numbers::plain_ready;
+use call_front::{bad_address, refused};
+use sound::Lookup;
+use spec::{Answer, Left, Procs, Setup};
+use uaccess::UserPages;
 
 // Copies bytes of process `number` from `src` on into the whole of `dst`. A bad range ends the process with 35 and the bad
 // address, and no byte is copied. Refused with 1, 38, 39 or 2 to 4, it changes nothing.
@@ -18,32 +22,22 @@ pub fn copy_from_user(
 ) -> Left
     ensures { Does (state_of setup frames.old book.old procs) (call number (copy-from-user dst.old src)) (state_of setup frames.new book.new result.procs) (record { says = result.answer; buffer = dst.new }) }
 {
-    let mut tags = [0u64; 272];
-    let mut bases = [0u64; 273];
-    let mut table = [0u16; 1024];
-    let e = call_front::numbers::plain_ready(
-        setup, frames, book, procs, number, true, &mut tags, &mut bases, &mut table,
-    );
-    if e != 0 {
-        return Left {
-            procs: procs,
-            answer: Answer::Refused(e),
-        };
+    let mut lookup = Lookup::new();
+    if let Err(e) = plain_ready(setup, frames, book, procs, number, true, &mut lookup) {
+        return refused(procs, e);
     }
-    let len = dst.len() as u64;
-    let access = uaccess::user_range_ok(
-        setup, book, &tags, &bases, &table, number, src, len, false,
-    );
-    if let Checked::Bad(address) = access {
-        let after = call_front::ending::forget(book, procs, number);
-        return Left {
-            procs: after,
-            answer: Answer::EndedAt(address),
-        };
+    let pages = UserPages {
+        setup,
+        book,
+        lookup: &lookup,
+        number,
+    };
+    if let Err(address) = pages.user_range_ok(src, dst.len() as u64, false) {
+        return bad_address(book, procs, number, address);
     }
-    uaccess::read_user(frames, book, &tags, &bases, &table, number, src, dst);
+    pages.read_user(frames, src, dst);
     Left {
-        procs: procs,
+        procs,
         answer: Answer::Done,
     }
 }

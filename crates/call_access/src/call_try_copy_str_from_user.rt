@@ -3,7 +3,10 @@
 ghost use Rattle.spec.specs.Machine.{try-copy-str-from-user, call};
 ghost use Rattle.spec.specs.World.{Does, state_of};
 
-use spec::{Answer, Checked, Procs, Setup};
+use call_front::numbers::plain_ready;
+use sound::Lookup;
+use spec::{Answer, Procs, Setup};
+use uaccess::UserPages;
 
 // Copies the NUL-terminated string of process `number` at `src` into `dst`, without its NUL, and answers its length, or the length
 // of `dst` if there's no NUL within that many bytes. Refused with 35 at a bad page, it leaves the bytes before the page copied, and
@@ -19,21 +22,18 @@ pub fn try_copy_str_from_user(
 ) -> Answer
     ensures { Does (state_of setup frames.now book.now procs) (call number (try-copy-str-from-user dst.old src)) (state_of setup frames.now book.now procs) (record { says = result; buffer = dst.new }) }
 {
-    let mut tags = [0u64; 272];
-    let mut bases = [0u64; 273];
-    let mut table = [0u16; 1024];
-    let e = call_front::numbers::plain_ready(
-        setup, frames, book, procs, number, true, &mut tags, &mut bases, &mut table,
-    );
-    if e != 0 {
-        return Answer::Refused(e);
+    let mut lookup = Lookup::new();
+    if let Err(e) = plain_ready(setup, frames, book, procs, number, true, &mut lookup) {
+        return Answer::from(e);
     }
-    let s = uaccess::try_copy_str_from_user(
-        setup, frames, book, &tags, &bases, &table, number, dst, src,
-    );
-    let access = s.access;
-    if let Checked::Bad(address) = access {
-        return Answer::RefusedAt(address);
+    let pages = UserPages {
+        setup,
+        book,
+        lookup: &lookup,
+        number,
+    };
+    match pages.try_copy_str_from_user(frames, dst, src) {
+        Ok(size) => Answer::Value(size as u64),
+        Err(e) => Answer::RefusedAt(e.address),
     }
-    Answer::Value(s.size as u64)
 }

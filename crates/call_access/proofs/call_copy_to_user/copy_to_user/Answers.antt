@@ -3,33 +3,23 @@ use Prim.Native.Nat.{◌*◌}
 use mathlib.Core.Path.{◌≡◌, refl, sym, ap, ◌∙◌}
 use mathlib.Core.Bool.{true}
 use lib.ListN.{length}
-use Rattle.spec.specs.Numbers.{SetupOk}
-use Rattle.spec.proofs.Setups.{setup-means}
 use Rattle.spec.specs.Book.{frame_count, free}
-use Rattle.spec.specs.Frames.{mem_of, store}
-use Rattle.spec.specs.Access.{access}
-use Rattle.spec.specs.declared.Checked.TheVariants.{Fine}
 use Rattle.spec.specs.Machine.{Ask, copy-to-user, Reply, outcome, weigh, call}
-use Rattle.spec.specs.World.{State, view, with_store, leave, Does, state_of}
-use Rattle.spec_laws.proofs.Owned.{valid-means}
-use Rattle.sound.proofs.LookedUp.{made-zeros, ready_of}
-use Rattle.uaccess.proofs.InRange.{fine-ok}
+use Rattle.spec.specs.World.{State, view, leave, Does, state_of, with_store}
 use Rattle.call_front.proofs.FirstNumbers.{Passed, plain-none, sizes-words}
 use Rattle.call_front.proofs.Answers.{plain-refused, plain-goes}
+use Rattle.call_front.proofs.Living.{looked-up}
 use Rattle.call_access.proofs.Copied.{writes, writes-bad}
 use Rattle.call_access.proofs.call_copy_to_user.copy_to_user.Goals as goal
-use Rattle.call_access.proofs.call_copy_to_user.copy_to_user.Goals.{Else-e-ne0, In_default}
+use Rattle.call_access.proofs.call_copy_to_user.copy_to_user.Goals.{In_default}
 
 -- where no number came first
-module _ (c : Else-e-ne0) where
+module _ (c : In_default) where
   abbrev state : State
   state = state_of c.args.setup c.args.frames.now c.args.book.now c.args.procs
 
   passed : Passed state c.args.number true
-  passed = (plain-none state c.args.number true (sym c.plain_ready-e.ensures.value ∙ c.if-e-ne0.false)).0
-
-  accepted : SetupOk c.args.setup
-  accepted = setup-means c.args.setup passed.setup
+  passed = (plain-none state c.args.number true (sym c.in_default.ensures.value)).0
 
   sizes : length c.args.frames.now ≡ 4096 * frame_count c.args.book.now
   sizes = (sizes-words c.args.frames.now c.args.book.now passed.sizes).0
@@ -39,43 +29,32 @@ module _ (c : Else-e-ne0) where
 
   answers : (t : State) (r : Reply) → weigh (view state c.args.number) (free c.args.book.now) 0 asked ≡ r
       → t ≡ leave state (call c.args.number asked) (outcome r) → Does state (call c.args.number asked) t r
-  answers = plain-goes state c.args.number asked c.plain_ready-e.result refl c.plain_ready-e.ensures.value c.if-e-ne0.false
+  answers = plain-goes state c.args.number asked refl c.in_default.ensures.value
 
--- where the range has passed
-module _ (c : In_default) where
-  fine : let a = c.args in access a.setup (mem_of (store a.frames.now a.book.now) a.number) true a.dst (length a.bytes.now) ≡ Fine
-  fine = sym (c.user_range_ok-access.ensures c.args.frames.now) ∙ c.in_default.is
+pub invariant_of-pages : goal.invariant_of-pages
+invariant_of-pages c =
+    let d = (goal.at.invariant_of-pages c).In_default in
+    let l = looked-up (state d) c.args.number true c.plain_ready.new.lookup (passed d) c.in_default.ensures.leaves in
+    record { accepted = l.0; ready = l.1; numbered = l.2 }
 
-pub plain_ready-e-requires : goal.plain_ready-e-requires
-plain_ready-e-requires c = made-zeros
-
-pub returns-then-e-ne0 : goal.returns-then-e-ne0
-returns-then-e-ne0 c =
-    let e = c.plain_ready-e in
+pub returns-in-Err : goal.returns-in-Err
+returns-in-Err c =
     let a = c.args in
-    plain-refused _ _ (copy-to-user a.dst a.bytes.now) e.result refl e.ensures.value c.if-e-ne0.true
+    rw c.refused.ensures (plain-refused _ _ (copy-to-user a.dst a.bytes.now) refl c.in-Err.e c.in-Err.ensures.value)
 
-pub user_range_ok-access-requires : goal.user_range_ok-access-requires
-user_range_ok-access-requires c =
-    record { ready = (ready_of c.plain_ready-e.ensures.leaves c.if-e-ne0.false, (valid-means c.args.number (passed (goal.at.user_range_ok-access-requires c).Else-e-ne0).number).0, (valid-means c.args.number (passed (goal.at.user_range_ok-access-requires c).Else-e-ne0).number).1); setup_ok = accepted (goal.at.user_range_ok-access-requires c).Else-e-ne0 }
-
-pub forget-after-requires : goal.forget-after-requires
-forget-after-requires c = (passed (goal.at.forget-after-requires c).Else-e-ne0).number
-
-pub returns-in-Bad : goal.returns-in-Bad
-returns-in-Bad c =
+pub returns-in-Err-user_range_ok : goal.returns-in-Err-user_range_ok
+returns-in-Err-user_range_ok c =
     let a = c.args in
-    answers (goal.at.returns-in-Bad c).Else-e-ne0 _ _ (writes-bad (view (state (goal.at.returns-in-Bad c).Else-e-ne0) a.number) (free a.book.now) a.dst a.bytes.now _ (sym (c.user_range_ok-access.ensures a.frames.now) ∙ c.in-Bad.is))
-    (c.forget-after.ensures _ _)
+    let d = (goal.at.returns-in-Err-user_range_ok c).In_default in
+    rw c.bad_address.ensures.says
+    (answers d _ _ (writes-bad (view (state d) a.number) (free a.book.now) a.dst a.bytes.now _ (sym (c.user_range_ok.ensures a.frames.now) ∙ c.in-Err-user_range_ok.is)) (c.bad_address.ensures.ends _ _))
 
-pub write_user-requires : goal.write_user-requires
-write_user-requires c =
-    let a = c.args in
-    let v = valid-means a.number (passed (goal.at.write_user-requires c).Else-e-ne0).number in
-    record { frames_len = (sizes (goal.at.write_user-requires c).Else-e-ne0, ready_of c.plain_ready-e.ensures.leaves c.if-e-ne0.false, v.0, v.1); setup_ok = (a.setup, accepted (goal.at.write_user-requires c).Else-e-ne0, fine-ok a.setup _ true a.dst (length a.bytes.now) (fine (goal.at.write_user-requires c).In_default)) }
+pub write_user-requires-clause-frames_len : goal.write_user-requires-clause-frames_len
+write_user-requires-clause-frames_len c = sizes (goal.at.write_user-requires-clause-frames_len c).In_default
 
 pub returns : goal.returns
 returns c =
     let a = c.args in
-    answers (goal.at.returns c).Else-e-ne0 _ _ (writes (view (state (goal.at.returns c).Else-e-ne0) a.number) (free a.book.now) a.dst a.bytes.now (fine (goal.at.returns c).In_default))
-    (ap (with_store (state (goal.at.returns c).Else-e-ne0)) c.write_user.ensures)
+    let d = (goal.at.returns c).In_default in
+    answers d _ _ (writes (view (state d) a.number) (free a.book.now) a.dst a.bytes.now (sym (c.user_range_ok.ensures a.frames.now) ∙ c.in_default-user_range_ok.is))
+    (ap (with_store (state d)) c.write_user.ensures)

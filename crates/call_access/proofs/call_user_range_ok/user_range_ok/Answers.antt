@@ -1,56 +1,55 @@
--- `user_range_ok` meets its contract: the range's check is 1, or no with the bad address.
-use mathlib.Core.Bool.{true}
+-- `user_range_ok` meets its contract.
+use Prim.Native.Nat.{◌*◌}
 use mathlib.Core.Path.{◌≡◌, refl, sym, ◌∙◌}
-use Rattle.spec.specs.Numbers.{SetupOk}
-use Rattle.spec.proofs.Setups.{setup-means}
-use Rattle.spec.specs.Book.{free}
+use mathlib.Core.Bool.{true}
+use lib.ListN.{length}
+use Rattle.spec.specs.Book.{frame_count, free}
 use Rattle.spec.specs.Machine.{Ask, user-range-ok, Reply, outcome, weigh, call}
 use Rattle.spec.specs.World.{State, view, leave, Does, state_of}
-use Rattle.spec_laws.proofs.Owned.{valid-means}
-use Rattle.sound.proofs.LookedUp.{made-zeros, ready_of}
-use Rattle.call_front.proofs.FirstNumbers.{Passed, plain-none}
+use Rattle.call_front.proofs.FirstNumbers.{Passed, plain-none, sizes-words}
 use Rattle.call_front.proofs.Answers.{plain-refused, plain-goes}
+use Rattle.call_front.proofs.Living.{looked-up}
 use Rattle.call_access.proofs.Access.{range-yes, range-no}
 use Rattle.call_access.proofs.call_user_range_ok.user_range_ok.Goals as goal
-use Rattle.call_access.proofs.call_user_range_ok.user_range_ok.Goals.{Else-e-ne0}
+use Rattle.call_access.proofs.call_user_range_ok.user_range_ok.Goals.{In_default}
 
 -- where no number came first
-module _ (c : Else-e-ne0) where
+module _ (c : In_default) where
   abbrev state : State
   state = state_of c.args.setup c.args.frames.now c.args.book.now c.args.procs
 
   passed : Passed state c.args.number true
-  passed = (plain-none state c.args.number true (sym c.plain_ready-e.ensures.value ∙ c.if-e-ne0.false)).0
+  passed = (plain-none state c.args.number true (sym c.in_default.ensures.value)).0
 
-  accepted : SetupOk c.args.setup
-  accepted = setup-means c.args.setup passed.setup
+  sizes : length c.args.frames.now ≡ 4096 * frame_count c.args.book.now
+  sizes = (sizes-words c.args.frames.now c.args.book.now passed.sizes).0
 
   abbrev asked : Ask
   asked = user-range-ok c.args.addr c.args.len c.args.write
 
   answers : (t : State) (r : Reply) → weigh (view state c.args.number) (free c.args.book.now) 0 asked ≡ r
       → t ≡ leave state (call c.args.number asked) (outcome r) → Does state (call c.args.number asked) t r
-  answers = plain-goes state c.args.number asked c.plain_ready-e.result refl c.plain_ready-e.ensures.value c.if-e-ne0.false
+  answers = plain-goes state c.args.number asked refl c.in_default.ensures.value
 
-pub plain_ready-e-requires : goal.plain_ready-e-requires
-plain_ready-e-requires c = made-zeros
+pub invariant_of-pages : goal.invariant_of-pages
+invariant_of-pages c =
+    let d = (goal.at.invariant_of-pages c).In_default in
+    let l = looked-up (state d) c.args.number true c.plain_ready.new.lookup (passed d) c.in_default.ensures.leaves in
+    record { accepted = l.0; ready = l.1; numbered = l.2 }
 
-pub returns-then-e-ne0 : goal.returns-then-e-ne0
-returns-then-e-ne0 c =
-    let e = c.plain_ready-e in
+pub returns-in-Err : goal.returns-in-Err
+returns-in-Err c =
     let a = c.args in
-    plain-refused _ _ (user-range-ok a.addr a.len a.write) e.result refl e.ensures.value c.if-e-ne0.true
+    rw c.from.ensures (plain-refused _ _ (user-range-ok a.addr a.len a.write) refl c.in-Err.e c.in-Err.ensures.value)
 
-pub user_range_ok-access-requires : goal.user_range_ok-access-requires
-user_range_ok-access-requires c =
-    record { ready = (ready_of c.plain_ready-e.ensures.leaves c.if-e-ne0.false, (valid-means c.args.number (passed (goal.at.user_range_ok-access-requires c).Else-e-ne0).number).0, (valid-means c.args.number (passed (goal.at.user_range_ok-access-requires c).Else-e-ne0).number).1); setup_ok = accepted (goal.at.user_range_ok-access-requires c).Else-e-ne0 }
-
-pub returns-in-Fine : goal.returns-in-Fine
-returns-in-Fine c =
+pub returns-in-Ok : goal.returns-in-Ok
+returns-in-Ok c =
     let a = c.args in
-    answers (goal.at.returns-in-Fine c).Else-e-ne0 _ _ (range-yes (view (state (goal.at.returns-in-Fine c).Else-e-ne0) a.number) (free a.book.now) a.write a.addr a.len (sym (c.user_range_ok-access.ensures a.frames.now) ∙ c.in-Fine.is)) refl
+    let d = (goal.at.returns-in-Ok c).In_default in
+    answers d _ _ (range-yes (view (state d) a.number) (free a.book.now) a.write a.addr a.len (sym (c.user_range_ok.ensures a.frames.now) ∙ c.in-Ok.is)) refl
 
-pub returns-in-Bad : goal.returns-in-Bad
-returns-in-Bad c =
+pub returns-in-Err-user_range_ok : goal.returns-in-Err-user_range_ok
+returns-in-Err-user_range_ok c =
     let a = c.args in
-    answers (goal.at.returns-in-Bad c).Else-e-ne0 _ _ (range-no (view (state (goal.at.returns-in-Bad c).Else-e-ne0) a.number) (free a.book.now) a.write a.addr a.len _ (sym (c.user_range_ok-access.ensures a.frames.now) ∙ c.in-Bad.is)) refl
+    let d = (goal.at.returns-in-Err-user_range_ok c).In_default in
+    answers d _ _ (range-no (view (state d) a.number) (free a.book.now) a.write a.addr a.len _ (sym (c.user_range_ok.ensures a.frames.now) ∙ c.in-Err-user_range_ok.is)) refl
