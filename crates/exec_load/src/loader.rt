@@ -1,47 +1,21 @@
 // Loading an image into a process's frames, as r9's exec.rs does in `load`: each page holds its file bytes and zero elsewhere, and
 // takes the highest free frame, pages ascending: the image's, the bss's, the stack's. Callers have counted the free frames.
 
-ghost use Rattle.std.specs.Prelude.{◌≡◌, true, ◌+◌, ◌*◌, ◌-◌, ◌≤◌, ◌<◌, length};
+ghost use Rattle.std.specs.Prelude.{◌≡◌, true, ◌*◌, ◌-◌, ◌≤◌, ◌<◌, length};
 ghost use Rattle.spec.specs.Numbers.{max_top};
 ghost use Rattle.spec.specs.Book.{frame_count};
 ghost use Rattle.spec.specs.Frames.{place, store};
 ghost use Rattle.spec.specs.Exec.{layout_ok};
-ghost use Rattle.image.specs.Images.{bytes, program, place_count, segment_at};
+ghost use Rattle.image.specs.Images.{program};
 ghost use Rattle.pagealloc.specs.Lent.{Passed};
-ghost use Rattle.exec_load.specs.Pages.{segment_pages, load_pages, LaidLoad};
+ghost use Rattle.exec_load.specs.Pages.{segment_pages};
 ghost use Rattle.exec_load.specs.Installing.{plan_pages};
 
 use exec::Plan;
 use image::Image;
 use spec::VirtRange;
 
-// Places the pages of the segment at one place of an image, if there is one. Frames from `top` on are none free; the answer is the next such.
-fn load_at(
-    frames: &mut [u8],
-    book: &mut [u64],
-    top: usize,
-    owner: u64,
-    image: &Image,
-    i: usize,
-    bss: VirtRange,
-) -> usize
-    requires frames_len { (length frames.old ≡ 4096 * frame_count book.old) × (1 ≤ owner) × (owner ≤ 16) × (i < place_count image.now) × (bss.start ≤ max_top) }
-    requires laid_load { LaidLoad (segment_at image.now i) }
-    requires passed { Passed top book.old }
-    ensures book_after { store frames.new book.new ≡ place (store frames.old book.old) owner (load_pages (bytes image.now) bss (segment_at image.now i)) }
-    ensures passed_2 { Passed result book.new }
-{
-    match image.segment(i) {
-        None => top,
-        Some(g) => {
-            let recorded = exec::user_segment(bss, g);
-            let file = image.file(g);
-            pagealloc::place::load_segment(frames, book, top, owner, recorded, g.vaddr, file)
-        }
-    }
-}
-
-// Places the pages of an image's segments, in order.
+// Places the pages of an image's segments, in order. The answer is a frame from which on none is free.
 fn load_segments(
     frames: &mut [u8],
     book: &mut [u64],
@@ -56,7 +30,11 @@ fn load_segments(
 {
     let mut top = book.len() / 17;
     for i in 0..image.places() {
-        top = load_at(frames, book, top, owner, image, i, bss);
+        if let Some(g) = image.segment(i) {
+            let recorded = exec::user_segment(bss, g);
+            let file = image.file(g);
+            top = pagealloc::place::load_segment(frames, book, top, owner, recorded, g.vaddr, file);
+        }
     }
     top
 }
