@@ -316,6 +316,13 @@ def cites():
     for file in files():
         brought, _, aliases = imports(file)
         words = collections.defaultdict(set)
+        for attribute in re.findall(r'^ *#\[(tactic\(.*)\]$', read(file.path), re.M) if file.folder == 'src' else []:
+            # `using(crate::proofs::Found::frame_there)`
+            for crate, folder, path in re.findall(r'(\w+)::(specs|proofs)::([^\s(),]+)', attribute):
+                *there, name = path.split('::')
+                origin = module(file.crate if crate == 'crate' else crate, folder, '.'.join(there))
+                if origin:
+                    words[None].add((origin, name))
         for inside, line in blocks(file):
             words[inside].update(WORD.findall(line))
             for alias, word in re.findall(r'(?<![^\s(){};,"])([^\s(){};,."]+)\.([^\s(){};,."]+)', line):
