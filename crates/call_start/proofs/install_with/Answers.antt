@@ -14,17 +14,17 @@ abbrev args : Start → List (List ℕ)
 args s = args_of s.args.bytes.now s.args.lengths.now
 
 -- where they are laid
-module _ (c : After-args_into-size) where
-  fitting : Fitting c.args.setup (args (goal.at.After-args_into-size c).Start) c.args_into-size.new.buf c.args_into-size.result (length c.args.lengths.now)
-  fitting = record { laid = c.args_into-size.ensures; counted = cut-count c.args.bytes.now c.args.lengths.now; passed = c.requires.lengths_value.1 }
+fitting : (c : After-args_into-size) → Fitting c.args.plan.now.image.setup (args (goal.at.After-args_into-size c).Start) c.args_into-size.new.buf c.args_into-size.result (length c.args.lengths.now)
+fitting c = record { laid = rw c.setup.ensures at c.args_into-size.ensures; counted = cut-count c.args.bytes.now c.args.lengths.now; passed = c.requires.lengths_value.1 }
 
 pub args_into-size-requires : goal.args_into-size-requires
 args_into-size-requires c =
+    let setup = c.args.plan.now.image.setup in
     let n = cut-size c.args.bytes.now c.args.lengths.now c.requires.lengths_value.0 in
     let k = cut-count c.args.bytes.now c.args.lengths.now in
-    let m = (args-means c.args.setup (args (goal.at.args_into-size-requires c).Start) c.requires.lengths_value.1).1 in
-    let o = c.requires.installable.setup-ok in
-    (c.requires.lengths_value.0, omega (arith, n, k, m, o), omega (arith, n, m, o))
+    let m = (args-means setup (args (goal.at.args_into-size-requires c).Start) c.requires.lengths_value.1).1 in
+    let o = c.args.plan.now.image.setup_ok in
+    (c.requires.lengths_value.0, omega (arith, n, k, m, o), rw c.setup.ensures (omega (arith, n, m, o)))
 
 pub install-requires : goal.install-requires
 install-requires c =

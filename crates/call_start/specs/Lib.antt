@@ -1,0 +1,2 @@
+-- The number that a start is refused with.
+pub mod Numbers
