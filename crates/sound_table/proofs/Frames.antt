@@ -10,17 +10,6 @@ use borrow.Author.Tests.{eqb-true, eqb-false}
 use Rattle.spec.proofs.Bools.{split}
 use Rattle.sound_table.specs.Rows.{OrOf, FourBut, Own, Only, FourOwn, Free, Single, Singles}
 
--- a fact of each of four
-pub by-four : (F : ℕ → Type 0) → F 0 → F 1 → F 2 → F 3 → (j : ℕ) → j < 4 → F j
-by-four F a b c d j l =
-    split (eqb j 0)
-    (λ x. subst F (sym (eqb-true j 0 x)) a)
-    (λ x. split (eqb j 1)
-    (λ y. subst F (sym (eqb-true j 1 y)) b)
-    (λ y. split (eqb j 2)
-    (λ v. subst F (sym (eqb-true j 2 v)) c)
-    (λ v. let p = eqb-false j 0 x in let q = eqb-false j 1 y in let r = eqb-false j 2 v in let e : 3 ≡ j = omega arith in subst F e d)))
-
 module _ (book : List ℕ) where
   pub single-none : (k : ℕ) → Single book k 0
   single-none k = record { free = λ e. absurd (omega arith); only = λ l. absurd (omega arith) }
@@ -39,13 +28,8 @@ module _ (book : List ℕ) where
   place_is : (k j i : ℕ) → get_or book (17 * k + 17 * j + i) 0 ≡ get_or book (17 * (k + j) + i) 0
   place_is k j i = ap (λ (x : ℕ). get_or book x 0) (omega arith)
 
-  pub four-owned : (k n r : ℕ) → n < 16 → Own book k n → Own book (k + 1) n → Own book (k + 2) n → Own book (k + 3) n → FourBut book (17 * k) n 16 r → r ≡ 0 → FourOwn book k n
-  four-owned k n r l a b c d but z =
-      let o = by-four (λ j. Own book (k + j) n) (rw zero a) b c d in
-      λ j h. only-own (k + j) n l (o j h) (λ i hi ne. sym (place_is k j i) ∙ but z j h i hi ne)
-    where
-      zero : k + 0 ≡ k
-      zero = omega arith
+  pub four-owned : (k n r : ℕ) → n < 16 → ((j : ℕ) → j < 4 → Own book (k + j) n) → FourBut book (17 * k) n 16 r → r ≡ 0 → FourOwn book k n
+  four-owned k n r l own but z j h = only-own (k + j) n l (own j h) (λ i hi ne. sym (place_is k j i) ∙ but z j h i hi ne)
 
   pub four-free : (k r : ℕ) → OrOf book (17 * k) 68 r → r ≡ 0 → (j : ℕ) → j < 4 → Free book (k + j)
   four-free k r h z j l = record { count = word 16 (omega arith); places = λ i hi. word i (omega arith) }
@@ -91,13 +75,13 @@ module _ (book : List ℕ) where
 
       set-four : (a b c d : ℕ) → later ≡ set (set (set (set words i a) (i + 1) b) (i + 2) c) (i + 3) d
           → Single book (from + i) a → Single book (from + i + 1) b → Single book (from + i + 2) c → Single book (from + i + 3) d
-          → (length later ≡ 128) × Singles book later from (i + 4)
+          → Singles book later from (i + 4)
       set-four a b c d e p q r s =
-          subst (λ (x : List ℕ). (length x ≡ 128) × Singles book x from (i + 4)) (sym e) (simp length-set long, singles-four words i a b c d long low all p (on b 1 q) (on c 2 r) (on d 3 s))
+          subst (λ (x : List ℕ). Singles book x from (i + 4)) (sym e) (singles-four words i a b c d long low all p (on b 1 q) (on c 2 r) (on d 3 s))
 
       pub set_own : (n : ℕ) → FourOwn book (from + i) n
           → later ≡ set (set (set (set words i (get_or book (17 * (from + i) + n) 0)) (i + 1) (get_or book (17 * (from + i) + n + 17) 0)) (i + 2) (get_or book (17 * (from + i) + n + 34) 0)) (i + 3) (get_or book (17 * (from + i) + n + 51) 0)
-          → (length later ≡ 128) × Singles book later from (i + 4)
+          → Singles book later from (i + 4)
       set_own n own e = set-four _ _ _ _ e (first (own 0 (omega arith))) (at 1 17 (omega arith) (own 1 (omega arith))) (at 2 34 (omega arith) (own 2 (omega arith))) (at 3 51 (omega arith) (own 3 (omega arith)))
         where
           at : (j d : ℕ) → d ≡ 17 * j → Only book (from + i + j) (get_or book (17 * (from + i + j) + n) 0) → Single book (from + i + j) (get_or book (17 * (from + i) + n + d) 0)
@@ -106,7 +90,7 @@ module _ (book : List ℕ) where
           first : Only book (from + i + 0) (get_or book (17 * (from + i + 0) + n) 0) → Single book (from + i) (get_or book (17 * (from + i) + n) 0)
           first o = let z : from + i + 0 ≡ from + i = omega arith in single-only (from + i) _ (rw z at o)
 
-      pub set_free : (r : ℕ) → OrOf book (17 * (from + i)) 68 r → r ≡ 0 → later ≡ set (set (set (set words i 1) (i + 1) 1) (i + 2) 1) (i + 3) 1 → (length later ≡ 128) × Singles book later from (i + 4)
+      pub set_free : (r : ℕ) → OrOf book (17 * (from + i)) 68 r → r ≡ 0 → later ≡ set (set (set (set words i 1) (i + 1) 1) (i + 2) 1) (i + 3) 1 → Singles book later from (i + 4)
       set_free r h z e =
           let f = four-free (from + i) r h z in
           let s : from + i + 0 ≡ from + i = omega arith in

@@ -1,36 +1,17 @@
 // Frames that hold one mapping or none, found by a look at all their places at once: an OR of words, which LLVM makes vector loads
 // of. The check of the book decides most frames so. A frame that is not found here may be in order or torn.
 
-ghost use Rattle.std.specs.Prelude.{◌≡◌, true, ◌+◌, ◌*◌, ◌<◌, ◌≤◌, length, set};
+ghost use Rattle.std.specs.Prelude.{◌≡◌, true, IfSome, ◌+◌, ◌*◌, ◌<◌, ◌≤◌, length, set};
 ghost use Rattle.spec.specs.Book.{frame_count};
 ghost use Rattle.sound_table.specs.Rows.{OrOf, OrBut, FourBut, Masks, Own, FourOwn, Single, Singles};
 
-// The OR of the sixteen places of frame `k`.
-fn row_or(book: &[u64], k: usize) -> u64
-    requires { 17 * k + 16 < length book.now }
-    ensures { OrOf book.now (17 * k) 16 result }
+// The OR of words.
+fn or_of(words: &[u64]) -> u64
+    ensures { OrOf words.now 0 (length words.now) result }
 {
-    let at = 17 * k;
-    let mut a: u64 = 0;
-    let mut i = 0;
-    while i < 16 {
-        a = a | book[at + i];
-        i += 1;
-    }
-    a
-}
-
-// The OR of all words of the four frames from `k` on.
-fn four_or(book: &[u64], k: usize) -> u64
-    requires { 17 * k + 68 ≤ length book.now }
-    ensures { OrOf book.now (17 * k) 68 result }
-{
-    let at = 17 * k;
-    let mut a: u64 = 0;
-    let mut i = 0;
-    while i < 68 {
-        a = a | book[at + i];
-        i += 1;
+    let mut a = 0;
+    for w in words {
+        a = a | *w;
     }
     a
 }
@@ -52,10 +33,8 @@ fn row_but(book: &[u64], masks: &[u64; 31], k: usize, n: usize) -> u64
     let at = 17 * k;
     let from = 15 - n;
     let mut a: u64 = 0;
-    let mut i = 0;
-    while i < 16 {
+    for i in 0..16 {
         a = a | (book[at + i] & masks[from + i]);
-        i += 1;
     }
     a
 }
@@ -68,11 +47,9 @@ fn four_but(book: &[u64], masks: &[u64; 31], k: usize, n: usize) -> u64
     let at = 17 * k;
     let from = 15 - n;
     let mut a: u64 = 0;
-    let mut i = 0;
-    while i < 16 {
+    for i in 0..16 {
         let w = book[at + i] | book[at + 17 + i] | book[at + 34 + i] | book[at + 51 + i];
         a = a | (w & masks[from + i]);
-        i += 1;
     }
     a
 }
@@ -92,34 +69,23 @@ fn four_own(book: &[u64], masks: &[u64; 31], k: usize, n: usize) -> bool
     requires { (17 * k + 68 ≤ length book.now) × (n < 16) × Masks masks.now }
     ensures { result ≡ true → FourOwn book.now k n }
 {
-    if !is_own(book, k, n) {
-        return false;
-    }
-    if !is_own(book, k + 1, n) {
-        return false;
-    }
-    if !is_own(book, k + 2, n) {
-        return false;
-    }
-    if !is_own(book, k + 3, n) {
-        return false;
+    for j in 0..4 {
+        if !is_own(book, k + j, n) {
+            return false;
+        }
     }
     four_but(book, masks, k, n) == 0
 }
 
-// The place of the owner that a word names, or `other`.
-fn place_of(w: u64, other: usize) -> usize
-    requires { other ≤ 16 }
-    ensures { (result ≤ 16) × (other < 16 → result < 16) }
+// The place of the owner that a word names, if it names one.
+fn place_of(w: u64) -> Option<usize>
+    ensures { IfSome result (λ n. n < 16) }
 {
     let owner = book::owner_of(w) as usize;
-    if owner == 0 {
-        return other;
+    if owner == 0 || 16 < owner {
+        return None;
     }
-    if 16 < owner {
-        return other;
-    }
-    owner - 1
+    Some(owner - 1)
 }
 
 // The only mapping of frame `k`, or 1 where the frame is free, or 0 where neither is found.
@@ -129,7 +95,7 @@ fn single(book: &[u64], masks: &[u64; 31], k: usize) -> u64
 {
     let count = book[17 * k + 16];
     if count == 0 {
-        if row_or(book, k) == 0 {
+        if or_of(&book[17 * k..17 * k + 16]) == 0 {
             return 1;
         }
         return 0;
@@ -137,10 +103,9 @@ fn single(book: &[u64], masks: &[u64; 31], k: usize) -> u64
     if count != 1 {
         return 0;
     }
-    let n = place_of(row_or(book, k), 16);
-    if n == 16 {
+    let Some(n) = place_of(or_of(&book[17 * k..17 * k + 16])) else {
         return 0;
-    }
+    };
     if !is_own(book, k, n) {
         return 0;
     }
@@ -152,19 +117,17 @@ fn single(book: &[u64], masks: &[u64; 31], k: usize) -> u64
 
 // What `single` says of the frames from + i to below from + end, where the words before are found.
 fn each(book: &[u64], masks: &[u64; 31], words: &mut [u64; 128], from: usize, i: usize, end: usize)
-    requires { (i ≤ end) × (end ≤ 128) × (from + end ≤ frame_count book.now) × Masks masks.now × (length words.old ≡ 128) × Singles book.now words.old from i }
-    ensures { (length words.new ≡ 128) × Singles book.now words.new from end }
+    requires { (i ≤ end) × (end ≤ 128) × (from + end ≤ frame_count book.now) × Masks masks.now × Singles book.now words.old from i }
+    ensures { Singles book.now words.new from end }
 {
-    let mut j = i;
-    while j < end {
+    for j in i..end {
         words[j] = single(book, masks, from + j);
-        j += 1;
     }
 }
 
 // Sets the four words from word `i` on.
 fn put_four(words: &mut [u64; 128], i: usize, a: u64, b: u64, c: u64, d: u64)
-    requires { (i + 4 ≤ 128) × (length words.old ≡ 128) }
+    requires { (i + 4 ≤ 128) }
     ensures { words.new ≡ set (set (set (set words.old i a) (i + 1) b) (i + 2) c) (i + 3) d }
 {
     words[i] = a;
@@ -183,8 +146,8 @@ fn four(
     i: usize,
     last: usize,
 ) -> usize
-    requires { (i + 4 ≤ 128) × (from + i + 4 ≤ frame_count book.now) × (last < 16) × Masks masks.now × (length words.old ≡ 128) × Singles book.now words.old from i }
-    ensures { (result < 16) × (length words.new ≡ 128) × Singles book.now words.new from (i + 4) }
+    requires { (i + 4 ≤ 128) × (from + i + 4 ≤ frame_count book.now) × (last < 16) × Masks masks.now × Singles book.now words.old from i }
+    ensures { (result < 16) × Singles book.now words.new from (i + 4) }
 {
     let k = from + i;
     if four_own(book, masks, k, last) {
@@ -200,13 +163,13 @@ fn four(
         return last;
     }
     if book[17 * k + 16] == 0 {
-        if four_or(book, k) == 0 {
+        if or_of(&book[17 * k..17 * k + 68]) == 0 {
             put_four(words, i, 1, 1, 1, 1);
             return last;
         }
     }
     each(book, masks, words, from, i, i + 4);
-    place_of(words[i + 3], last)
+    place_of(words[i + 3]).unwrap_or(last)
 }
 
 // Of each of the `count` frames from `from` on its only mapping, or 1 where the frame is free, or 0 where neither is found. `first` is
@@ -218,8 +181,8 @@ pub fn singles(
     count: usize,
     first: usize,
 ) -> usize
-    requires { (count ≤ 128) × (from + count ≤ frame_count book.now) × (first < 16) × (length words.old ≡ 128) }
-    ensures { (result < 16) × (length words.new ≡ 128) × Singles book.now words.new from count }
+    requires { (count ≤ 128) × (from + count ≤ frame_count book.now) × (first < 16) }
+    ensures { (result < 16) × Singles book.now words.new from count }
 {
     let masks = others();
     let mut last = first;

@@ -1,17 +1,15 @@
 -- `four` meets its contract.
+use Prim.Native.Nat.{◌+◌, ◌*◌}
+use native.Mathlib.Omega.{arith}
+use borrow.Author.Rules.{rules}
+use Rattle.sound_table.proofs.Folds.{or-slice}
 use Rattle.sound_table.proofs.Frames.{set_own, set_free}
 use Rattle.sound_table.proofs.rows.four.Goals as goal
 
 pub returns-then-four_own : goal.returns-then-four_own
 returns-then-four_own c =
-    let s = set_own c.args.book.now c.args.from c.args.words.now _ c.args.i c.requires.4 c.requires.0 c.requires.5 c.args.last (c.four_own.ensures c.if-four_own.true) c.put_four.ensures in
-    (c.requires.2, s.0, s.1)
+    (c.requires.2, set_own c.args.book.now c.args.from c.args.words.now _ c.args.i (search rules) c.requires.0 c.requires.4 c.args.last (c.four_own.ensures c.if-four_own.true) c.put_four.ensures)
 
-pub returns-then-four_or-eq0 : goal.returns-then-four_or-eq0
-returns-then-four_or-eq0 c =
-    let s = set_free c.args.book.now c.args.from c.args.words.now _ c.args.i c.requires.4 c.requires.0 c.requires.5 _ c.four_or.ensures c.if-four_or-eq0.true c.put_four-then-four_or-eq0.ensures in
-    (c.requires.2, s.0, s.1)
-
-pub returns : goal.returns
-returns c =
-    (c.place_of.ensures.1 c.requires.2, c.each.ensures.0, c.each.ensures.1)
+pub returns-then-or_of-eq0 : goal.returns-then-or_of-eq0
+returns-then-or_of-eq0 c =
+    (c.requires.2, set_free c.args.book.now c.args.from c.args.words.now _ c.args.i (search rules) c.requires.0 c.requires.4 _ (or-slice c.args.book.now (17 * (c.args.from + c.args.i)) 68 _ _ (omega arith) (omega arith) c.or_of.ensures) c.if-or_of-eq0.true c.put_four-then-or_of-eq0.ensures)

@@ -1,21 +1,16 @@
 -- `four_but` meets its contract.
 use Prim.Native.Nat.{◌+◌, ◌*◌, ◌-◌}
 use native.Mathlib.Omega.{arith}
-use mathlib.Core.Path.{refl}
 use Rattle.sound_table.proofs.Folds.{four-next}
 use Rattle.sound_table.proofs.rows.four_but.Goals as goal
 
 pub loop-i-init : goal.loop-i-init
-loop-i-init c = (refl, refl, omega arith, λ z j lj i l. absurd (omega arith))
+loop-i-init c = λ z j lj i l. absurd (omega arith)
 
 pub loop-i-preserved : goal.loop-i-preserved
 loop-i-preserved c =
-    let l = c.loop-i in (
-      refl,
-      refl,
-      omega arith,
-      four-next c.args.book.now (17 * c.args.k) c.args.n l.i l.a _ (λ x. omega (arith, c.type_inv.book x)) (λ ne. c.requires.2.1 (15 - c.args.n + l.i) (omega (arith, c.requires.1)) (λ e. ne (omega (arith, c.requires.1)))) l.invariant.3,
-    )
+    let l = c.loop-i in
+    four-next c.args.book.now (17 * c.args.k) c.args.n l.i l.a _ (λ x. omega (arith, c.type_inv.book x)) (λ ne. c.requires.2.1 (15 - c.args.n + l.i) (omega (arith, c.requires.1)) (λ e. ne (omega (arith, c.requires.1)))) l.invariant
 
 pub returns : goal.returns
-returns c = λ z j lj i h ne. c.loop-i.invariant.3 z j lj i (omega arith) ne
+returns c = λ z j lj i h ne. c.loop-i.invariant z j lj i (omega arith) ne

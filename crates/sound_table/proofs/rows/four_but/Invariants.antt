@@ -1,11 +1,7 @@
 -- `four_but` meets its contract.
-use Prim.Native.Nat.{◌*◌, ◌-◌, ◌≤◌}
-use mathlib.Core.Path.{◌≡◌}
+use Prim.Native.Nat.{◌*◌}
 use Rattle.sound_table.specs.Rows.{FourBut}
 use Rattle.sound_table.proofs.rows.four_but.Given as goal
 
 abbrev pub invariant-loop-i : goal.invariant-loop-i
-invariant-loop-i l = (l.at ≡ 17 * l.k) × (l.from ≡ 15 - l.n) × (l.i ≤ 16) × FourBut l.book l.at l.n l.i l.a
-
-abbrev pub decreases-loop-i : goal.decreases-loop-i
-decreases-loop-i l = 16 - l.i
+invariant-loop-i l = FourBut l.book (17 * l.k) l.n l.i l.a
