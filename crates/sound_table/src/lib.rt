@@ -221,7 +221,7 @@ impl<'a> Pass<'a> {
         true
     }
 
-    // The pass, block by block. The answer is no where a frame is torn, a mapping is of no part's page, or its rank is taken already.
+    // The pass, block by block, in a loop of its own, since the last block may be shorter. The answer is no where a frame is torn, a mapping is of no part's page, or its rank is taken already.
     fn mark_all(&self, notes: &mut Notes, table: &mut [u16; 1024]) -> bool
         requires { (length self.now.book.now ≤ 17408) × Noted self.now.book.now self.now.plan.now.tags self.now.plan.now.bases self.now.own self.now.pages notes.old.bits table.old 0 }
         ensures { Passed self.now.book.now self.now.plan.now.tags self.now.plan.now.bases self.now.own self.now.pages notes.new.bits table.new (frame_count self.now.book.now) result }
@@ -261,10 +261,8 @@ fn all_marked(bits: &[u64; 256], total: usize) -> bool
 {
     let words = total / 64;
     let mut ok = true;
-    let mut j = 0;
-    while j < words {
+    for j in 0..words {
         ok = ones(bits[j], 64) & ok;
-        j += 1;
     }
     let rest = (total % 64) as u64;
     if rest == 0 {

@@ -1,7 +1,7 @@
 -- `all_marked` meets its contract: `ok` is the test of the ranks of the words below j.
 use Prim.Native.Nat.{ℕ, ◌+◌, ◌*◌, ◌/◌, ◌%◌}
 use native.Mathlib.Omega.{arith}
-use mathlib.Core.Path.{◌≡◌, refl, ap, ap₂, ◌∙◌}
+use mathlib.Core.Path.{◌≡◌, ap, ap₂, ◌∙◌}
 use mathlib.Core.Bool.{◌&&◌}
 use Rattle.spec.specs.Tests.{all_below}
 use Rattle.sound_table.specs.Table.{marked}
@@ -13,14 +13,14 @@ loop-j-preserved c =
     let l = c.loop-j in
     let bits = c.args.bits.now in
     let e : 64 * l.j + 64 ≡ 64 * (l.j + 1) = omega arith in
-    (omega arith, refl, ap₂ ◌&&◌ c.ones-ok.ensures l.invariant.2 ∙ word_more bits l.j 64 (omega arith) ∙ ap (λ (n : ℕ). all_below n (marked bits)) e)
+    ap₂ ◌&&◌ c.ones-ok.ensures l.invariant ∙ word_more bits l.j 64 (omega arith) ∙ ap (λ (n : ℕ). all_below n (marked bits)) e
 
 pub returns-then-rest-eq0 : goal.returns-then-rest-eq0
 returns-then-rest-eq0 c =
     let l = c.loop-j in
     let a = c.args in
     let e : 64 * l.j ≡ a.total = omega arith in
-    l.invariant.2 ∙ ap (λ (n : ℕ). all_below n (marked a.bits.now)) e
+    l.invariant ∙ ap (λ (n : ℕ). all_below n (marked a.bits.now)) e
 
 pub returns : goal.returns
 returns c =
@@ -29,4 +29,4 @@ returns c =
     let bits = a.bits.now in
     let j : l.j ≡ a.total / 64 = omega arith in
     let e : 64 * (a.total / 64) + a.total % 64 ≡ a.total = omega arith in
-    ap₂ ◌&&◌ c.ones.ensures (l.invariant.2 ∙ ap (λ (i : ℕ). all_below (64 * i) (marked bits)) j) ∙ word_more bits (a.total / 64) (a.total % 64) (omega arith) ∙ ap (λ (n : ℕ). all_below n (marked bits)) e
+    ap₂ ◌&&◌ c.ones.ensures (l.invariant ∙ ap (λ (i : ℕ). all_below (64 * i) (marked bits)) j) ∙ word_more bits (a.total / 64) (a.total % 64) (omega arith) ∙ ap (λ (n : ℕ). all_below n (marked bits)) e
