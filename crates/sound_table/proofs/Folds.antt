@@ -1,12 +1,10 @@
 -- An OR of words, one word more.
-use Prim.Native.Nat.{ℕ, ◌+◌, ◌*◌, ◌^◌, ◌<◌, ◌≤◌, ◌-◌, min}
+use Prim.Native.Nat.{ℕ, ◌+◌, ◌*◌, ◌^◌, ◌<◌}
 use native.Mathlib.Omega.{arith}
 use mathlib.Core.Path.{◌≡◌, sym, ap, ◌∙◌}
 use mathlib.Core.List.{List}
 use lib.Dec.{eqb}
-use lib.ListN.{get_or, length, take, drop}
-use Rattle.std.proofs.Common.{length-drop, length-take}
-use Rattle.std.proofs.lemmas.List.{get_or-take, get_or-drop}
+use lib.ListN.{get_or}
 use lib.Bits.{bit_or, bit_and, or_add_and, and_le_l, and_le_r, and_mask, or_lt}
 use borrow.Author.Tests.{eqb-true, eqb-false}
 use Rattle.spec.proofs.Bools.{split}
@@ -21,14 +19,6 @@ or-next book at k a w e h z i l =
     split (eqb i k)
     (λ q. let s = eqb-true i k q in rw s (sym e ∙ p.1))
     (λ q. let ne = eqb-false i k q in h p.0 i (omega arith))
-
--- the OR of a part of the book, as a slice
-pub or-slice : (book : List ℕ) (at n m r : ℕ) → m ≡ n → at + n ≤ length book → OrOf (take m (drop at book)) 0 (length (take m (drop at book))) r → OrOf book at n r
-or-slice book at n m r e h all z i l =
-    let long : length (take m (drop at book)) ≡ n = omega (arith, length-take {A = ℕ} m (drop at book), length-drop {A = ℕ} at book) in
-    let here : get_or (take m (drop at book)) (0 + i) 0 ≡ 0 = all z i (omega arith) in
-    let same : 0 + i ≡ i = omega arith in
-    sym (get_or-take m (drop at book) i 0 (omega arith) ∙ get_or-drop at book i 0) ∙ ap (λ (x : ℕ). get_or (take m (drop at book)) x 0) (sym same) ∙ here
 
 -- ---- all places but one
 

@@ -1,8 +1,5 @@
 -- `four` meets its contract.
-use Prim.Native.Nat.{◌+◌, ◌*◌}
-use native.Mathlib.Omega.{arith}
 use borrow.Author.Rules.{rules}
-use Rattle.sound_table.proofs.Folds.{or-slice}
 use Rattle.sound_table.proofs.Frames.{set_own, set_free}
 use Rattle.sound_table.proofs.rows.four.Goals as goal
 
@@ -12,4 +9,4 @@ returns-then-four_own c =
 
 pub returns-then-or_of-eq0 : goal.returns-then-or_of-eq0
 returns-then-or_of-eq0 c =
-    (c.requires.2, set_free c.args.book.now c.args.from c.args.words.now _ c.args.i (search rules) c.requires.0 c.requires.4 _ (or-slice c.args.book.now (17 * (c.args.from + c.args.i)) 68 _ _ (omega arith) (omega arith) c.or_of.ensures) c.if-or_of-eq0.true c.put_four-then-or_of-eq0.ensures)
+    (c.requires.2, set_free c.args.book.now c.args.from c.args.words.now _ c.args.i (search rules) c.requires.0 c.requires.4 _ c.or_of.ensures c.if-or_of-eq0.true c.put_four-then-or_of-eq0.ensures)

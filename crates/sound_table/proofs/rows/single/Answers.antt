@@ -1,12 +1,10 @@
 -- `single` meets its contract.
-use Prim.Native.Nat.{◌*◌}
 use native.Mathlib.Omega.{arith}
-use Rattle.sound_table.proofs.Folds.{or-slice}
 use Rattle.sound_table.proofs.Frames.{single-none, single-free, single-only, only-own}
 use Rattle.sound_table.proofs.rows.single.Goals as goal
 
 pub returns-then-or_of-eq0 : goal.returns-then-or_of-eq0
-returns-then-or_of-eq0 c = single-free _ _ (record { count = c.if-count-eq0.true; places = or-slice c.args.book.now (17 * c.args.k) 16 _ _ (omega arith) (omega arith) c.or_of.ensures c.if-or_of-eq0.true })
+returns-then-or_of-eq0 c = single-free _ _ (record { count = c.if-count-eq0.true; places = c.or_of.ensures c.if-or_of-eq0.true })
 
 pub returns-then-count-eq0 : goal.returns-then-count-eq0
 returns-then-count-eq0 c = single-none _ _
