@@ -18,7 +18,7 @@ use spec::Procs;
 pub extern "C" fn measured_zero(d: &mut [u8])
     ensures { d.new ≡ replicate (length d.old) 0 }
 {
-    pagealloc::frames::zero(d);
+    d.fill(0);
 }
 
 // `d` becomes `s` if they are equally long, and stays otherwise.
@@ -27,7 +27,7 @@ pub extern "C" fn measured_copy(d: &mut [u8], s: &[u8])
     ensures { d.new ≡ (length d.old is length s.now ⇒ s.now else d.old) }
 {
     if d.len() == s.len() {
-        pagealloc::frames::copy(d, s);
+        d.copy_from_slice(s);
     }
 }
 

@@ -26,7 +26,7 @@ use Rattle.exec_argv.specs.declared.Strings.{Strings}
 use Rattle.exec_argv.specs.declared.ArgvError.{ArgvError}
 use Rattle.exec_argv.specs.declared.ArgvError.TheVariants.{Bad, Over}
 use Rattle.exec_argv.specs.Reading.{held_of, left_in, Reads}
-use Rattle.exec_argv.proofs.Turned.{turn-null, pointer_read, turn-string-bad, turn-string-over, turn-next}
+use Rattle.exec_argv.proofs.Turned.{turn-bad, turn-null, pointer_read, turn-string-bad, turn-string-over, turn-next}
 
 -- what a copy that was not refused leaves begins with the strings
 pub read-strings : (args : List (List ℕ)) (before after : List ℕ) (used : ℕ) → used ≡ length (strings args) → after ≡ left_in before (read args) → take used after ≡ strings args
@@ -88,6 +88,9 @@ module _ {setup : Setup} (mem : Mem) (argv : ℕ) (buf₀ buf : List ℕ) (used 
     here =
         ap (λ (n : ℕ). pointer_at setup mem (argv + 8 * n)) (sym so.counted)
         ∙ sym (told ∙ ap (pointer_at setup mem) (saturated-fits (argv + 8 * count) so.place))
+
+    pub so-bad : (a : ℕ) → p ≡ Err a → (left : List ℕ) → left ≡ replicate (length buf) 0 → Reads (copy_argv setup mem argv) buf₀ (Err (Bad a)) left
+    so-bad a e left z = refused (bad a) (Err (Bad a)) (turn-bad setup mem argv turns so.before a (here ∙ e)) refl left (zeros left z)
 
     pub so-null : p ≡ Ok None → Reads (copy_argv setup mem argv) buf₀ (Ok (record { used = used; count = count })) buf
     so-null e =

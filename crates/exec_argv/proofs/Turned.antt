@@ -17,7 +17,7 @@ use Rattle.spec.specs.Access.{Checked}
 use Rattle.exec_argv.specs.declared.ArgvError.{ArgvError}
 use Rattle.exec_argv.specs.declared.ArgvError.TheVariants.{Bad, Over}
 use Rattle.exec_argv.specs.Places.{pointer_at}
-use Rattle.exec_argv.proofs.Pointing.{was-null, was-string}
+use Rattle.exec_argv.proofs.Pointing.{was-bad, was-null, was-string}
 use Rattle.exec_argv.specs.Strings.{more_of}
 use Rattle.exec_argv.proofs.Buffered.{str-length}
 
@@ -57,6 +57,9 @@ module _ (setup : Setup) (mem : Mem) (argv turns : ℕ) (before : List (List ℕ
 
   abbrev at : ℕ
   at = argv + 8 * length before
+
+  pub turn-bad : (a : ℕ) → pointer_at setup mem at ≡ Err a → argv_from setup mem argv before (suc turns) ≡ bad a
+  turn-bad a e = rw (was-bad (access setup mem false at 8) (le 8 (bytes_at mem at 8) 0 is 0) (le 8 (bytes_at mem at 8) 0) a e)
 
   pub turn-null : pointer_at setup mem at ≡ Ok None → argv_from setup mem argv before (suc turns) ≡ read before
   turn-null e = let w = was-null (access setup mem false at 8) (le 8 (bytes_at mem at 8) 0 is 0) (le 8 (bytes_at mem at 8) 0) e in rw (w.0, w.1)

@@ -60,14 +60,14 @@ pub fn copy_arg(
     let n = match read_string(pages, frames, s, buf, used) {
         Ok(n) => n,
         Err(e) => {
-            pagealloc::zero(buf);
+            buf.fill(0);
             return Err(ArgvError::Bad(e.address));
         }
     };
     let strings = (used + n + 1) as u64;
     let nargs = (count + 1) as u64;
     if n as u64 == limit || exec_args::stack_size(strings, nargs) > limit {
-        pagealloc::zero(buf);
+        buf.fill(0);
         return Err(ArgvError::Over);
     }
     buf[used + n] = 0;

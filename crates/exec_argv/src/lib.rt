@@ -51,7 +51,7 @@ pub fn copy_argv(
             Ok(Some(s)) => s,
             Ok(None) => return Ok(Strings { used, count }),
             Err(address) => {
-                pagealloc::zero(buf);
+                buf.fill(0);
                 return Err(ArgvError::Bad(address));
             }
         };

@@ -1,22 +1,7 @@
 // The bytes of frames. A frame is named by its address in the lent bytes, a `PhysAddr`.
 
-ghost use Rattle.std.specs.Prelude.{◌≡◌, ◌+◌, ◌*◌, ◌^◌, ◌≤◌, ◌<◌, length, replicate};
+ghost use Rattle.std.specs.Prelude.{◌≡◌, ◌+◌, ◌*◌, ◌^◌, ◌≤◌, ◌<◌, length};
 ghost use Rattle.spec.specs.Frames.{put};
-
-// Every byte becomes 0.
-pub fn zero(d: &mut [u8])
-    ensures { d.new ≡ replicate (length d.old) 0 }
-{
-    d.fill(0);
-}
-
-// `d` becomes `s`.
-pub fn copy(d: &mut [u8], s: &[u8])
-    requires { length d.old ≡ length s.now }
-    ensures { d.new ≡ s.now }
-{
-    d.copy_from_slice(s);
-}
 
 // The bytes from `at` on become `s`.
 pub fn write_phys(frames: &mut [u8], at: mem::PhysAddr, s: &[u8])

@@ -15,5 +15,3 @@ pub mod place;
 
 // A process's bytes, written over.
 pub mod user;
-
-pub use frames::{copy, zero};

@@ -50,7 +50,7 @@ impl UserPages<'_> {
         while i < buf.len() {
             let va = addr + i as u64;
             let n = in_page(va, buf.len() - i);
-            pagealloc::frames::copy(&mut buf[i..i + n], self.user_bytes(frames, va, n));
+            buf[i..i + n].copy_from_slice(self.user_bytes(frames, va, n));
             i += n;
         }
     }

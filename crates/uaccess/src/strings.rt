@@ -23,7 +23,7 @@ fn copy_to_nul(d: &mut [u8], s: &[u8]) -> usize
     ensures { (result ≡ to_nul s.now) × (d.new ≡ take result s.now ++ drop result d.old) }
 {
     let n = kstr::to_nul(s);
-    pagealloc::frames::copy(&mut d[..n], &s[..n]);
+    d[..n].copy_from_slice(&s[..n]);
     n
 }
 

@@ -3,12 +3,14 @@
 use Prim.Native.Nat.{ℕ, ◌+◌, ◌*◌}
 use native.Mathlib.Omega.{arith}
 use mathlib.Core.Path.{◌≡◌, ap, ◌∙◌}
+use Rattle.std.proofs.Common.{rules}
+use lib.ListN.{length, replicate}
 use Rattle.std.specs.Prelude.{Option, Some, Result, Ok, Err}
 use Rattle.std.proofs.lemmas.Result.{err_from_is_err_and}
 use Rattle.spec.specs.Frames.{Mem, mem_of, store}
 use Rattle.exec_args.specs.Sizes.{saturated}
 use Rattle.exec_argv.specs.Places.{pointer_at}
-use Rattle.exec_argv.proofs.SoFar.{none_yet, so-null, so-string-refused, so-next}
+use Rattle.exec_argv.proofs.SoFar.{none_yet, so-bad, so-null, so-string-refused, so-next}
 use Rattle.exec_argv.proofs.copy_argv.Goals as goal
 use Rattle.exec_argv.proofs.copy_argv.Goals.{After-read_pointer, In-Ok-Some, Start}
 
@@ -28,6 +30,12 @@ module _ (c : In-Ok-Some) where
 pub loop-s-init : goal.loop-s-init
 loop-s-init c =
     none_yet c.args.pages.now.setup c.args.pages.now.accepted (memory (goal.at.loop-s-init c).Start) c.args.argv c.args.buf.now c.requires.in_bounds (omega arith)
+
+pub returns-in-Err : goal.returns-in-Err
+returns-in-Err c =
+    let i = c.loop-s in
+    let zeros : c.fill.new.self ≡ replicate (length i.buf) 0 = search rules in
+    so-bad (memory (goal.at.returns-in-Err c).Start) c.args.argv c.args.buf.now i.buf i.used i.count i.invariant c.read_pointer.result (pointer (goal.at.returns-in-Err c).After-read_pointer) c.in-Err.address c.in-Err.is c.fill.new.self zeros
 
 pub returns-in-Ok-None : goal.returns-in-Ok-None
 returns-in-Ok-None c =

@@ -36,13 +36,13 @@ user_bytes-requires-clause-n_bound c =
     let i = c.loop-i.i in
     (omega (arith, c.in_page-n.ensures), range-cell u.setup a.frames.now a.frames.now u.book.now u.number false a.addr (length a.buf.now) (a.addr + i) c.requires.in_range (omega arith) (omega arith))
 
-pub copy-requires : goal.copy-requires
-copy-requires c =
+pub copy_from_slice-requires : goal.copy_from_slice-requires
+copy_from_slice-requires c =
     let l = c.loop-i in
     let n = c.in_page-n.result in
     let q : l.i + n - l.i ≡ n = omega arith in
     mid_len l.i (l.i + n) l.buf (omega (arith, c.in_page-n.ensures)) ∙ q
-    ∙ sym (ap length c.user_bytes.ensures ∙ length-bytes (λ b. byte_of (memory (goal.at.copy-requires c).Start b)) (c.args.addr + l.i) n)
+    ∙ sym (ap length c.user_bytes.ensures ∙ length-bytes (λ b. byte_of (memory (goal.at.copy_from_slice-requires c).Start b)) (c.args.addr + l.i) n)
 
 pub loop-i-preserved : goal.loop-i-preserved
 loop-i-preserved c =
@@ -51,7 +51,7 @@ loop-i-preserved c =
     let n = c.in_page-n in (
       omega (arith, n.ensures),
       omega arith,
-      rw l.invariant.2 (read-turn (memory (goal.at.loop-i-preserved c).Start) a.addr l.i n.result a.buf.now _ (omega (arith, n.ensures)) (c.copy.ensures ∙ c.user_bytes.ensures)),
+      rw l.invariant.2 (read-turn (memory (goal.at.loop-i-preserved c).Start) a.addr l.i n.result a.buf.now _ (omega (arith, n.ensures)) (c.copy_from_slice.ensures.after ∙ c.user_bytes.ensures)),
     )
 
 pub returns : goal.returns
