@@ -10,7 +10,8 @@ ghost use Rattle.sound_plan.specs.Plan.{seat as seatOf, max_pages, SmallParts, L
 
 use spec::{DATA, MAX_TOP, Proc, Procs, UserSegment, VirtRange};
 
-// The plan of all pages: the tag of each part, and its base, with the count of all pages after the last. It is zeros before it is laid.
+// The plan of all pages: the tag of each part, and its base, with the count of all pages after the last. No ghost field says that it is one
+// (`Plan` of specs/): it is zeros before it is laid, and again where a call is refused, as the contract of `sound::prepare` says.
 #[derive(Drop)]
 pub struct Plan {
     pub tags: [u64; 272],
@@ -86,7 +87,11 @@ impl Plan {
         requires { k + step < 272 }
         ensures { result ≡ laterOf self.now.tags k step w }
     {
-        if self.tags[k + step] <= w { k + step } else { k }
+        if self.tags[k + step] <= w {
+            k + step
+        } else {
+            k
+        }
     }
 
     // Of an owner's sixteen segments, from `first` on, the last whose tag is at most w, by halves; or `first`.

@@ -91,14 +91,7 @@ impl<'a> Pass<'a> {
 
     // Takes the rank of the page that w, a word of part p, names, and enters frame `k` for it if it is of the process that makes the
     // call. The answer is no where the rank is taken already.
-    fn enter(
-        &self,
-        notes: &mut Notes,
-        table: &mut [u16; 1024],
-        p: usize,
-        w: u64,
-        k: usize,
-    ) -> bool
+    fn enter(&self, notes: &mut Notes, table: &mut [u16; 1024], p: usize, w: u64, k: usize) -> bool
         requires { (p < 272) × (k < 1024) × (hits self.now.plan.now.tags self.now.plan.now.bases w p ≡ true) }
         ensures { Entered self.now.plan.now.tags self.now.plan.now.bases self.now.own self.now.pages notes.old.bits table.old notes.new.bits table.new w k result }
     {
@@ -111,7 +104,13 @@ impl<'a> Pass<'a> {
     }
 
     // The same where the word is of the part that the last word with its owner and permission was of, as it mostly is.
-    fn mark_near(&self, notes: &mut Notes, table: &mut [u16; 1024], w: u64, k: usize) -> Option<bool>
+    fn mark_near(
+        &self,
+        notes: &mut Notes,
+        table: &mut [u16; 1024],
+        w: u64,
+        k: usize,
+    ) -> Option<bool>
         requires { (k < 1024) × (w % 4096 < 272) }
         ensures { Near self.now.plan.now.tags self.now.plan.now.bases self.now.own self.now.pages notes.old.bits table.old notes.new.bits table.new w k result }
     {
@@ -221,7 +220,7 @@ impl<'a> Pass<'a> {
         true
     }
 
-    // The pass, block by block, in a loop of its own, since the last block may be shorter. The answer is no where a frame is torn, a mapping is of no part's page, or its rank is taken already.
+    // The pass, block by block. The answer is no where a frame is torn, a mapping is of no part's page, or its rank is taken already.
     fn mark_all(&self, notes: &mut Notes, table: &mut [u16; 1024]) -> bool
         requires { (length self.now.book.now ≤ 17408) × Noted self.now.book.now self.now.plan.now.tags self.now.plan.now.bases self.now.own self.now.pages notes.old.bits table.old 0 }
         ensures { Passed self.now.book.now self.now.plan.now.tags self.now.plan.now.bases self.now.own self.now.pages notes.new.bits table.new (frame_count self.now.book.now) result }
@@ -230,6 +229,7 @@ impl<'a> Pass<'a> {
         let frames = self.book.len() / 17;
         let mut last = 0;
         let mut k = 0;
+        // By `while`, and not step_by, whose loop would owe a measure and the same sum: the last block may be shorter.
         while k < frames {
             let count = (frames - k).min(128);
             last = singles(self.book, &mut words, k, count, last);
@@ -275,7 +275,11 @@ fn all_marked(bits: &[u64; 256], total: usize) -> bool
 fn base_behind(plan: &Plan, processes: u64) -> u64
     ensures { result ≡ get_or plan.now.bases (17 * processes) 0 }
 {
-    if 16 < processes { 0 } else { plan.bases[17 * processes as usize] }
+    if 16 < processes {
+        0
+    } else {
+        plan.bases[17 * processes as usize]
+    }
 }
 
 // Whether each frame is in order, and the book has the plan's words, each once. If so, `table` has the frames of the pages of process

@@ -40,7 +40,8 @@ fn row_but(book: &[u64], masks: &[u64; 31], k: usize, n: usize) -> u64
     a
 }
 
-// The same of the four frames from `k` on.
+// The same of the four frames from `k` on. The four rows are joined first, so that the masks are read and applied once, and not in each
+// row as by row_but.
 fn four_but(book: &[u64], masks: &[u64; 31], k: usize, n: usize) -> u64
     requires { (17 * k + 68 ≤ length book.now) × (n < 16) × Masks masks.now }
     ensures { FourBut book.now (17 * k) n 16 result }
@@ -189,6 +190,7 @@ pub fn singles(
     let masks = others();
     let mut last = first;
     let mut i = 0;
+    // By `while`: the frames that four don't divide are left to `each`, from the same i on.
     while i + 4 <= count {
         last = four(book, &masks, words, from, i, last);
         i += 4;

@@ -1,6 +1,6 @@
 -- `lay` meets its contract: the first j parts are laid.
 use Prim.Native.Nat.{◌+◌, ◌*◌, ◌≤◌}
-use Rattle.sound_plan.specs.Plan.{max_pages, SmallParts, Laid}
+use Rattle.sound_plan.specs.Plan.{max_pages, Laid}
 use Rattle.sound_plan.proofs.Plan.lay.Given as goal
 
 abbrev pub invariant-loop-j : goal.invariant-loop-j

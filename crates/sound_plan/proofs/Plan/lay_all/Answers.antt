@@ -1,5 +1,4 @@
 -- `lay_all` meets its contract: the parts of the first n processes are laid.
-use Prim.Native.Nat.{◌<◌}
 use native.Mathlib.Omega.{arith}
 use borrow.Author.Rules.{rules}
 use lib.ListN.{length}

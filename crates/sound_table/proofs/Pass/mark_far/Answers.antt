@@ -1,6 +1,5 @@
 -- `mark_far` meets its contract.
-use native.Mathlib.Omega.{arith}
-use Rattle.sound_table.proofs.Words.{entered-none, hints-set}
+use Rattle.sound_table.proofs.Words.{entered-none}
 use Rattle.sound_table.proofs.Pass.mark_far.Goals as goal
 
 pub returns-in_default : goal.returns-in_default

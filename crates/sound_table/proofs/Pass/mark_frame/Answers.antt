@@ -62,8 +62,8 @@ loop-i-preserved c =
     let p = c.args.self.now in
     let k = c.args.k in
     rw (base-is (goal.at.loop-i-preserved c).After-unowned-b) (pass-more p.book.now _ _ p.own p.pages k p.planned l.notes.bits l.table l.i l.base l.seen (omega arith) l.invariant _ (word-is p.book.now k l.i) c.if-w-eq0.false (owner-is (goal.at.loop-i-preserved c).After-unowned-b)
-        (λ ne. elim c.if-seen-ne0.branch [ then-seen-ne0+else-b-base+else-perm_of-eq-DATA w ↦ (sym (base-is (goal.at.loop-i-preserved c).After-unowned-b) ∙ w.if-b-base.false, λ z. w.if-perm_of-eq-DATA.false (w.perm_of.ensures ∙ ap perm_of w.if-b-base.false ∙ z)) | else-seen-ne0 w ↦ absurd (ne w.if-seen-ne0.false) ])
-        _ _ _ c.if-not-mark_word.false c.mark_word.ensures)
+    (λ ne. elim c.if-seen-ne0.branch [ then-seen-ne0+else-b-base+else-perm_of-eq-DATA w ↦ (sym (base-is (goal.at.loop-i-preserved c).After-unowned-b) ∙ w.if-b-base.false, λ z. w.if-perm_of-eq-DATA.false (w.perm_of.ensures ∙ ap perm_of w.if-b-base.false ∙ z)) | else-seen-ne0 w ↦ absurd (ne w.if-seen-ne0.false) ])
+    _ _ _ c.if-not-mark_word.false c.mark_word.ensures)
 
 pub loop-i-preserved-then-w-eq0 : goal.loop-i-preserved-then-w-eq0
 loop-i-preserved-then-w-eq0 c =

@@ -1,6 +1,4 @@
 -- `mark_frame` meets its contract.
-use Prim.Native.Nat.{◌*◌}
-use mathlib.Core.Path.{◌≡◌}
 use Rattle.sound_table.proofs.RowPass.{Row}
 use Rattle.sound_table.proofs.Pass.mark_frame.Given as goal
 
