@@ -32,10 +32,10 @@ fn row_but(book: &[u64], masks: &[u64; 31], k: usize, n: usize) -> u64
     ensures { OrBut book.now (17 * k) n 16 result }
 {
     let at = 17 * k;
-    let from = 15 - n;
+    let others = &masks[15 - n..31 - n];
     let mut a: u64 = 0;
     for i in 0..16 {
-        a = a | (book[at + i] & masks[from + i]);
+        a = a | (book[at + i] & others[i]);
     }
     a
 }
