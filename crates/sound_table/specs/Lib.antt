@@ -1,3 +1,4 @@
--- The pass over the book, and the table that it leaves.
+-- The pass over the book, and the table that it leaves; the same of a `Pass`.
 pub mod Rows
 pub mod Table
+pub mod Going

@@ -79,6 +79,8 @@ impl Notes {
 }
 
 impl<'a> Pass<'a> {
+    ghost use Rattle.sound_table.specs.Going.{Going, Enters, EntersNear, PassesFrame, PassesTo};
+
     // Enters frame `k` for a rank that is of the process that makes the call.
     fn store(&self, table: &mut [u16; 1024], rank: u64, k: usize)
         requires { k < 1024 }
@@ -93,7 +95,7 @@ impl<'a> Pass<'a> {
     // call. The answer is no where the rank is taken already.
     fn enter(&self, notes: &mut Notes, table: &mut [u16; 1024], p: usize, w: u64, k: usize) -> bool
         requires { (p < 272) × (k < 1024) × (hits self.now.plan.now.tags self.now.plan.now.bases w p ≡ true) }
-        ensures { Entered self.now.plan.now.tags self.now.plan.now.bases self.now.own self.now.pages notes.old.bits table.old notes.new.bits table.new w k result }
+        ensures { Enters self.now notes.old.bits table.old notes.new.bits table.new w k result }
     {
         let rank = self.plan.bases[p] + (w - self.plan.tags[p]) / 4096;
         if !notes.take(rank) {
@@ -112,7 +114,7 @@ impl<'a> Pass<'a> {
         k: usize,
     ) -> Option<bool>
         requires { (k < 1024) × (w % 4096 < 272) }
-        ensures { Near self.now.plan.now.tags self.now.plan.now.bases self.now.own self.now.pages notes.old.bits table.old notes.new.bits table.new w k result }
+        ensures { EntersNear self.now notes.old.bits table.old notes.new.bits table.new w k result }
     {
         let hint = notes.hints[hint_at(w)];
         if !self.plan.hits(hint, w) {
@@ -124,7 +126,7 @@ impl<'a> Pass<'a> {
     // The same by a search for the part, which is the hint from then on. Where no part has the word, the answer is no.
     fn mark_far(&self, notes: &mut Notes, table: &mut [u16; 1024], w: u64, k: usize) -> bool
         requires { (k < 1024) × (w % 4096 < 272) }
-        ensures { Entered self.now.plan.now.tags self.now.plan.now.bases self.now.own self.now.pages notes.old.bits table.old notes.new.bits table.new w k result }
+        ensures { Enters self.now notes.old.bits table.old notes.new.bits table.new w k result }
     {
         let Some(p) = self.plan.part_of(w) else {
             return false;
@@ -136,7 +138,7 @@ impl<'a> Pass<'a> {
     // The same with the hint tried first.
     fn mark_word(&self, notes: &mut Notes, table: &mut [u16; 1024], w: u64, k: usize) -> bool
         requires { (k < 1024) × (w % 4096 < 272) }
-        ensures { Entered self.now.plan.now.tags self.now.plan.now.bases self.now.own self.now.pages notes.old.bits table.old notes.new.bits table.new w k result }
+        ensures { Enters self.now notes.old.bits table.old notes.new.bits table.new w k result }
     {
         match self.mark_near(notes, table, w, k) {
             Some(entered) => entered,
@@ -148,8 +150,8 @@ impl<'a> Pass<'a> {
     // alone, and the count is theirs.
     fn mark_frame(&self, notes: &mut Notes, table: &mut [u16; 1024], k: usize) -> bool
         requires k_bound { (k < 1024) × (k < frame_count self.now.book.now) }
-        requires planned { Planned self.now.book.now self.now.plan.now.tags self.now.plan.now.bases (16 * k) × Noted self.now.book.now self.now.plan.now.tags self.now.plan.now.bases self.now.own self.now.pages notes.old.bits table.old (16 * k) }
-        ensures { Passes self.now.book.now self.now.plan.now.tags self.now.plan.now.bases self.now.own self.now.pages notes.new.bits table.new k result }
+        requires planned { Going self.now notes.old.bits table.old (16 * k) }
+        ensures { PassesFrame self.now notes.new.bits table.new k result }
     {
         let first = 17 * k;
         let mut base: u64 = 0;
@@ -184,8 +186,8 @@ impl<'a> Pass<'a> {
     // only mapping's two tries are written out: mark_word, used twice, would be compiled as a call, which took 1.1 times as long.
     fn mark_row(&self, notes: &mut Notes, table: &mut [u16; 1024], w: u64, k: usize) -> bool
         requires k_bound { (k < 1024) × (k < frame_count self.now.book.now) × Single self.now.book.now k w }
-        requires planned { Planned self.now.book.now self.now.plan.now.tags self.now.plan.now.bases (16 * k) × Noted self.now.book.now self.now.plan.now.tags self.now.plan.now.bases self.now.own self.now.pages notes.old.bits table.old (16 * k) }
-        ensures { Passes self.now.book.now self.now.plan.now.tags self.now.plan.now.bases self.now.own self.now.pages notes.new.bits table.new k result }
+        requires planned { Going self.now notes.old.bits table.old (16 * k) }
+        ensures { PassesFrame self.now notes.new.bits table.new k result }
     {
         if w == 0 {
             return self.mark_frame(notes, table, k);
@@ -209,8 +211,8 @@ impl<'a> Pass<'a> {
         count: usize,
     ) -> bool
         requires count_bound { (count ≤ 128) × (from + count ≤ 1024) × (from + count ≤ frame_count self.now.book.now) × Singles self.now.book.now words.now from count }
-        requires planned { Planned self.now.book.now self.now.plan.now.tags self.now.plan.now.bases (16 * from) × Noted self.now.book.now self.now.plan.now.tags self.now.plan.now.bases self.now.own self.now.pages notes.old.bits table.old (16 * from) × FramedAll self.now.book.now from }
-        ensures { Passed self.now.book.now self.now.plan.now.tags self.now.plan.now.bases self.now.own self.now.pages notes.new.bits table.new (from + count) result }
+        requires planned { Going self.now notes.old.bits table.old (16 * from) × FramedAll self.now.book.now from }
+        ensures { PassesTo self.now notes.new.bits table.new (from + count) result }
     {
         for i in 0..count {
             if !self.mark_row(notes, table, words[i], from + i) {
@@ -223,7 +225,7 @@ impl<'a> Pass<'a> {
     // The pass, block by block. The answer is no where a frame is torn, a mapping is of no part's page, or its rank is taken already.
     fn mark_all(&self, notes: &mut Notes, table: &mut [u16; 1024]) -> bool
         requires { (length self.now.book.now ≤ 17408) × Noted self.now.book.now self.now.plan.now.tags self.now.plan.now.bases self.now.own self.now.pages notes.old.bits table.old 0 }
-        ensures { Passed self.now.book.now self.now.plan.now.tags self.now.plan.now.bases self.now.own self.now.pages notes.new.bits table.new (frame_count self.now.book.now) result }
+        ensures { PassesTo self.now notes.new.bits table.new (frame_count self.now.book.now) result }
     {
         let mut words = [0u64; 128];
         let frames = self.book.len() / 17;

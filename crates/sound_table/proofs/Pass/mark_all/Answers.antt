@@ -22,7 +22,7 @@ pub mark_block-requires : goal.mark_block-requires
 mark_block-requires c =
     let l = c.loop-k in
     let f = frames-few _ c.requires.0 in
-    record { count_bound = (omega arith, omega arith, omega arith, c.singles-last.ensures.1); planned = (l.invariant.2, l.invariant.3, l.invariant.4) }
+    record { count_bound = (omega arith, omega arith, omega arith, c.singles-last.ensures.1); planned = ((l.invariant.2, l.invariant.3), l.invariant.4) }
 
 pub returns-then-not-mark_block : goal.returns-then-not-mark_block
 returns-then-not-mark_block c = record { yes = λ e. absurd (false≢true e); no = λ e p all. c.mark_block.ensures.no c.if-not-mark_block.true p all }

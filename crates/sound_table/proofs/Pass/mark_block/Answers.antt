@@ -19,7 +19,7 @@ next from i = omega arith
 pub loop-i-init : goal.loop-i-init
 loop-i-init c =
     let e = start c.args.from in
-    (rw e at c.requires.planned.0, rw e at c.requires.planned.1, rw e at c.requires.planned.2)
+    (rw e at c.requires.planned.0.0, rw e at c.requires.planned.0.1, rw e at c.requires.planned.1)
 
 pub mark_row-requires : goal.mark_row-requires
 mark_row-requires c =
