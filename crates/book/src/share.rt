@@ -41,6 +41,7 @@ pub fn share_pages(book: &mut [u64], parent: usize, child: usize)
     requires by_index { (k : ℕ) → k < frame_count book.old → holders book.old k ≤ 16 }
     ensures { (frames : List ℕ) → store frames book.new ≡ share (store frames book.old) parent child }
 {
+    // A pass as `release` makes one. No function holds both: which word is read, which is written and how the count goes all differ.
     for k in 0..book.len() / 17 {
         let w = book[17 * k + (parent - 1)];
         if is_shared(w) {

@@ -21,6 +21,7 @@ pub fn write_user(frames: &mut [u8], book: &[u64], owner: u64, addr: u64, bytes:
     requires mapped { Mapped book.now owner (page_down addr) (addr + length bytes.now) }
     ensures { store frames.new book.now ≡ pokes (store frames.old book.now) owner addr bytes.now }
 {
+    // A part ends where its page does, so no method of slices cuts the bytes so: `i` and its part's length say it plainly.
     let mut i = 0;
     while i < bytes.len() {
         let a = addr + (i as u64);
