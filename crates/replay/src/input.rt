@@ -9,6 +9,7 @@ use std::io::Read;
 pub(crate) const INPUT_SIZE: usize = LINE_MAX + 1 + 65536;
 
 // The bytes from `at` to `end` aren't taken yet, and if the input has ended, there are no more.
+#[derive(Drop)]
 pub(crate) struct Input {
     pub(crate) bytes: [u8; INPUT_SIZE],
     pub(crate) at: usize,
@@ -21,7 +22,11 @@ impl Input {
     fn line_end(&self) -> Option<usize> {
         let there = part(&self.bytes, 0, self.end);
         let end = words::end(there, self.at, b'\n').min(there.len());
-        if end < self.end || self.ended { Some(end) } else { None }
+        if end < self.end || self.ended {
+            Some(end)
+        } else {
+            None
+        }
     }
 
     // Reads more of a line, behind what there is of it. Of one that is too long no more is kept than shows it.

@@ -9,17 +9,17 @@ use input::{INPUT_SIZE, Input};
 use replay_buffers::room::part;
 use replay_replies::Reply;
 use replay_script::asked::{Asked, FRAMES_MAX};
-use replay_script::taken::Buffers;
+use replay_script::taken::{ARG_BYTES, ARGS, BYTES, Buffers, NAME_SIZE};
 use replay_session::{BOOK_SIZE, BOOK_WORDS, FRAME_BYTES, FRAMES_SIZE, Session, run};
 use spec::{Proc, Procs};
-use std::fmt;
 use std::fmt::Formatter;
-use std::io;
 use std::io::{Read, Write};
 use std::process::ExitCode;
 use std::rt::Files;
+use std::{fmt, io};
 
 // Why no further line is run.
+#[derive(Drop)]
 enum Failed {
     Input(io::Error),
     Output(io::Error),
@@ -35,6 +35,7 @@ impl fmt::Display for Failed {
 }
 
 // The program's memory.
+#[derive(Drop)]
 struct Memory {
     frames: [u8; FRAMES_SIZE],
     book: [u64; BOOK_SIZE],
@@ -94,7 +95,13 @@ fn turn<W: Write>(
     let a = asked.unwrap_or(Asked::Nothing);
     let mut next = after(s, a);
     run::set(&mut memory.book, a);
-    let left = run::run(&mut memory.frames, &mut memory.book, &mut memory.buffers, &next, a);
+    let left = run::run(
+        &mut memory.frames,
+        &mut memory.book,
+        &mut memory.buffers,
+        &next,
+        a,
+    );
     next.procs = left.procs;
     let reply = Reply {
         setup: next.setup,
@@ -137,7 +144,12 @@ fn main(rt: HostRuntime) -> ExitCode {
     let mut memory = Memory {
         frames: [0; FRAMES_SIZE],
         book: [0; BOOK_SIZE],
-        buffers: Buffers::default(),
+        buffers: Buffers {
+            name: [0; NAME_SIZE],
+            args: [0; ARG_BYTES],
+            list: [0; ARGS],
+            bytes: [0; BYTES],
+        },
     };
     let (mut from, mut out) = (rt.stdin(), rt.stdout());
     match replay(&rt, &mut from, &mut out, &mut memory) {

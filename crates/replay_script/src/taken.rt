@@ -5,20 +5,23 @@ use replay_buffers::{bytes, room, words};
 use std::rt::Files;
 
 // As much of a name as a record keeps.
-const NAME_SIZE: usize = 28;
+pub const NAME_SIZE: usize = 28;
 
 // As many bytes of arguments as are over the limit of a start or push, and so many arguments that they are over it too.
-const ARG_BYTES: usize = spec::MAX_ARGS as usize;
+pub const ARG_BYTES: usize = spec::MAX_ARGS as usize;
 
-const ARGS: usize = ARG_BYTES / 8;
+pub const ARGS: usize = ARG_BYTES / 8;
 
-// A name; the bytes of arguments; their lengths, or the numbers of a list of segments; and other bytes, with one more than a file may
-// have, by which a longer one is seen to be one.
+// One more byte than a file may have, by which a longer one is seen to be one.
+pub const BYTES: usize = FILE_MAX + 1;
+
+// A name; the bytes of arguments; their lengths, or the numbers of a list of segments; and other bytes.
+#[derive(Drop)]
 pub struct Buffers {
     pub name: [u8; NAME_SIZE],
     pub args: [u8; ARG_BYTES],
     pub list: [u64; ARGS],
-    pub bytes: [u8; FILE_MAX + 1],
+    pub bytes: [u8; BYTES],
 }
 
 // What a word is as a number.
