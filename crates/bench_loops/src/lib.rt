@@ -11,6 +11,7 @@ ghost use Rattle.spec.specs.Sound.{sound_book};
 ghost use Rattle.spec.specs.Flags.{built_in};
 ghost use Rattle.spec.specs.Elf.{elf_error};
 
+use sound::Lookup;
 use spec::Procs;
 
 // Every byte becomes 0.
@@ -48,18 +49,8 @@ pub extern "C" fn measured_sound(book: &[u64], procs: Procs) -> bool
     if 17408 < book.len() {
         return false;
     }
-    let mut tags = [0u64; 272];
-    let mut bases = [0u64; 273];
-    let mut table = [0u16; 1024];
-    sound::prepare(
-        setup::deposit(),
-        book,
-        procs,
-        1,
-        &mut tags,
-        &mut bases,
-        &mut table,
-    ) == 0
+    let mut lookup = Lookup::new();
+    sound::prepare(setup::deposit(), book, procs, 1, &mut lookup).is_ok()
 }
 
 // The number that an image is refused with by the ELF reader under the built-in flag table, or 0.
@@ -67,5 +58,8 @@ pub extern "C" fn measured_sound(book: &[u64], procs: Procs) -> bool
 pub extern "C" fn measured_parse(image: &[u8]) -> u64
     ensures { result ≡ elf_error built_in image.now }
 {
-    elf::number_of(setup::BUILT_IN, image)
+    match elf::parse(setup::BUILT_IN, image) {
+        Ok(_) => 0,
+        Err(e) => u64::from(e),
+    }
 }

@@ -10,7 +10,8 @@ pub fn form_of(aout: bool, magic: u32) -> Form
     ensures { result ≡ form_of aout magic }
 {
     if aout {
-        return Form::Aout(magic);
+        Form::Aout(magic)
+    } else {
+        Form::Elf
     }
-    Form::Elf
 }

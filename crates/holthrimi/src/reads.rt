@@ -24,7 +24,7 @@ pub extern "C" fn holthrimi_user_range_ok(
 {
     let records = *procs;
     let answer = call_access::user_range_ok(setup, frames, book, records, number, addr, len, write);
-    crate::told::tell(answer)
+    Told::from(answer)
 }
 
 #[unsafe(no_mangle)]
@@ -43,5 +43,5 @@ pub extern "C" fn holthrimi_try_copy_str_from_user(
     let answer = call_access::try_copy_str_from_user(
         setup, frames, book, records, number, dst, src,
     );
-    crate::told::tell(answer)
+    Told::from(answer)
 }

@@ -34,7 +34,7 @@ pub extern "C" fn holthrimi_start(
         setup, frames, book, before, number, form, image, name, bytes, lengths,
     );
     *procs = left.procs;
-    crate::told::tell(left.answer)
+    Told::from(left.answer)
 }
 
 #[unsafe(no_mangle)]
@@ -56,7 +56,7 @@ pub extern "C" fn holthrimi_replace(
     let form = crate::form::form_of(aout, magic);
     let left = call_replace::replace(setup, frames, book, before, number, form, image, name, argv);
     *procs = left.procs;
-    crate::told::tell(left.answer)
+    Told::from(left.answer)
 }
 
 #[unsafe(no_mangle)]
@@ -76,7 +76,7 @@ pub extern "C" fn holthrimi_push(
     let before = *procs;
     let left = call_push::push(setup, frames, book, before, number, pc, top, bytes, lengths);
     *procs = left.procs;
-    crate::told::tell(left.answer)
+    Told::from(left.answer)
 }
 
 #[unsafe(no_mangle)]
@@ -93,7 +93,7 @@ pub extern "C" fn holthrimi_break(
     let before = *procs;
     let left = call_break::brk(setup, frames, book, before, number, addr);
     *procs = left.procs;
-    crate::told::tell(left.answer)
+    Told::from(left.answer)
 }
 
 // The child's segments are its parent's record's.
@@ -111,7 +111,7 @@ pub extern "C" fn holthrimi_fork(
     let before = *procs;
     let left = call_fork::fork(setup, frames, book, before, number, child);
     *procs = left.procs;
-    crate::told::tell(left.answer)
+    Told::from(left.answer)
 }
 
 // The same with the parent's recorded segments lent as a list, which the call compares with the record.
@@ -130,7 +130,7 @@ pub extern "C" fn holthrimi_fork_list(
     let before = *procs;
     let left = call_fork::fork_list(setup, frames, book, before, number, child, segments);
     *procs = left.procs;
-    crate::told::tell(left.answer)
+    Told::from(left.answer)
 }
 
 #[unsafe(no_mangle)]
@@ -146,7 +146,7 @@ pub extern "C" fn holthrimi_end(
     let before = *procs;
     let left = call_end::end(setup, frames, book, before, number);
     *procs = left.procs;
-    crate::told::tell(left.answer)
+    Told::from(left.answer)
 }
 
 #[unsafe(no_mangle)]
@@ -164,7 +164,7 @@ pub extern "C" fn holthrimi_copy_from_user(
     let before = *procs;
     let left = call_access::copy_from_user(setup, frames, book, before, number, dst, src);
     *procs = left.procs;
-    crate::told::tell(left.answer)
+    Told::from(left.answer)
 }
 
 #[unsafe(no_mangle)]
@@ -182,5 +182,5 @@ pub extern "C" fn holthrimi_copy_to_user(
     let before = *procs;
     let left = call_access::copy_to_user(setup, frames, book, before, number, dst, bytes);
     *procs = left.procs;
-    crate::told::tell(left.answer)
+    Told::from(left.answer)
 }

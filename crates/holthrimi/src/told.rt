@@ -3,7 +3,6 @@
 
 ghost use Rattle.std.specs.Prelude.{◌≡◌};
 ghost use Rattle.spec.specs.Machine.{zero_regs};
-ghost use Rattle.holthrimi.specs.Tells.{told_of};
 
 use spec::{Answer, UserRegs};
 
@@ -18,27 +17,15 @@ pub struct Told {
     pub regs: UserRegs,
 }
 
-fn zero_regs() -> UserRegs
-    ensures { result ≡ zero_regs }
-{
-    UserRegs {
-        pc: 0,
-        sp: 0,
-        argc: 0,
-        argv: 0,
-    }
-}
-
 // An answer without registers.
 fn plain(kind: u64, number: u64, value: u64) -> Told
     ensures { result ≡ record { kind = kind; number = number; value = value; regs = zero_regs } }
 {
-    let regs = zero_regs();
     Told {
         kind,
         number,
         value,
-        regs,
+        regs: UserRegs::default(),
     }
 }
 
@@ -54,17 +41,22 @@ fn entered(regs: UserRegs) -> Told
     }
 }
 
-pub fn tell(a: Answer) -> Told
-    ensures { result ≡ told_of a }
-{
-    match a {
-        Answer::Regs(regs) => entered(regs),
-        Answer::Value(value) => plain(0, 0, value),
-        Answer::Done => plain(0, 0, 0),
-        Answer::No(address) => plain(3, 0, address),
-        Answer::Refused(number) => plain(1, number, 0),
-        Answer::Ended(number) => plain(2, number, 0),
-        Answer::RefusedAt(address) => plain(1, spec::BAD_ADDRESS, address),
-        Answer::EndedAt(address) => plain(2, spec::BAD_ADDRESS, address),
+impl From<Answer> for Told {
+    ghost use Rattle.std.specs.Prelude.{◌≡◌};
+    ghost use Rattle.holthrimi.specs.Tells.{told_of};
+
+    ghost from_gives = { λ a told. told ≡ told_of a };
+
+    fn from(a: Answer) -> Told {
+        match a {
+            Answer::Regs(regs) => entered(regs),
+            Answer::Value(value) => plain(0, 0, value),
+            Answer::Done => plain(0, 0, 0),
+            Answer::No(address) => plain(3, 0, address),
+            Answer::Refused(number) => plain(1, number, 0),
+            Answer::Ended(number) => plain(2, number, 0),
+            Answer::RefusedAt(address) => plain(1, spec::BAD_ADDRESS, address),
+            Answer::EndedAt(address) => plain(2, spec::BAD_ADDRESS, address),
+        }
     }
 }

@@ -3,7 +3,6 @@
 use mathlib.Core.Path.{subst}
 use mathlib.Core.List.{List}
 use Prim.Native.Nat.{◌*◌}
-use native.Mathlib.Nat.{sub-zero}
 use native.Mathlib.Omega.{arith}
 use lib.Dec.{ltb}
 use lib.ListN.{take, drop}
@@ -36,9 +35,8 @@ returns c =
     let a = c.args in
     let after = state_of a.setup d.new.frames d.new.book d.result.procs in
     let Forks : List UserSegment → Type 0 = λ gs. Does (state (goal.at.returns c).Start) (call a.number (fork a.child gs)) after (plainly d.result.answer) in
-    let lent : Forks (take n.result l.result) = rw (sub-zero n.result) at d.ensures in
     split (ltb n.result 17)
-    (λ q. subst Forks (whole a.triples.now n.result (take n.result l.result) (n.ensures.2 (ltb-true n.result 17 q)) l.ensures.1) lent)
+    (λ q. subst Forks (whole a.triples.now n.result (take n.result l.result) (n.ensures.2 (ltb-true n.result 17 q)) l.ensures.1) d.ensures)
     (λ q.
     let e = length-take-le n.result l.result (omega (arith, n.ensures.0, l.ensures.0)) in
-    subst Forks l.ensures.1 (longer (state (goal.at.returns c).Start) a.number a.child (take n.result l.result) (list_of (drop (3 * n.result) a.triples.now)) (records-whole (goal.at.returns c).Start) (omega (arith, e, n.ensures.0, ltb-false n.result 17 q)) {t = after} lent))
+    subst Forks l.ensures.1 (longer (state (goal.at.returns c).Start) a.number a.child (take n.result l.result) (list_of (drop (3 * n.result) a.triples.now)) (records-whole (goal.at.returns c).Start) (omega (arith, e, n.ensures.0, ltb-false n.result 17 q)) {t = after} d.ensures))
