@@ -4,7 +4,7 @@ use mathlib.Core.Path.{◌≡◌, refl, sym, ap, ◌∙◌}
 use mathlib.Core.Bool.{Bool, true, false}
 use mathlib.Core.List.{List, [], ◌∷◌, ◌++◌, append_assoc}
 use Prim.Native.Nat.{ℕ, ◌-◌, ◌<◌, ◌≤◌}
-use lib.ListN.{length, replicate}
+use lib.ListN.{length, take, replicate, length-take}
 use lib.Seq.{take-append_seam}
 use borrow.Author.Tests.{lt-ltb, le-ltb, eq-eqb, ne_eqb}
 use Rattle.spec.specs.Tests.{◌isnt◌, ◌⇒◌else◌, ascii}
@@ -17,12 +17,15 @@ use Rattle.spec.specs.Exec.{image_error, program_segments, program_bss, start_pi
 use Rattle.spec.specs.Listing.{list_error, program_text, listing}
 use Rattle.spec.specs.declared.UserSegment.{UserSegment}
 use Rattle.spec.specs.declared.Form.TheVariants.{Elf}
-use Rattle.spec.proofs.Setups.{deposit-ok}
-use Rattle.exec.specs.Plan.{accepted_plan, plan_of}
-use Rattle.exec.proofs.Planned.{plan-accepted}
+use native.Mathlib.Omega.{arith}
+use Rattle.spec.specs.declared.Setup.{Setup}
+use Rattle.spec.specs.declared.VirtRange.{VirtRange}
+use Rattle.image.specs.Images.{program}
+use Rattle.exec.specs.declared.Plan.{Plan}
+use Rattle.exec.proofs.Planned.{plan-means, same-program}
+use Rattle.exec.specs.Plan.{SameImage}
 use Rattle.text.specs.Text.{number_text, field_text}
-use Rattle.listing_lines.specs.Lines.{span_text, lines_text}
-use Rattle.listing_lines.specs.Plan.{plan_text}
+use Rattle.listing_lines.specs.Lines.{span_text, lines_text, listed_text}
 
 module _ (image : List ℕ) where
   -- ---- what it is refused for
@@ -67,11 +70,31 @@ shut : (p : Program) → lines (number_text p.entry) (lines_text (program_segmen
 unfolding number_text lines_text span_text
 shut p = refl
 
-accepted-plan : (p : Program) → plan_text (accepted_plan deposit p) ≡ program_text p
-accepted-plan p =
-    let us = program_segments p in
-    ap (λ (vs : List UserSegment). field_text (ascii "entry=") p.entry ++ lines_text vs ++ ascii "bss=" ++ span_text (program_bss p) ++ field_text (ascii "pages=") (page_count (start_pieces deposit p))) (take-append_seam us (stack deposit ∷ replicate (15 - length us) zero_segment))
-    ∙ as-put (number_text p.entry) (lines_text us) (span_text (program_bss p)) (number_text (page_count (start_pieces deposit p))) ∙ shut p
+-- a program's lines as they are put
+put-text : (p : Program) → listed_text p ≡ program_text p
+put-text p = as-put (number_text p.entry) (lines_text (program_segments p)) (span_text (program_bss p)) (number_text (page_count (start_pieces deposit p))) ∙ shut p
 
-pub plan-text : (image : List ℕ) → 0 ≡ list_error image → image_error deposit Elf image ≡ 0 → plan_text (plan_of deposit Elf image) ≡ listing image
-plan-text image z e = ap plan_text (plan-accepted deposit Elf image deposit-ok e) ∙ accepted-plan (elf_program built_in image) ∙ sym (accepted-text image z)
+-- ---- what a plan's lines are
+
+abbrev text : ℕ → List UserSegment → VirtRange → ℕ → List ℕ
+text entry us bss pages = field_text (ascii "entry=") entry ++ lines_text us ++ ascii "bss=" ++ span_text bss ++ field_text (ascii "pages=") pages
+
+module _ (plan : Plan) where
+  pub plan-few : length (take plan.count plan.segments) ≤ 15
+  plan-few = simp length-take (omega (arith, plan.counted, (plan-means plan).few))
+
+  pub plan-listed : plan.image.setup ≡ deposit → text plan.entry (take plan.count plan.segments) plan.bss plan.pages ≡ listed_text (program plan.image)
+  plan-listed e = alike plan.entered segments plan.behind (plan.taken ∙ ap (λ (u : Setup). page_count (start_pieces u (program plan.image))) e)
+    where
+      alike : {a b : ℕ} {us vs : List UserSegment} {r s : VirtRange} {n m : ℕ} → a ≡ b → us ≡ vs → r ≡ s → n ≡ m → text a us r n ≡ text b vs s m
+      alike p q r s = cc
+
+      segments : take plan.count plan.segments ≡ program_segments (program plan.image)
+      segments =
+          let us = program_segments (program plan.image) in
+          rw (plan.recorded, plan.counted) (take-append_seam us (stack plan.image.setup ∷ replicate (15 - length us) zero_segment))
+
+-- the lines of an image's plan are its listing
+pub shown-text : (image : List ℕ) (plan : Plan) → SameImage plan.image deposit Elf image → 0 ≡ list_error image → listed_text (program plan.image) ≡ listing image
+shown-text image plan s z =
+    ap listed_text (same-program plan.image deposit Elf image s) ∙ put-text (elf_program built_in image) ∙ sym (accepted-text image z)

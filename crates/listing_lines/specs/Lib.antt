@@ -1,3 +1,2 @@
 -- What the contracts of this crate cite besides the specification.
 pub mod Lines
-pub mod Plan
