@@ -8,7 +8,12 @@ mod push_args;
 ghost use Rattle.spec.specs.Machine.{push, plainly, call};
 ghost use Rattle.spec.specs.World.{Does, state_of};
 
-use spec::{Answer, Checked, Left, Procs, Setup};
+use crate::push_args::{push_args, push_ok};
+use call_front::numbers::plain_ready;
+use call_front::{bad_address, refused};
+use sound::Lookup;
+use spec::{Answer, Left, Procs, Refusal, Setup};
+use uaccess::UserPages;
 
 // Pushes arguments below `top` in the memory of process `number`, and answers the registers to start at `pc` with. Refused with 1, 38, 39,
 // 2 to 4, with 36 for a top that isn't 16-byte aligned, and with 32 or 33 for the arguments, it changes nothing. A push below address 0,
@@ -26,49 +31,30 @@ pub fn push(
 ) -> Left
     ensures { Does (state_of setup frames.old book.old procs) (call number (push pc top bytes.now lengths.now)) (state_of setup frames.new book.new result.procs) (plainly result.answer) }
 {
-    let mut tags = [0u64; 272];
-    let mut bases = [0u64; 273];
-    let mut table = [0u16; 1024];
     let fits = exec_args::lengths_fit(bytes, lengths);
-    let e = call_front::numbers::plain_ready(
-        setup, frames, book, procs, number, fits, &mut tags, &mut bases, &mut table,
-    );
-    if e != 0 {
-        return Left {
-            procs: procs,
-            answer: Answer::Refused(e),
-        };
+    let mut lookup = Lookup::new();
+    if let Err(e) = plain_ready(setup, frames, book, procs, number, fits, &mut lookup) {
+        return refused(procs, e);
     }
     if top % 16 != 0 {
-        return Left {
-            procs: procs,
-            answer: Answer::Refused(spec::TOP),
-        };
+        return refused(procs, Refusal::Top);
     }
-    let s = exec_args::args_size(setup, bytes, lengths);
-    let error = s.error;
-    let size = s.strings;
-    if error != 0 {
-        return Left {
-            procs: procs,
-            answer: Answer::Refused(error),
-        };
+    let size = match exec_args::args_size(setup, bytes, lengths) {
+        Ok(size) => size,
+        Err(e) => return refused(procs, e),
+    };
+    let pages = UserPages {
+        setup,
+        book,
+        lookup: &lookup,
+        number,
+    };
+    if let Err(address) = push_ok(&pages, top, size, lengths) {
+        return bad_address(book, procs, number, address);
     }
-    let access = crate::push_args::push_ok(
-        setup, book, &tags, &bases, &table, number, top, size, lengths,
-    );
-    if let Checked::Bad(address) = access {
-        let after = call_front::ending::forget(book, procs, number);
-        return Left {
-            procs: after,
-            answer: Answer::EndedAt(address),
-        };
-    }
-    let regs = crate::push_args::push_args(
-        frames, book, &tags, &bases, &table, number, pc, top, bytes, lengths,
-    );
+    let regs = push_args(&pages, frames, pc, top, bytes, lengths);
     Left {
-        procs: procs,
+        procs,
         answer: Answer::Regs(regs),
     }
 }

@@ -1,4 +1,4 @@
--- `push_args::push_args` meets its contract: arguments that pass fit a buffer, and are written from it.
+-- `push_args` meets its contract: arguments that pass fit a buffer, and are written from it.
 use mathlib.Core.Path.{◌≡◌, refl}
 use Prim.Native.Nat.{ℕ, ◌+◌, ◌*◌, ◌-◌, ◌/◌, ◌≤◌}
 use native.Mathlib.Omega.{arith}
@@ -21,18 +21,21 @@ module _ (s : Start) where
 
   -- there is room above address 0
   room : 8 * (length args + 1) ≤ (s.args.top - length (strings args)) / 8 * 8
-  room = low-room s.args.top (length (strings args)) (length args) (allowed s.requires.setup_ok.0 _ s.args.top _ _ args refl refl s.requires.setup_ok.4 (s.requires.setup_ok.5 s.args.frames.now)).above_zero
+  room = low-room s.args.top (length (strings args)) (length args) (allowed s.args.pages.now.setup _ s.args.top _ _ args refl refl s.requires.checked.2 (s.requires.checked.3 s.args.frames.now)).above_zero
 
 pub args_into-size-requires : goal.args_into-size-requires
 args_into-size-requires c =
-    let n = cut-size c.args.bytes.now c.args.lengths.now c.requires.setup_ok.2 in
-    let m = (args-means c.requires.setup_ok.0 (args (goal.at.args_into-size-requires c).Start) c.requires.setup_ok.3).1 in
-    (c.requires.setup_ok.2, omega (arith, n, count (goal.at.args_into-size-requires c).Start, m, c.requires.setup_ok.1), omega (arith, n, room (goal.at.args_into-size-requires c).Start))
+    let s = (goal.at.args_into-size-requires c).Start in
+    let n = cut-size c.args.bytes.now c.args.lengths.now c.requires.checked.0 in
+    let m = (args-means c.args.pages.now.setup (args s) c.requires.checked.1).1 in
+    (c.requires.checked.0, omega (arith, n, count s, m, c.args.pages.now.accepted), omega (arith, n, room s))
 
-pub write_args-requires : goal.write_args-requires
-write_args-requires c =
-    record { frames_len = c.requires.frames_len; by_index = (c.requires.setup_ok.0, args (goal.at.write_args-requires c).Start, c.requires.setup_ok.1, c.args_into-size.ensures, count (goal.at.write_args-requires c).Start, c.requires.setup_ok.4, c.requires.setup_ok.5) }
+pub write_args-requires-clause-by_index : goal.write_args-requires-clause-by_index
+write_args-requires-clause-by_index c =
+    let s = (goal.at.write_args-requires-clause-by_index c).Start in
+    (args s, c.args_into-size.ensures, count s, c.requires.checked.2, c.requires.checked.3)
 
 pub returns : goal.returns
 returns c =
-    let p = c.write_args.ensures (args (goal.at.returns c).Start) c.args_into-size.ensures (count (goal.at.returns c).Start) in record { book_after = p.0; value = p.1 }
+    let s = (goal.at.returns c).Start in
+    let p = c.write_args.ensures (args s) c.args_into-size.ensures (count s) in record { book_after = p.0; value = p.1 }
