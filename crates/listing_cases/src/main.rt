@@ -3,17 +3,13 @@
 
 #![tactic(auto)]
 
-ghost use Rattle.std.specs.Prelude.{◌≡◌, min, ◌≤◌, ◌<◌, length};
-
-use files::Got;
-use std::fs;
 use std::io::{Eprint, Print, Read};
 use std::process::ExitCode;
+use std::{fs, io};
 
-// What is behind an image: there may be another, there is none that is whole, or reading or writing failed.
+// Why no further image is listed: there is none that is whole, or reading or writing failed.
 #[derive(Clone, Copy)]
-enum Behind {
-    More,
+enum Stop {
     End,
     Failed,
 }
@@ -21,111 +17,75 @@ enum Behind {
 // One byte more than is listed: of a longer image the rest is dropped.
 const MOST: usize = 32769;
 
-fn wide(b: u8) -> usize
-    ensures { result < 256 }
-{
-    b as usize
-}
-
-fn least(a: usize, b: usize) -> usize
-    ensures { result ≡ min a b }
-{
-    if a < b {
-        return a;
+// Whether n bytes were read; if not, a line on standard error says why.
+fn filled(rt: &impl Eprint, got: io::Result<usize>, n: usize) -> Result<(), Stop> {
+    match got {
+        Err(why) => {
+            let _ = eprintln!(rt; "listing_cases: cases: {why}");
+            Err(Stop::Failed)
+        }
+        Ok(k) => {
+            if k < n {
+                let _ = eprintln!(rt; "listing_cases: cases: it ends within an image");
+                return Err(Stop::End);
+            }
+            Ok(())
+        }
     }
-    b
 }
 
-// Reads n bytes to the start of `buf`, or those that there are.
-fn read<R: Read>(file: &mut R, buf: &mut [u8], n: usize) -> Got
-    requires { n ≤ length buf.old }
-    ensures { result.count ≤ length buf.new }
-{
-    files::read(file, &mut buf[..n])
+// Fills `buf` from the file.
+fn fill<R: Read>(rt: &impl Eprint, file: &mut R, buf: &mut [u8]) -> Result<(), Stop> {
+    let got = files::read(file, buf);
+    filled(rt, got, buf.len())
 }
 
-// Whether n bytes could not be read, or were not there, and nothing more is read; then a line on standard error says why.
-fn lacks(rt: &impl Eprint, got: Got, n: usize) -> Behind {
-    if let Some(why) = got.failed {
-        let _ = eprintln!(rt; "listing_cases: cases: {why}");
-        return Behind::Failed;
-    }
-    if got.count < n {
-        let _ = eprintln!(rt; "listing_cases: cases: it ends within an image");
-        return Behind::End;
-    }
-    Behind::More
-}
-
-// Reads n bytes and drops them, and answers whether they were there.
-fn skip<R: Read>(rt: &impl Eprint, file: &mut R, n: usize) -> Behind {
+// Reads n bytes and drops them.
+fn skip<R: Read>(rt: &impl Eprint, file: &mut R, n: usize) -> Result<(), Stop> {
     let mut left = n;
     while left > 0 {
         let mut page = [0u8; 4096];
-        let k = least(left, 4096);
-        let got = read(file, &mut page, k);
-        match lacks(rt, got, k) {
-            Behind::More => {}
-            behind => return behind,
-        }
+        let k = left.min(4096);
+        fill(rt, file, &mut page[..k])?;
         left -= k;
     }
-    Behind::More
+    Ok(())
 }
 
-// Writes text, and answers whether it was written; if not, a line on standard error says why.
-fn put(rt: &(impl Print + Eprint), text: &[u8]) -> bool {
+// Writes text; if that fails, a line on standard error says why.
+fn put(rt: &(impl Print + Eprint), text: &[u8]) -> Result<(), Stop> {
     if let Err(why) = rt.write_all(text) {
         let _ = eprintln!(rt; "listing_cases: standard output: {why}");
-        return false;
+        return Err(Stop::Failed);
     }
-    true
+    Ok(())
 }
 
-// Lists an image after its name, and answers whether that was written.
-fn list(rt: &(impl Print + Eprint), name: &[u8], image: &[u8]) -> bool {
+// Lists an image after its name.
+fn list(rt: &(impl Print + Eprint), name: &[u8], image: &[u8]) -> Result<(), Stop> {
     let mut out = [0u8; 1024];
     let k = listing_lines::list_into(image, &mut out);
-    put(rt, name) && put(rt, b"\n") && put(rt, &out[..k])
+    put(rt, name)?;
+    put(rt, b"\n")?;
+    put(rt, &out[..k])
 }
 
-// Lists the next image of the file, and answers what is behind it.
-fn list_next<R: Read>(rt: &(impl Print + Eprint), file: &mut R) -> Behind {
+// Lists the next image of the file.
+fn list_next<R: Read>(rt: &(impl Print + Eprint), file: &mut R) -> Result<(), Stop> {
     let mut head = [0u8; 4];
-    let first = files::read(file, &mut head);
-    if first.count == 0 && first.failed.is_none() {
-        return Behind::End;
+    match files::read(file, &mut head) {
+        Ok(0) => return Err(Stop::End),
+        got => filled(rt, got, 4)?,
     }
-    match lacks(rt, first, 4) {
-        Behind::More => {}
-        behind => return behind,
-    }
-    let letters = wide(head[0]);
-    let size = wide(head[1]) + wide(head[2]) * 256 + wide(head[3]) * 65536;
+    let letters = usize::from(head[0]);
+    let size = u32::from_le_bytes([head[1], head[2], head[3], 0]) as usize;
     let mut name = [0u8; 256];
-    let named = read(file, &mut name, letters);
-    match lacks(rt, named, letters) {
-        Behind::More => {}
-        behind => return behind,
-    }
-    let mut image = [0u8; 32769];
-    let kept = least(size, MOST);
-    let imaged = read(file, &mut image, kept);
-    match lacks(rt, imaged, kept) {
-        Behind::More => {}
-        behind => return behind,
-    }
-    match skip(rt, file, size - kept) {
-        Behind::More => {}
-        behind => return behind,
-    }
-    let n = named.count;
-    let m = imaged.count;
-    if list(rt, &name[..n], &image[..m]) {
-        Behind::More
-    } else {
-        Behind::Failed
-    }
+    fill(rt, file, &mut name[..letters])?;
+    let mut image = [0u8; MOST];
+    let kept = size.min(MOST);
+    fill(rt, file, &mut image[..kept])?;
+    skip(rt, file, size - kept)?;
+    list(rt, &name[..letters], &image[..kept])
 }
 
 fn main(rt: HostRuntime) -> ExitCode {
@@ -137,12 +97,11 @@ fn main(rt: HostRuntime) -> ExitCode {
         }
     };
     // A proved loop has to end, and nothing says that a file does: there are fewer images than turns.
-    let mut turns: usize = 1000000;
-    while turns > 0 {
+    for _ in 0..1000000 {
         match list_next(&rt, &mut file) {
-            Behind::More => turns -= 1,
-            Behind::End => return ExitCode::SUCCESS,
-            Behind::Failed => return ExitCode::FAILURE,
+            Ok(()) => {}
+            Err(Stop::End) => return ExitCode::SUCCESS,
+            Err(Stop::Failed) => return ExitCode::FAILURE,
         }
     }
     ExitCode::SUCCESS
