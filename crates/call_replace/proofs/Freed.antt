@@ -3,15 +3,11 @@ use Prim.Native.Nat.{ℕ}
 use mathlib.Core.Path.{◌≡◌}
 use mathlib.Core.Bool.{true}
 use mathlib.Core.List.{List}
-use Rattle.spec.specs.Exec.{image_error}
+use Rattle.spec.specs.Frames.{store}
 use Rattle.spec.specs.World.{State, state_of}
 use Rattle.spec.specs.declared.Procs.{Procs}
 use Rattle.spec.specs.declared.Setup.{Setup}
-use Rattle.spec.specs.declared.Form.{Form}
-use Rattle.spec.specs.Frames.{store}
-use Rattle.spec.proofs.Setups.{setup-means}
 use Rattle.spec_laws.proofs.Record.{Whole}
-use Rattle.exec.specs.Plan.{plan_of}
 use Rattle.exec.specs.declared.Plan.{Plan}
 use Rattle.call_front.specs.Numbers.{plain_error}
 use Rattle.call_front.proofs.FirstNumbers.{Passed, plain-none, sizes-words}
@@ -25,16 +21,7 @@ module _ (setup : Setup) (frames book : List ℕ) (procs : Procs) (n : ℕ) (who
   passed : Passed s n true
   passed = (plain-none s n true first).0
 
-  pub enterable : (form : Form) (image : List ℕ) (plan : Plan) → plan ≡ plan_of setup form image → image_error setup form image ≡ 0 → Enterable setup (store frames book) n form image plan
-  enterable form image plan planned accepted =
+  pub enterable : (plan : Plan) → plan.image.setup ≡ setup → Enterable (store frames book) n plan
+  enterable plan same =
       let z = sizes-words frames book passed.sizes in
-      record {
-        setup-ok = setup-means setup passed.setup;
-        sizes = z.0;
-        words = z.3;
-        most = z.2;
-        mappings = (passed-sound s n true whole passed).mappings;
-        number = passed.number;
-        planned = planned;
-        accepted = accepted;
-      }
+      record { sizes = z.0; words = z.3; most = z.2; mappings = rw same (passed-sound s n true whole passed).mappings; number = passed.number }

@@ -5,66 +5,80 @@
 
 mod enter;
 
-ghost use Rattle.std.specs.Prelude.{◌≡◌};
-ghost use Rattle.spec.specs.Image.{program_of};
+ghost use Rattle.std.specs.Prelude.{◌≡◌, IfOk, OnOk};
 ghost use Rattle.spec.specs.Frames.{mem_of, store};
 ghost use Rattle.spec.specs.Exec.{copy_argv};
 ghost use Rattle.spec.specs.Machine.{replace, plainly, call};
+ghost use Rattle.spec.specs.Refusals.{number_of};
 ghost use Rattle.spec.specs.World.{Does, state_of};
-ghost use Rattle.sound.specs.Table.{Ready};
+ghost use Rattle.sound.specs.Table.{Zeros, Ready};
+ghost use Rattle.image.specs.Images.{program};
+ghost use Rattle.exec.specs.Plan.{SameImage};
 ghost use Rattle.call_replace.specs.Entering.{Enterable};
-ghost use Rattle.call_replace.specs.Becoming.{Became};
+ghost use Rattle.call_replace.specs.Becoming.{replace_number, Became};
 
-use crate::enter::Entered;
+use call_front::{bad_address, refused};
 use exec::Plan;
-use exec_argv::Argv;
-use spec::{Answer, Form, Left, Proc, Procs, Setup};
+use exec_argv::ArgvError;
+use sound::Lookup;
+use spec::{Form, Left, Procs, Refusal, Setup};
+use uaccess::UserPages;
 
-// Reads the arguments that the array of pointers at user address `argv` points to, and enters the image with them. A bad address among
-// them, 35, ends the process, and is told; arguments over the limit, 33, leave it as it was. `p` is the process's record.
-fn enter_argv(
+// The plan of a replace, with the call's lookup, or what it is refused with before its arguments are read: 1, 38, 39 or 2 to 4, then 30 or
+// 31 for its image.
+fn replace_plan<'a>(
     setup: Setup,
-    frames: &mut [u8],
-    book: &mut [u64],
-    tags: &[u64; 272],
-    bases: &[u64; 273],
-    table: &[u16; 1024],
-    p: Proc,
+    frames: &[u8],
+    book: &[u64],
+    procs: Procs,
     number: u64,
     form: Form,
-    image: &[u8],
-    plan: Plan,
+    image: &'a [u8],
+    lookup: &mut Lookup,
+) -> Result<Plan<'a>, Refusal>
+    requires { Zeros lookup.old }
+    ensures value { number_of result ≡ replace_number (state_of setup frames.now book.now procs) number form image.now }
+    ensures planned { IfOk result (λ plan. SameImage plan.image setup form image.now) }
+    ensures ready { OnOk result (Ready book.now number lookup.new) }
+{
+    call_front::numbers::plain_ready(setup, frames, book, procs, number, true, lookup)?;
+    let plan = exec::plan_of(setup, form, image)?;
+    Ok(plan)
+}
+
+// Reads the arguments that the array of pointers at user address `argv` points to, and enters the image with them. A bad address among
+// them, 35, ends the process, and is told; arguments over the limit, 33, leave it as it was.
+fn enter_argv(
+    frames: &mut [u8],
+    book: &mut [u64],
+    lookup: &Lookup,
+    procs: Procs,
+    number: u64,
+    plan: &Plan,
     name: &[u8],
     argv: u64,
-) -> Entered
-    requires ready { Ready book.old number tags.now bases.now table.now }
-    requires enterable { Enterable setup (store frames.old book.old) number form image.now plan }
-    ensures { Became setup (store frames.old book.old) p number (program_of setup form image.now) name.now (copy_argv setup (mem_of (store frames.old book.old) number) argv) (store frames.new book.new) result }
+) -> Left
+    requires ready { Ready book.old number lookup.now }
+    requires enterable { Enterable (store frames.old book.old) number plan.now }
+    ensures { Became (state_of plan.now.image.setup frames.old book.old procs) number (program plan.now.image) name.now (copy_argv plan.now.image.setup (mem_of (store frames.old book.old) number) argv) (state_of plan.now.image.setup frames.new book.new result.procs) result.answer }
 {
+    let setup = plan.image.setup();
+    let pages = UserPages {
+        setup,
+        book,
+        lookup,
+        number,
+    };
     let mut buf = [0u8; exec_args::BUFFER_SIZE];
-    let read = exec_argv::copy_argv(
-        setup, frames, book, tags, bases, table, number, argv, &mut buf,
-    );
-    match read {
-        Argv::Bad(address) => {
-            book::release_owner(book, number as usize);
-            Entered {
-                proc: call_front::record::zero_proc(),
-                answer: Answer::EndedAt(address),
-            }
-        }
-        Argv::Over => Entered {
-            proc: p,
-            answer: Answer::Refused(spec::ENOVMEM),
-        },
-        Argv::Read(strings) => {
+    match exec_argv::copy_argv(&pages, frames, argv, &mut buf) {
+        Ok(strings) => {
             let used = strings.used;
             let count = strings.count;
             exec_args::pointers_behind(&mut buf, setup.ustktop, used, count);
-            crate::enter::enter(
-                setup, frames, book, number, form, image, plan, name, &buf, used, count,
-            )
+            crate::enter::enter(frames, book, procs, number, plan, name, &buf, used, count)
         }
+        Err(ArgvError::Bad(address)) => bad_address(book, procs, number, address),
+        Err(ArgvError::Over) => refused(procs, Refusal::NoMemory),
     }
 }
 
@@ -85,33 +99,9 @@ pub fn replace(
 ) -> Left
     ensures { Does (state_of setup frames.old book.old procs) (call number (replace form image.now name.now argv)) (state_of setup frames.new book.new result.procs) (plainly result.answer) }
 {
-    let mut tags = [0u64; 272];
-    let mut bases = [0u64; 273];
-    let mut table = [0u16; 1024];
-    let e = call_front::numbers::plain_ready(
-        setup, frames, book, procs, number, true, &mut tags, &mut bases, &mut table,
-    );
-    if e != 0 {
-        return Left {
-            procs: procs,
-            answer: Answer::Refused(e),
-        };
-    }
-    let plan = exec::plan_of(setup, form, image);
-    if plan.number != 0 {
-        return Left {
-            procs: procs,
-            answer: Answer::Refused(plan.number),
-        };
-    }
-    let p = call_front::record::proc_at(procs, number);
-    let entered = enter_argv(
-        setup, frames, book, &tags, &bases, &table, p, number, form, image, plan, name, argv,
-    );
-    let next = entered.proc;
-    let answer = entered.answer;
-    Left {
-        procs: call_front::record::with_proc(procs, number, next),
-        answer: answer,
+    let mut lookup = Lookup::new();
+    match replace_plan(setup, frames, book, procs, number, form, image, &mut lookup) {
+        Ok(plan) => enter_argv(frames, book, &lookup, procs, number, &plan, name, argv),
+        Err(e) => refused(procs, e),
     }
 }

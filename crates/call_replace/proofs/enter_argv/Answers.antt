@@ -1,11 +1,16 @@
 -- `enter_argv` meets its contract: the arguments are read, and the pointers put behind them, before pages are freed.
 use Prim.Native.Nat.{ℕ}
 use native.Mathlib.Omega.{arith}
-use mathlib.Core.Path.{◌≡◌, refl, sym, ap, ◌∙◌}
+use mathlib.Core.Path.{◌≡◌, sym, ap, ◌∙◌}
 use mathlib.Core.List.{List}
 use lib.ListN.{length, take, replicate}
+use Rattle.std.specs.Prelude.{Err}
 use Rattle.spec.specs.Frames.{mem_of, store}
 use Rattle.spec.specs.Exec.{strings, Argv, read, copy_argv, args_error}
+use Rattle.spec.specs.World.{state_of}
+use Rattle.spec.specs.declared.Answer.TheVariants.{EndedAt}
+use Rattle.spec.specs.declared.Left.{Left}
+use Rattle.spec.specs.declared.Setup.{Setup}
 use Rattle.spec.proofs.Args.{args-means}
 use Rattle.spec_laws.proofs.Argv.{argv-fits}
 use Rattle.spec_laws.proofs.Owned.{valid-means}
@@ -16,29 +21,32 @@ use Rattle.exec_argv.proofs.SoFar.{read-strings, was-bad, was-over, was_read}
 use Rattle.exec_load.specs.Installing.{Fitting}
 use Rattle.call_replace.specs.Becoming.{ends, stays, enters}
 use Rattle.call_replace.proofs.enter_argv.Goals as goal
-use Rattle.call_replace.proofs.enter_argv.Goals.{After-copy_argv-read, After-pointers_behind, In-Read}
+use Rattle.call_replace.proofs.enter_argv.Goals.{After-copy_argv, After-pointers_behind, In-Ok}
 
 -- where the arguments have been read
-module _ (c : After-copy_argv-read) where
+module _ (c : After-copy_argv) where
+  abbrev setup : Setup
+  setup = c.args.plan.now.image.setup
+
   abbrev argv : Argv
-  argv = copy_argv c.args.setup (mem_of (store c.args.frames.now c.args.book.now) c.args.number) c.args.argv
+  argv = copy_argv setup (mem_of (store c.args.frames.now c.args.book.now) c.args.number) c.args.argv
 
   abbrev before : List ℕ
   before = replicate 16384 0
 
-  abbrev buf : List ℕ
-  buf = c.copy_argv-read.new.buf
-
-  told : Reads argv before c.copy_argv-read.result buf
-  told = c.copy_argv-read.ensures
+  told : Reads argv before c.copy_argv.result c.copy_argv.new.buf
+  told = rw c.setup-setup.ensures at c.copy_argv.ensures
 
 -- and are neither bad nor over the limit
-module _ (c : In-Read) where
-  abbrev held : Strings
-  held = c.in-Read.strings
+module _ (c : In-Ok) where
+  abbrev at : After-copy_argv
+  at = (goal.at.In-Ok c).After-copy_argv
 
-  were : (args : List (List ℕ)) × (argv (goal.at.In-Read c).After-copy_argv-read ≡ read args) × (held ≡ record { used = length (strings args); count = length args })
-  were = was_read (argv (goal.at.In-Read c).After-copy_argv-read) held (sym (told (goal.at.In-Read c).After-copy_argv-read).said ∙ c.in-Read.is)
+  abbrev held : Strings
+  held = c.in-Ok.strings
+
+  were : (args : List (List ℕ)) × (argv at ≡ read args) × (held ≡ record { used = length (strings args); count = length args })
+  were = was_read (argv at) held (sym (told at).said ∙ c.in-Ok.is)
 
   abbrev args : List (List ℕ)
   args = were.0
@@ -49,50 +57,55 @@ module _ (c : In-Read) where
   count : held.count ≡ length args
   count = ap (λ (x : Strings). x.count) were.2
 
-  fits : args_error c.args.setup args ≡ 0
-  fits =
-      argv-fits c.args.setup c.requires.enterable.setup-ok (mem_of (store c.args.frames.now c.args.book.now) c.args.number) c.args.argv (read args) (sym were.1)
+  fits : args_error (setup at) args ≡ 0
+  fits = argv-fits (setup at) c.args.plan.now.image.setup_ok (mem_of (store c.args.frames.now c.args.book.now) c.args.number) c.args.argv (read args) (sym were.1)
 
-  standing : Standing args (take held.used (buf (goal.at.In-Read c).After-copy_argv-read)) held.count
+  standing : Standing args (take held.used c.copy_argv.new.buf) held.count
   standing = record {
-    bytes-are = read-strings args (before (goal.at.In-Read c).After-copy_argv-read) (buf (goal.at.In-Read c).After-copy_argv-read) held.used used ((told (goal.at.In-Read c).After-copy_argv-read).bytes ∙ ap (left_in (before (goal.at.In-Read c).After-copy_argv-read)) were.1);
+    bytes-are = read-strings args (before at) c.copy_argv.new.buf held.used used ((told at).bytes ∙ ap (left_in (before at)) were.1);
     counted = sym count;
-    no_nul = (args-means c.args.setup args fits).0;
+    no_nul = (args-means (setup at) args fits).0;
   }
 
 -- the pointers are behind them
-fitting : (c : After-pointers_behind) → Fitting c.args.setup (args (goal.at.After-pointers_behind c).In-Read) c.pointers_behind.new.buf (held (goal.at.After-pointers_behind c).In-Read).used (held (goal.at.After-pointers_behind c).In-Read).count
+fitting : (c : After-pointers_behind) → let d = (goal.at.After-pointers_behind c).In-Ok in Fitting (setup (at d)) (args d) c.pointers_behind.new.buf (held d).used (held d).count
 fitting c =
-    record { laid = c.pointers_behind.ensures (args (goal.at.After-pointers_behind c).In-Read) (standing (goal.at.After-pointers_behind c).In-Read); counted = (standing (goal.at.After-pointers_behind c).In-Read).counted; passed = fits (goal.at.After-pointers_behind c).In-Read }
+    let d = (goal.at.After-pointers_behind c).In-Ok in
+    record { laid = rw c.setup-setup.ensures at c.pointers_behind.ensures (args d) (standing d); counted = (standing d).counted; passed = fits d }
 
-pub copy_argv-read-requires : goal.copy_argv-read-requires
-copy_argv-read-requires c =
-    let p = c.requires in
-    let v = valid-means _ p.enterable.number in
-    record { frames_len = (p.enterable.sizes, p.ready, v.0, v.1); setup_in_bounds = (omega (arith, p.enterable.setup-ok), p.enterable.setup-ok) }
+pub invariant_of-pages : goal.invariant_of-pages
+invariant_of-pages c = record { accepted = rw c.setup-setup.ensures c.args.plan.now.image.setup_ok; ready = ∣ c.requires.ready ∣₁; numbered = valid-means _ c.requires.enterable.number }
 
-pub release_owner-requires : goal.release_owner-requires
-release_owner-requires c = valid-means _ c.requires.enterable.number
+pub copy_argv-requires : goal.copy_argv-requires
+copy_argv-requires c =
+    let o = c.args.plan.now.image.setup_ok in
+    record { frames_len = c.requires.enterable.sizes; in_bounds = rw c.setup-setup.ensures (omega (arith, o)) }
 
 pub pointers_behind-requires : goal.pointers_behind-requires
 pointers_behind-requires c =
-    let m = (args-means c.args.setup (args (goal.at.pointers_behind-requires c).In-Read) (fits (goal.at.pointers_behind-requires c).In-Read)).1 in
-    let o = c.requires.enterable.setup-ok in
-    record { by_index = (args (goal.at.pointers_behind-requires c).In-Read, standing (goal.at.pointers_behind-requires c).In-Read); count_in_bounds = (omega (arith, m, o, used (goal.at.pointers_behind-requires c).In-Read, count (goal.at.pointers_behind-requires c).In-Read), omega (arith, m, o, used (goal.at.pointers_behind-requires c).In-Read)) }
+    let d = (goal.at.pointers_behind-requires c).In-Ok in
+    let m = (args-means (setup (at d)) (args d) (fits d)).1 in
+    let o = c.args.plan.now.image.setup_ok in
+    record { by_index = (args d, standing d); count_in_bounds = (omega (arith, m, o, used d, count d), rw c.setup-setup.ensures (omega (arith, m, o, used d))) }
 
 pub enter-requires : goal.enter-requires
-enter-requires c =
-    record { enterable = c.requires.enterable; by_index = (args (goal.at.enter-requires c).In-Read, fitting (goal.at.enter-requires c).After-pointers_behind) }
+enter-requires c = record { enterable = c.requires.enterable; by_index = (args (goal.at.enter-requires c).In-Ok, fitting (goal.at.enter-requires c).After-pointers_behind) }
 
-pub returns-in-Bad : goal.returns-in-Bad
-returns-in-Bad c =
-    ends _ (was-bad (argv (goal.at.returns-in-Bad c).After-copy_argv-read) _ (sym (told (goal.at.returns-in-Bad c).After-copy_argv-read).said ∙ c.in-Bad.is)) (c.release_owner.ensures c.args.frames.now) c.zero_proc.ensures refl
+pub returns-in-Ok : goal.returns-in-Ok
+returns-in-Ok c =
+    let d = (goal.at.returns-in-Ok c).In-Ok in
+    let left = c.enter.ensures (args d) (fitting (goal.at.returns-in-Ok c).After-pointers_behind) in
+    enters (args d) (were d).1 left.0 left.1
 
-pub returns-in-Over : goal.returns-in-Over
-returns-in-Over c = stays (was-over (argv (goal.at.returns-in-Over c).After-copy_argv-read) (sym (told (goal.at.returns-in-Over c).After-copy_argv-read).said ∙ c.in-Over.is)) refl refl refl
+pub bad_address-requires : goal.bad_address-requires
+bad_address-requires c = c.requires.enterable.number
 
-pub returns-in-Read : goal.returns-in-Read
-returns-in-Read c =
-    let w = c.enter in
-    let left = w.ensures.by_index_2 (args (goal.at.returns-in-Read c).In-Read) (fitting (goal.at.returns-in-Read c).After-pointers_behind) in
-    enters (args (goal.at.returns-in-Read c).In-Read) (were (goal.at.returns-in-Read c).In-Read).1 left.0 w.ensures.proc_value left.1
+pub returns-in-Err-Bad : goal.returns-in-Err-Bad
+returns-in-Err-Bad c =
+    let d = (goal.at.returns-in-Err-Bad c).After-copy_argv in
+    ends c.in-Err-Bad.address (was-bad (argv d) _ (sym (told d).said ∙ c.in-Err-Bad.is ∙ ap Err c.in-Err-Bad.field-0-is)) (c.bad_address.ensures.ends (setup d) c.args.frames.now) (c.bad_address.ensures.says ∙ ap EndedAt c.in-Err-Bad.address-is)
+
+pub returns-in-Err-Over : goal.returns-in-Err-Over
+returns-in-Err-Over c =
+    let d = (goal.at.returns-in-Err-Over c).After-copy_argv in
+    stays (was-over (argv d) (sym (told d).said ∙ c.in-Err-Over.is ∙ ap Err c.in-Err-Over.field-0-is)) (ap (λ (r : Left). state_of (setup d) c.args.frames.now c.args.book.now r.procs) c.refused.ensures) (ap (λ (r : Left). r.answer) c.refused.ensures)
