@@ -6,8 +6,8 @@ use mathlib.Core.Path.{◌≡◌, refl, sym, ap, ◌∙◌}
 use mathlib.Core.Bool.{Bool, true, false}
 use Rattle.std.specs.Prelude.{Option, None, Some, IfNone, IfSome}
 use mathlib.Core.List.{List, []}
-use lib.ListN.{length, drop, get_or}
-use lib.Seq.{get_or-take, get_or-drop}
+use lib.ListN.{length, drop, get_or, length-drop}
+use lib.Seq.{get_or-take, get_or-drop, length-take-le}
 use lib.Dec.{eqb}
 use borrow.Author.Tests.{eqb-true, eqb-false, eq-eqb}
 use Rattle.std.specs.Simd.{first_chunks}
@@ -28,6 +28,11 @@ frame-word (suc k) book zero j h l = let e : j ≡ 17 * 0 + j = omega arith in g
 frame-word (suc k) book (suc i) j h l =
     let e : 17 + (17 * i + j) ≡ 17 * suc i + j = omega arith in
     frame-word k (drop 17 book) i j (omega arith) l ∙ get_or-drop 17 book (17 * i + j) 0 ∙ ap (λ (n : ℕ). get_or book n 0) e
+
+pub frame-length : (k : ℕ) (book : List ℕ) (i : ℕ) → 17 * k ≤ length book → i < k → length (get_or (first_chunks 17 k book) i []) ≡ 17
+frame-length zero book i h l = absurd (omega arith)
+frame-length (suc k) book zero h l = length-take-le 17 book (omega arith)
+frame-length (suc k) book (suc i) h l = frame-length k (drop 17 book) i (omega (arith, length-drop 17 book)) (omega arith)
 
 -- ---- frames counted
 

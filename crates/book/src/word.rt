@@ -1,6 +1,6 @@
 // Book words: packing them and taking them apart; and the searches of the book.
 
-ghost use Rattle.std.specs.Prelude.{◌≡◌, Bool, ℕ, ◌+◌, ◌*◌, ◌%◌, ◌^◌, ◌≤◌, ◌<◌, get_or};
+ghost use Rattle.std.specs.Prelude.{◌≡◌, Bool, ℕ, ◌+◌, ◌*◌, ◌%◌, ◌^◌, ◌≤◌, ◌<◌, length, get_or, []};
 ghost use Rattle.std.specs.Simd.{first_chunks};
 ghost use Rattle.spec.specs.Book.{word_of, page_of, owner_of, perm_of, frame_count, holders, count_below, frame_of, free, alone};
 
@@ -40,16 +40,14 @@ pub fn frames(book: &[u64]) -> &[[u64; 17]]
     book.as_chunks().0
 }
 
-// How many frames pass a test of the word in one of their places and of their count. A `for` counts 1,024 frames in 466 ns, as an index
-// did, and `filter` with `count` in 754.
-fn count<F: Fn(u64, u64) -> bool>(book: &[u64], place: usize, test: F) -> usize
-    requires place { place < 17 }
-    requires callable { F.IsAlwaysCallable test }
-    ensures { (t : ℕ → ℕ → Bool) → ((w held : ℕ) (b : Bool) → w < 2 ^ 64 → held < 2 ^ 64 → F.post test w held b → b ≡ t w held) → result ≡ count_below (λ k. t (get_or book.now (17 * k + place) 0) (holders book.now k)) (frame_count book.now) }
+// How many frames pass a test. A `for` counts 1,024 frames in 466 ns, as an index did, and `filter` with `count` in 754.
+fn count<F: Fn(&[u64; 17]) -> bool>(book: &[u64], test: F) -> usize
+    requires callable { (f : _) → length f.now ≡ 17 → F.pre test f }
+    ensures { (t : ℕ → Bool) → ((k : ℕ) (f : _) (b : Bool) → k < frame_count book.now → f.now ≡ get_or (first_chunks 17 (frame_count book.now) book.now) k [] → F.post test f b → b ≡ t k) → result ≡ count_below t (frame_count book.now) }
 {
     let mut n = 0;
     for f in frames(book) {
-        if test(f[place], f[16]) {
+        if test(f) {
             n += 1;
         }
     }
@@ -60,7 +58,7 @@ fn count<F: Fn(u64, u64) -> bool>(book: &[u64], place: usize, test: F) -> usize
 pub fn free_count(book: &[u64]) -> usize
     ensures { result ≡ free book.now }
 {
-    count(book, 16, |held, _| held == 0)
+    count(book, |f| f[16] == 0)
 }
 
 // How many frames an owner holds alone: its place is not 0, and the count is 1.
@@ -68,7 +66,8 @@ pub fn alone_count(book: &[u64], owner: u64) -> usize
     requires { (1 ≤ owner) × (owner ≤ 16) }
     ensures { result ≡ alone book.now owner }
 {
-    count(book, (owner - 1) as usize, |w, held| w != 0 && held == 1)
+    let place = (owner - 1) as usize;
+    count(book, |f| f[place] != 0 && f[16] == 1)
 }
 
 // The frame of an owner's page, by the owner's places. Owner and page together are the word without its permission.
