@@ -44,6 +44,7 @@ impl UserPages<'_> {
         }
         let room = top - addr;
         let end = addr + len.min(room);
+        // A `for` over `step_by` would want a measure too, and a list of the pages so far: no plainer.
         let mut va = mem::page_down(addr);
         while va < end {
             if !self.user_page_ok(va, write) {
