@@ -90,7 +90,15 @@ pub fn map_zeroed(
     ensures passed_2 { Passed result book.new }
 {
     let perm = spec::DATA;
-    load_segment(frames, book, top, owner, spec::UserSegment { range, perm }, 0, &[])
+    load_segment(
+        frames,
+        book,
+        top,
+        owner,
+        spec::UserSegment { range, perm },
+        0,
+        &[],
+    )
 }
 
 // Frame `k`, which is free, becomes the child's page with the bytes of frame `from`, which is used.

@@ -9,7 +9,7 @@ pub test-requires : goal.test-requires
 test-requires g c =
     let book = c.args.book.now in
     let l : length (get_or c.frames-f-items.result.now c.loop-f.f-index []) ≡ 17 =
-        ap (λ (x : List (List ℕ)). length (get_or x c.loop-f.f-index [])) c.frames-f-items.ensures ∙ frame-length (frame_count book) book c.loop-f.f-index (omega arith) (omega (arith, ap length c.frames-f-items.ensures, length-frames (frame_count book) book)) in
+    ap (λ (x : List (List ℕ)). length (get_or x c.loop-f.f-index [])) c.frames-f-items.ensures ∙ frame-length (frame_count book) book c.loop-f.f-index (omega arith) (omega (arith, ap length c.frames-f-items.ensures, length-frames (frame_count book) book)) in
     c.requires.callable _ l
 
 pub overflow_add-n : goal.overflow_add-n
@@ -29,7 +29,7 @@ loop-f-preserved g c =
           let r : c.test.result ≡ t k = gives k _ _ (omega arith) (ap (λ (x : List (List ℕ)). get_or x k []) c.frames-f-items.ensures) c.test.ensures in
           let before = l.invariant.1 t gives in
           elim c.if-test.branch [
-            then-test w ↦ w.n-is ∙ ap (λ (x : ℕ). x + 1) before ∙ sym (count-hit t k (sym r ∙ w.if-test.true))
+            | then-test w ↦ w.n-is ∙ ap (λ (x : ℕ). x + 1) before ∙ sym (count-hit t k (sym r ∙ w.if-test.true))
             | else-test w ↦ w.n-is ∙ before ∙ sym (count-miss t k (sym r ∙ w.if-test.false))
           ],
     )
