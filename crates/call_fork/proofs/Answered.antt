@@ -1,5 +1,5 @@
 -- The answer of a fork with any list, once its number is known.
-use Prim.Native.Nat.{ℕ, ◌≤◌}
+use Prim.Native.Nat.{ℕ}
 use mathlib.Core.Path.{◌≡◌, refl, sym, ap, subst, ◌∙◌}
 use mathlib.Core.Bool.{Bool, true, false, not, ◌&&◌, ◌||◌}
 use mathlib.Core.List.{List}
@@ -76,20 +76,10 @@ list-zero false v e h =
     behind true z = absurd (omega (arith, z))
     behind false z = (z, λ t. t)
 
--- where there is no number, none came first, and the free frames hold a copy
+-- where there is no number, none came first
 pub number-error : (s : State) (n child : ℕ) (alike : Bool) → fork_number s n child alike ≡ 0 → fork_error s n child ≡ 0
 unfolding list_error fork_number
 number-error s n child alike e = (list-zero alike (valid n) (fork_error s n child) (or-else (list_error s n child alike) _ e).0).0
-
-pub number_fits : (s : State) (n child : ℕ) (alike : Bool) → fork_number s n child alike ≡ 0 → copied (view s n) ≤ free s.store.book
-unfolding fork_number
-number_fits s n child alike e = enough (copied (view s n)) (free s.store.book) (or-else (list_error s n child alike) _ e).1
-  where
-    thirty-three : ◌≡◌ {A = ℕ} 33 0 → ⊥
-    thirty-three z = omega (arith, z)
-
-    enough : (a b : ℕ) → ◌≡◌ {A = ℕ} (a above b ⇒ 33 else 0) 0 → a ≤ b
-    enough a b h = split (a above b) (λ q. absurd (thirty-three (rw q at h))) (λ q. ltb-false b a q)
 
 module _ (s : State) (n child : ℕ) (gs : List UserSegment) where
   abbrev asked : Ask

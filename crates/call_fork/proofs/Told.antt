@@ -1,5 +1,5 @@
--- The parent's pages stay in their frames, which keep their bytes and don't become free, and which the lists that the check leaves
--- tell, while pages are shared with and placed for the child.
+-- The parent's pages stay in their frames, which keep their bytes and don't become free, and which the lookup that the check leaves
+-- tells, while pages are shared with and placed for the child.
 use Prim.Native.Nat.{ℕ, zero, suc, ◌+◌, ◌*◌, ◌≤◌, ◌<◌}
 use native.Mathlib.Omega.{arith}
 use mathlib.Core.Path.{◌≡◌, refl, sym, ap, ◌∙◌, subst}

@@ -3,16 +3,10 @@
 -- Assumes nothing.
 use Rattle.std.specs.Prelude.{ℕ, Bool, not, ◌&&◌}
 use Rattle.spec.specs.Tests.{◌isnt◌, ◌below◌, ◌above◌, ◌⇒◌else◌, ◌or_else◌}
-use Rattle.spec.specs.Book.{valid, free, zero_proc, proc_at}
+use Rattle.spec.specs.Book.{valid, free}
 use Rattle.spec.specs.Machine.{copied}
 use Rattle.spec.specs.World.{State, view}
-use Rattle.spec.specs.declared.Proc.{Proc}
-use Rattle.spec.specs.declared.Procs.{Procs}
 use Rattle.call_front.specs.Numbers.{fork_error}
-
--- the record of a process; a number outside 1 to 16 has none
-abbrev pub record_of : Procs → ℕ → Proc
-record_of ps n = valid n ⇒ proc_at ps n else zero_proc
 
 -- 1, 38, 39 and 2 to 5 in their order; `alike`: the list is the record's segments. A list that is not is 2, behind 1, 38 and 39
 unfoldable pub list_error : State → ℕ → ℕ → Bool → ℕ

@@ -1,5 +1,5 @@
 -- `copy::copy_segment` meets its contract. The loop's invariant: the pages before `page` are placed, no frame from `c` on is
--- free, the parent's pages stay in their frames with their bytes, and the lists tell its frames.
+-- free, the parent's pages stay in their frames with their bytes, and the lookup tells its frames.
 use mathlib.Core.Path.{◌≡◌, refl, sym, ap, ◌∙◌}
 use Rattle.std.specs.Prelude.{Some}
 use mathlib.Core.List.{List}
@@ -25,7 +25,7 @@ there c =
     let p = c.requires.mapped.0 l.page l.invariant.0.aligned l.invariant.0.onward c.loop-page-test.true in
     (p.0, l.invariant.1.same l.page ∙ p.1)
 
--- which the lists tell
+-- which the lookup tells
 from_is : (c : In-Some) → Framed c.loop-page.book c.args.parent c.loop-page.page c.in-Some.from
 from_is c =
     let l = c.loop-page in

@@ -1,5 +1,5 @@
 -- `copy::copy_segment` meets its contract. The loop's invariant: the pages before `page` are placed, no frame from `c` on is
--- free, the parent's pages stay in their frames with their bytes, and the lists tell its frames.
+-- free, the parent's pages stay in their frames with their bytes, and the lookup tells its frames.
 use mathlib.Core.List.{List}
 use Prim.Native.Nat.{ℕ, ◌-◌}
 use Rattle.spec.specs.Book.{frame_of}

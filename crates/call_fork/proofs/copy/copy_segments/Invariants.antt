@@ -1,5 +1,5 @@
 -- `copy::copy_segments` meets its contract. The invariant: the child has copies of the data pages of the segments passed, no frame from
--- `top` on is free, and the lists tell the parent's pages, which stay in their frames.
+-- `top` on is free, and the lookup tells the parent's pages, which stay in their frames.
 use mathlib.Core.Path.{◌≡◌}
 use lib.ListN.{length, take}
 use Rattle.spec.specs.Book.{data_only}
