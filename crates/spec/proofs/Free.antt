@@ -1,13 +1,12 @@
 -- Each placed page takes a free frame; bytes written take none. How many pages pieces have.
 use Prim.Native.Nat.{ℕ, zero, suc, ◌+◌, ◌-◌, ◌/◌, ◌≤◌, ◌<◌}
 use native.Mathlib.Omega.{arith}
-use native.Mathlib.Nat.{add_assoc, add-zero}
+use native.Mathlib.Nat.{add_assoc}
 use mathlib.Core.Path.{◌≡◌, refl, sym, ap, ap₂, ◌∙◌}
 use Rattle.std.specs.Prelude.{Option, None, Some}
 use mathlib.Core.List.{List, [], ◌∷◌, ◌++◌}
-use lib.ListN.{length, get_or, take, length-append}
+use lib.ListN.{length, length-append}
 use borrow.Author.Tests.{eqb-true, ne_eqb, eq-eqb}
-use Rattle.spec.proofs.Lists.{take_next}
 use Rattle.spec.proofs.Search.{hit, miss}
 use Rattle.spec.proofs.Counts.{count_none, count-flip}
 use Rattle.spec.proofs.Enter.{enter-count, holders-here, holders-else}
@@ -62,12 +61,6 @@ length-pages f (g ∷ gs) =
 pub count-append : (gs hs : List UserSegment) → page_count (gs ++ hs) ≡ page_count gs + page_count hs
 count-append [] hs = omega arith
 count-append (g ∷ gs) hs = ap (λ (k : ℕ). (g.range.end - g.range.start) / 4096 + k) (count-append gs hs) ∙ sym (add_assoc ((g.range.end - g.range.start) / 4096) (page_count gs) (page_count hs))
-
-pub count_next : (us : List UserSegment) (d : UserSegment) (i : ℕ) → i < length us
-    → page_count (take (i + 1) us) ≡ page_count (take i us) + ((get_or us i d).range.end - (get_or us i d).range.start) / 4096
-count_next us d i h =
-    let u = get_or us i d in
-    ap page_count (take_next us i d h) ∙ count-append (take i us) (u ∷ []) ∙ ap (λ (k : ℕ). page_count (take i us) + k) (add-zero ((u.range.end - u.range.start) / 4096))
 
 -- bytes written over change no word
 pub poke-book : (m : Store) (a b : ℕ) (o : Option ℕ) → (poke m a b o).book ≡ m.book

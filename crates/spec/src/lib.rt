@@ -28,7 +28,8 @@ pub struct Setup {
     pub flags: [u8; 8],
 }
 
-// Permissions of segments and pages, in records and in book words.
+// Permissions of segments and pages. They are numbers, since records, which C lays out and may fill with any number, and book words hold
+// them so.
 pub const TEXT: u64 = 1;
 
 pub const RODATA: u64 = 2;
@@ -81,7 +82,8 @@ pub struct UserRegs {
     pub argv: u64,
 }
 
-// What a call answers.
+// What a call answers. A refusal is told by its number: the definitions and theorems of specs/ and C speak of numbers (World `answer`,
+// holthrimi's Told).
 #[derive(Clone, Copy)]
 pub enum Answer {
     // Accepted, with the registers to enter a program with: start, replace, push.
@@ -109,7 +111,8 @@ pub struct Left {
     pub answer: Answer,
 }
 
-// The form that an image is read in: ELF, or Plan 9's a.out, with the magic that is expected.
+// The form that an image is read in: ELF, or Plan 9's a.out, with the magic that is expected: two kinds, neither of which is a missing
+// one.
 #[derive(Clone, Copy)]
 pub enum Form {
     Elf,
