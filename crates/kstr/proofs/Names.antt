@@ -7,7 +7,7 @@ use mathlib.Core.Bool.{true, false, or-true}
 use mathlib.Core.List.{List, [], ◌∷◌, ◌++◌}
 use lib.Dec.{eqb}
 use lib.ListN.{length, take, drop, get_or, replicate, length-append}
-use lib.Seq.{drop-cons, drop-length, take-append_seam, drop-append-add, length-take-le}
+use lib.Seq.{take-append_seam, drop-append-add, length-take-le}
 use borrow.Author.Tests.{eq-eqb, ne_eqb, lt-ltb, le-ltb}
 use Rattle.spec.specs.Tests.{within, has, ascii}
 use Rattle.spec.specs.Name.{elem, cut, padded, kstrcpy}
@@ -28,25 +28,20 @@ elem-whole (c ∷ name) e =
     (λ q. let r : has 47 name ≡ false = rw q at e in rw (r, q))
 
 -- and otherwise it is what follows the last one
-after_first : (name : List ℕ) (i : ℕ) → i < length name → get_or name i 0 ≡ 47 → has 47 (drop (suc i) name) ≡ false → drop (suc i) name ≡ elem name
+pub after_first : (name : List ℕ) (i : ℕ) → i < length name → get_or name i 0 ≡ 47 → has 47 (drop (suc i) name) ≡ false → drop (suc i) name ≡ elem name
 after_first [] i h e n = absurd (not-suc-le-zero h)
 after_first (c ∷ name) zero h e n = rw (n, eq-eqb c 47 e)
 after_first (c ∷ name) (suc i) h e n = rw (has-at 47 name i (omega arith) e) (after_first name i (omega arith) e n)
 
-pub elem-after : (name : List ℕ) (i : ℕ) → 0 < i → i ≤ length name → get_or name (i - 1) 0 ≡ 47 → has 47 (drop i name) ≡ false → drop i name ≡ elem name
-elem-after name i h l e n =
-    let d : suc (i - 1) ≡ i = omega arith in
-    rw d at (after_first name (i - 1) (omega arith) e (rw d n))
+-- the search for `/` from the end: none where no byte is one, and none behind a place where no later one is
+pub has-none : (x : ℕ) (l : List ℕ) → ((k : ℕ) → k < length l → get_or l k 0 ≡ x → ⊥) → has x l ≡ false
+has-none x [] f = refl
+has-none x (y ∷ l) f = rw (ne_eqb y x (f 0 (omega arith)), has-none x l (λ k h. f (suc k) (omega arith)))
 
--- the search for `/` from the end: none at the end, and none one place before
-pub has-none : (x : ℕ) (l : List ℕ) → has x (drop (length l) l) ≡ false
-has-none x l = rw (drop-length l)
-
-pub has-less : (x : ℕ) (l : List ℕ) (i : ℕ) → 0 < i → i ≤ length l → (get_or l (i - 1) 0 ≡ x → ⊥) → has x (drop i l) ≡ false → has x (drop (i - 1) l) ≡ false
-has-less x l i h m ne e =
-    let d : suc (i - 1) ≡ i = omega arith in
-    let f : has x (drop (suc (i - 1)) l) ≡ false = rw d e in
-    ap (has x) (drop-cons l (i - 1) 0 (omega arith)) ∙ rw (ne_eqb (get_or l (i - 1) 0) x ne) f
+pub none-behind : (x : ℕ) (l : List ℕ) (i : ℕ) → ((k : ℕ) → i < k → k < length l → get_or l k 0 ≡ x → ⊥) → has x (drop (suc i) l) ≡ false
+none-behind x [] i f = refl
+none-behind x (y ∷ l) zero f = has-none x l (λ k h. f (suc k) (omega arith) (omega arith))
+none-behind x (y ∷ l) (suc i) f = none-behind x l i (λ k g h. f (suc k) (omega arith) (omega arith))
 
 -- the search for a place to cut at
 pub cut-here : (s : List ℕ) (n : ℕ) → 0 < n → within 128 192 (get_or s n 0) ≡ false → n ≡ cut s n

@@ -21,14 +21,10 @@ const DOTS: usize = 3;
 fn after_slash(name: &[u8]) -> usize
     ensures { (result ≤ length name.now) × (drop result name.now ≡ elem name.now) }
 {
-    let mut i = name.len();
-    while 0 < i {
-        if name[i - 1] == b'/' {
-            return i;
-        }
-        i -= 1;
+    match name.iter().rposition(|&b| b == b'/') {
+        Some(i) => i + 1,
+        None => 0,
     }
-    0
 }
 
 // The last element of a path, as exec.rs's set_text takes it: what follows the last `/`, perhaps empty.
@@ -68,11 +64,7 @@ fn put(dst: &mut [u8; 28], at: usize, s: &[u8])
     ensures dst_after { dst.new ≡ put dst.old at s.now }
     ensures dst_len { length dst.new ≡ 28 }
 {
-    let mut i = 0;
-    while i < s.len() {
-        dst[at + i] = s[i];
-        i += 1;
-    }
+    dst[at..at + s.len()].copy_from_slice(s);
 }
 
 // Copies `src` into `dst` and zeroes the rest, as Plan 9's kstrcpy: of more than 27 bytes, as much as fits with `...`, cut where

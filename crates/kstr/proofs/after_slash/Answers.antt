@@ -1,19 +1,17 @@
--- `kstr::after_slash` meets its contract. The loop's invariant: no `/` stands at `i` or after it.
-use mathlib.Core.Path.{◌≡◌}
-use native.Mathlib.Omega.{arith}
-use Rattle.kstr.proofs.Names.{elem-whole, elem-after, has-none, has-less}
+-- `kstr::after_slash` meets its contract: no `/` stands behind the last, if there is one.
+use Rattle.std.proofs.Common.{rules, arith, ◌≡◌, ◌<◌, ℕ, length, get_or, add-one}
+use Rattle.kstr.proofs.Names.{elem-whole, after_first, has-none, none-behind}
 use Rattle.kstr.proofs.after_slash.Goals as goal
 
-pub loop-i-init : goal.loop-i-init
-loop-i-init c = (omega arith, has-none 47 c.args.name.now)
+pub returns-in-Some : goal.returns-in-Some
+returns-in-Some c =
+    let s = c.args.name.now in
+    let i = c.in-Some.i in
+    let h : (i < length s) × (get_or s i 0 ≡ 47) × ((k : ℕ) → i < k → k < length s → get_or s k 0 ≡ 47 → ⊥) = search rules in
+    (omega arith, rw (add-one i) (after_first s i h.0 h.1 (none-behind 47 s i h.2)))
 
-pub returns-then-name-i-eq47 : goal.returns-then-name-i-eq47
-returns-then-name-i-eq47 c = (omega arith, elem-after c.args.name.now c.loop-i.i (omega arith) (omega arith) c.if-name-i-eq47.true c.loop-i.invariant.1)
-
-pub loop-i-preserved : goal.loop-i-preserved
-loop-i-preserved c = (omega arith, has-less 47 c.args.name.now c.loop-i.i (omega arith) (omega arith) c.if-name-i-eq47.false c.loop-i.invariant.1)
-
-pub returns : goal.returns
-returns c =
-    let e : c.loop-i.i ≡ 0 = omega arith in
-    (omega arith, elem-whole c.args.name.now (rw e at c.loop-i.invariant.1))
+pub returns-in-None : goal.returns-in-None
+returns-in-None c =
+    let s = c.args.name.now in
+    let h : (k : ℕ) → k < length s → get_or s k 0 ≡ 47 → ⊥ = search rules in
+    (omega arith, elem-whole s (has-none 47 s h))
