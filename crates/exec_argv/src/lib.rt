@@ -46,6 +46,7 @@ pub fn copy_argv(
 {
     let mut used = 0;
     let mut count = 0;
+    // A `loop`: how many pointers there are, only the null behind them tells.
     loop {
         let s = match read_pointer(pages, frames, pointer_addr(argv, count)) {
             Ok(Some(s)) => s,

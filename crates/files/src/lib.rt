@@ -14,6 +14,7 @@ pub fn read<R: Read>(file: &mut R, dst: &mut [u8]) -> io::Result<usize>
     ensures { IfOk result (λ n. n ≤ length dst.new) }
 {
     let mut n = 0;
+    // By `while`: how far a turn goes on, one read tells.
     while n < dst.len() {
         let more = file.read(&mut dst[n..])?;
         if more == 0 {

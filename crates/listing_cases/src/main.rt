@@ -43,6 +43,7 @@ fn fill<R: Read>(rt: &impl Eprint, file: &mut R, buf: &mut [u8]) -> Result<(), S
 // Reads n bytes and drops them.
 fn skip<R: Read>(rt: &impl Eprint, file: &mut R, n: usize) -> Result<(), Stop> {
     let mut left = n;
+    // By `while`: the last part may be shorter.
     while left > 0 {
         let mut page = [0u8; 4096];
         let k = left.min(4096);

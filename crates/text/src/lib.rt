@@ -49,6 +49,7 @@ impl<'a> Writer<'a> {
         let mut digits = [0u8; 20];
         let mut i = 20;
         let mut m = n;
+        // By `while`: digits come from the last to the first, and only at the end is it known how many they are.
         while m >= 10 {
             i -= 1;
             digits[i] = b'0' + (m % 10) as u8;
