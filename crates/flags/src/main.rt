@@ -9,5 +9,12 @@ fn main(rt: HostRuntime) -> ExitCode {
     // One byte more than is read, so that a longer file is seen to be one.
     let mut bytes = [0u8; 4097];
     let mut out = [0u8; 96];
-    files::print_text(&rt, "flags", &mut rt.stdin(), &mut bytes, &mut out, |bytes, out| setup_flags::table_into(bytes, out))
+    files::print_text(
+        &rt,
+        "flags",
+        &mut rt.stdin(),
+        &mut bytes,
+        &mut out,
+        |bytes, out| setup_flags::table_into(bytes, out),
+    )
 }

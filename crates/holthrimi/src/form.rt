@@ -9,9 +9,5 @@ use spec::Form;
 pub fn form_of(aout: bool, magic: u32) -> Form
     ensures { result ≡ form_of aout magic }
 {
-    if aout {
-        Form::Aout(magic)
-    } else {
-        Form::Elf
-    }
+    if aout { Form::Aout(magic) } else { Form::Elf }
 }

@@ -23,6 +23,7 @@ pub returns : goal.returns
 unfolding setup_ok flags_ok setup_error
 returns c =
     let b = c.args.book.now in
-    let p = c.args.procs in
-    (λ h. c.is_ok.ensures.value ∙ accepted (sound_book deposit b p) c.prepare.result (c.prepare.ensures.value ∙ ap (λ (u : Setup). sound_error u b p) c.deposit.ensures),
-    λ h. absurd (omega (arith, h, c.if-book-gt17408.false)))
+    let p = c.args.procs in (
+      λ h. c.is_ok.ensures.value ∙ accepted (sound_book deposit b p) c.prepare.result (c.prepare.ensures.value ∙ ap (λ (u : Setup). sound_error u b p) c.deposit.ensures),
+      λ h. absurd (omega (arith, h, c.if-book-gt17408.false)),
+    )
