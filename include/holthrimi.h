@@ -11,9 +11,9 @@
  *   - what is not const overlaps nothing else that the call is given, and nothing else touches it until the call returns;
  *   - a bool is 0 or 1.
  * The library keeps nothing between calls, allocates nothing, and needs memcpy, memmove and memset. It follows the System V calling
- * convention of x86-64, with its red zone and SSE registers. Of stack, replace was measured to use 49 KiB,
- * start and push 41, fork with a list 39, fork, and copies from and to a process, 31, break 29 and the other calls 25 (bench/run ""
- * stack).
+ * convention of x86-64, with its red zone and SSE registers. Of stack, replace was measured to use 80 KiB, fork 79,
+ * fork with a list 71, start 68, push 66, break, end and the copies from and to a process 56, and the other calls 36
+ * (bench/run "" stack).
  *
  * Numbers. A page is 4,096 bytes. The machine's four numbers and the flag table are handed to every call, by value
  * (struct holthrimi_setup); limit is one guard page below the stack.
