@@ -3,7 +3,8 @@
 
 #![tactic(auto)]
 
-ghost use Rattle.std.specs.Prelude.{◌≤◌, length, IfOk};
+ghost use Rattle.std.specs.Prelude.{◌≡◌, ◌≤◌, ◌⊎◌, ℕ, length, take, IfOk};
+ghost use Rattle.std.specs.Process.{exit_status};
 
 use std::io;
 use std::io::{Eprint, Print, Read};
@@ -38,6 +39,9 @@ pub fn print_text<F: FnOnce(&[u8], &mut [u8]) -> usize>(
 ) -> ExitCode
     requires callable { F.IsAlwaysCallable text }
     requires within { (x : _) (y : _) (n : _) (z : _) → F.post text x y n z → n ≤ length z.now }
+    ensures status { exit_status result ≤ 1 }
+    // It failed and `out` is as it was, or `out` is what `text` left there, of the first bytes that `bytes` holds.
+    ensures left { ((exit_status result ≡ 1) × (out.new ≡ out.old)) ⊎ ((n : ℕ) × (k : ℕ) × (x : _) × (y : _) × (z : _) × (x.now ≡ take n bytes.new) × (y.now ≡ out.old) × (z.now ≡ out.new) × F.post text x y k z) }
 {
     let n = match read(file, bytes) {
         Ok(n) => n,
