@@ -50,7 +50,7 @@ pub extern "C" fn measured_sound(book: &[u64], procs: Procs) -> bool
         return false;
     }
     let mut lookup = Lookup::new();
-    sound::prepare(setup::deposit(), book, procs, 1, &mut lookup).is_ok()
+    sound::prepare(setup::deposit(), book, &procs, 1, &mut lookup).is_ok()
 }
 
 // The number that an image is refused with by the ELF reader under the built-in flag table, or 0.

@@ -23,7 +23,7 @@ pub fn copy_from_user(
     ensures { Does (state_of setup frames.old book.old procs) (call number (copy-from-user dst.old src)) (state_of setup frames.new book.new result.procs) (record { says = result.answer; buffer = dst.new }) }
 {
     let mut lookup = Lookup::new();
-    if let Err(e) = plain_ready(setup, frames, book, procs, number, true, &mut lookup) {
+    if let Err(e) = plain_ready(setup, frames, book, &procs, number, true, &mut lookup) {
         return refused(procs, e);
     }
     let pages = UserPages {

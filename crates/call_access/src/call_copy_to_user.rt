@@ -24,7 +24,7 @@ pub fn copy_to_user(
     ensures { Does (state_of setup frames.old book.old procs) (call number (copy-to-user dst bytes.now)) (state_of setup frames.new book.new result.procs) (plainly result.answer) }
 {
     let mut lookup = Lookup::new();
-    if let Err(e) = plain_ready(setup, frames, book, procs, number, true, &mut lookup) {
+    if let Err(e) = plain_ready(setup, frames, book, &procs, number, true, &mut lookup) {
         return refused(procs, e);
     }
     let pages = UserPages {

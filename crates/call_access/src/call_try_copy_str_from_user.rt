@@ -23,7 +23,7 @@ pub fn try_copy_str_from_user(
     ensures { Does (state_of setup frames.now book.now procs) (call number (try-copy-str-from-user dst.old src)) (state_of setup frames.now book.now procs) (record { says = result; buffer = dst.new }) }
 {
     let mut lookup = Lookup::new();
-    if let Err(e) = plain_ready(setup, frames, book, procs, number, true, &mut lookup) {
+    if let Err(e) = plain_ready(setup, frames, book, &procs, number, true, &mut lookup) {
         return Answer::from(e);
     }
     let pages = UserPages {

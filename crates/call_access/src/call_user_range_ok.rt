@@ -23,7 +23,7 @@ pub fn user_range_ok(
     ensures { Does (state_of setup frames.now book.now procs) (call number (user-range-ok addr len write)) (state_of setup frames.now book.now procs) (plainly result) }
 {
     let mut lookup = Lookup::new();
-    if let Err(e) = plain_ready(setup, frames, book, procs, number, true, &mut lookup) {
+    if let Err(e) = plain_ready(setup, frames, book, &procs, number, true, &mut lookup) {
         return Answer::from(e);
     }
     let pages = UserPages {

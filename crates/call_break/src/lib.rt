@@ -37,7 +37,7 @@ fn move_break(frames: &mut [u8], book: &mut [u64], procs: Procs, number: u64, to
     requires number_value { ((proc_at procs number).bss.end % 4096 ≡ 0) × (top % 4096 ≡ 0) × (top < 2 ^ 63) }
     ensures { (setup : Setup) → state_of setup frames.new book.new result ≡ brk (state_of setup frames.old book.old procs) number (proc_at procs number) top }
 {
-    let mut p = call_front::record::proc_at(procs, number);
+    let mut p = call_front::record::proc_at(&procs, number);
     move_pages(frames, book, number, p.bss.end, top);
     p.bss.end = top;
     call_front::record::with_proc(procs, number, p)
@@ -56,10 +56,10 @@ pub fn brk(
     ensures { Does (state_of setup frames.old book.old procs) (call number (break addr)) (state_of setup frames.new book.new result.procs) (plainly result.answer) }
 {
     let mut lookup = Lookup::new();
-    if let Err(e) = plain_ready(setup, frames, book, procs, number, true, &mut lookup) {
+    if let Err(e) = plain_ready(setup, frames, book, &procs, number, true, &mut lookup) {
         return refused(procs, e);
     }
-    let bss = call_front::record::proc_at(procs, number).bss;
+    let bss = call_front::record::proc_at(&procs, number).bss;
     let free = book::free_count(book) as u64;
     let moved = match segment::ibrk(setup, Some(bss), addr, free) {
         Ok(moved) => moved,

@@ -17,7 +17,7 @@ pub fn end(setup: Setup, frames: &mut [u8], book: &mut [u64], procs: Procs, numb
     ensures { Does (state_of setup frames.old book.old procs) (call number end) (state_of setup frames.new book.new result.procs) (plainly result.answer) }
 {
     let mut lookup = Lookup::new();
-    if let Err(e) = plain_ready(setup, frames, book, procs, number, true, &mut lookup) {
+    if let Err(e) = plain_ready(setup, frames, book, &procs, number, true, &mut lookup) {
         return refused(procs, e);
     }
     let after = forget(book, procs, number);

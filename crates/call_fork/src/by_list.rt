@@ -15,8 +15,8 @@ use sound::Lookup;
 use spec::{Answer, Left, Proc, Procs, Refusal, Setup, UserSegment};
 
 // The record of a process, as the specification reads it where no process has the number too: of 0 the first, above 16 the zero record.
-pub(crate) fn recorded(procs: Procs, number: u64) -> Proc
-    ensures { result ≡ proc_at procs number }
+pub(crate) fn recorded(procs: &Procs, number: u64) -> Proc
+    ensures { result ≡ proc_at procs.now number }
 {
     match procs.all.get(number.saturating_sub(1) as usize) {
         Some(p) => *p,
@@ -69,8 +69,8 @@ fn list_ready(
     ensures record_is { IfOk result (λ p. p ≡ proc_at procs number) }
     ensures ready { OnOk result (Ready book.now number lookup.new) }
 {
-    let p = recorded(procs, number);
-    let first = call_front::numbers::fork_ready(setup, frames, book, procs, number, child, lookup);
+    let p = recorded(&procs, number);
+    let first = call_front::numbers::fork_ready(setup, frames, book, &procs, number, child, lookup);
     list_checked(first, is_torn(number, segments, &p))?;
     if crate::count::data_pages(p) > book::free_count(book) as u64 {
         return Err(Refusal::NoMemory);

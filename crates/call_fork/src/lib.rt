@@ -29,7 +29,7 @@ pub fn fork(
 ) -> Left
     ensures { Does (state_of setup frames.old book.old procs) (call number (fork child (used (proc_at procs number).segments))) (state_of setup frames.new book.new result.procs) (plainly result.answer) }
 {
-    let p = by_list::recorded(procs, number);
+    let p = by_list::recorded(&procs, number);
     fork_list(
         setup,
         frames,

@@ -39,14 +39,14 @@ pub fn number_ready(
     setup: Setup,
     frames: &[u8],
     book: &[u64],
-    procs: Procs,
+    procs: &Procs,
     number: u64,
     fits: bool,
     lookup: &mut Lookup,
 ) -> Result<(), Refusal>
     requires { Zeros lookup.old }
-    ensures value { number_of result ≡ number_error (state_of setup frames.now book.now procs) number fits }
-    ensures leaves { Leaves (number_of result) book.now procs number lookup.new }
+    ensures value { number_of result ≡ number_error (state_of setup frames.now book.now procs.now) number fits }
+    ensures leaves { Leaves (number_of result) book.now procs.now number lookup.new }
 {
     if !sizes_ok(frames, book) || !fits {
         return Err(Refusal::Sizes);

@@ -14,8 +14,8 @@ use sound::Lookup;
 use spec::{Procs, Refusal, Setup};
 
 // 4 of a process that doesn't live.
-fn alive(procs: Procs, number: u64) -> Result<(), Refusal>
-    ensures { number_of result ≡ (not (valid number && livesOf (proc_at procs number)) ⇒ 4 else 0) }
+fn alive(procs: &Procs, number: u64) -> Result<(), Refusal>
+    ensures { number_of result ≡ (not (valid number && livesOf (proc_at procs.now number)) ⇒ 4 else 0) }
 {
     if !lives(procs, number) {
         return Err(Refusal::Dead);
@@ -24,8 +24,8 @@ fn alive(procs: Procs, number: u64) -> Result<(), Refusal>
 }
 
 // 5 of a process that lives.
-fn vacant(procs: Procs, number: u64) -> Result<(), Refusal>
-    ensures { number_of result ≡ (not (not (valid number && livesOf (proc_at procs number))) ⇒ 5 else 0) }
+fn vacant(procs: &Procs, number: u64) -> Result<(), Refusal>
+    ensures { number_of result ≡ (not (not (valid number && livesOf (proc_at procs.now number))) ⇒ 5 else 0) }
 {
     if lives(procs, number) {
         return Err(Refusal::Taken);
@@ -39,14 +39,14 @@ pub fn plain_ready(
     setup: Setup,
     frames: &[u8],
     book: &[u64],
-    procs: Procs,
+    procs: &Procs,
     number: u64,
     fits: bool,
     lookup: &mut Lookup,
 ) -> Result<(), Refusal>
     requires { Zeros lookup.old }
-    ensures value { number_of result ≡ plain_error (state_of setup frames.now book.now procs) number fits }
-    ensures leaves { Leaves (number_of result) book.now procs number lookup.new }
+    ensures value { number_of result ≡ plain_error (state_of setup frames.now book.now procs.now) number fits }
+    ensures leaves { Leaves (number_of result) book.now procs.now number lookup.new }
 {
     number_ready(setup, frames, book, procs, number, fits, lookup)?;
     alive(procs, number)
@@ -58,22 +58,22 @@ pub fn begin_ready(
     setup: Setup,
     frames: &[u8],
     book: &[u64],
-    procs: Procs,
+    procs: &Procs,
     number: u64,
     args_fit: bool,
     lookup: &mut Lookup,
 ) -> Result<(), Refusal>
     requires { Zeros lookup.old }
-    ensures value { number_of result ≡ begin_error (state_of setup frames.now book.now procs) number args_fit }
-    ensures leaves { Leaves (number_of result) book.now procs number lookup.new }
+    ensures value { number_of result ≡ begin_error (state_of setup frames.now book.now procs.now) number args_fit }
+    ensures leaves { Leaves (number_of result) book.now procs.now number lookup.new }
 {
     number_ready(setup, frames, book, procs, number, args_fit, lookup)?;
     vacant(procs, number)
 }
 
 // 3 of the child's number, 4 of the parent and 5 of the child, which come next in a fork.
-fn child_ready(procs: Procs, parent: u64, child: u64) -> Result<(), Refusal>
-    ensures { number_of result ≡ (not (valid child) ⇒ 3 else not (valid parent && livesOf (proc_at procs parent)) ⇒ 4 else not (not (valid child && livesOf (proc_at procs child))) ⇒ 5 else 0) }
+fn child_ready(procs: &Procs, parent: u64, child: u64) -> Result<(), Refusal>
+    ensures { number_of result ≡ (not (valid child) ⇒ 3 else not (valid parent && livesOf (proc_at procs.now parent)) ⇒ 4 else not (not (valid child && livesOf (proc_at procs.now child))) ⇒ 5 else 0) }
 {
     number_ok(child)?;
     alive(procs, parent)?;
@@ -86,14 +86,14 @@ pub fn fork_ready(
     setup: Setup,
     frames: &[u8],
     book: &[u64],
-    procs: Procs,
+    procs: &Procs,
     parent: u64,
     child: u64,
     lookup: &mut Lookup,
 ) -> Result<(), Refusal>
     requires { Zeros lookup.old }
-    ensures value { number_of result ≡ fork_error (state_of setup frames.now book.now procs) parent child }
-    ensures leaves { Leaves (number_of result) book.now procs parent lookup.new }
+    ensures value { number_of result ≡ fork_error (state_of setup frames.now book.now procs.now) parent child }
+    ensures leaves { Leaves (number_of result) book.now procs.now parent lookup.new }
 {
     number_ready(setup, frames, book, procs, parent, true, lookup)?;
     child_ready(procs, parent, child)

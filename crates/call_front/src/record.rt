@@ -16,9 +16,9 @@ pub fn is_number(number: u64) -> bool
 }
 
 // The record of process `number`.
-pub fn proc_at(procs: Procs, number: u64) -> Proc
+pub fn proc_at(procs: &Procs, number: u64) -> Proc
     requires { valid number ≡ true }
-    ensures { result ≡ proc_at procs number }
+    ensures { result ≡ proc_at procs.now number }
 {
     procs.all[(number - 1) as usize]
 }
@@ -40,8 +40,8 @@ pub fn zero_proc() -> Proc
 }
 
 // Whether process `number` lives; a number outside 1 to 16 is none's.
-pub fn lives(procs: Procs, number: u64) -> bool
-    ensures { result ≡ (valid number && livesOf (proc_at procs number)) }
+pub fn lives(procs: &Procs, number: u64) -> bool
+    ensures { result ≡ (valid number && livesOf (proc_at procs.now number)) }
 {
     is_number(number) && sound_records::lives(proc_at(procs, number))
 }

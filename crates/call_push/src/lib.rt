@@ -33,7 +33,7 @@ pub fn push(
 {
     let fits = exec_args::lengths_fit(bytes, lengths);
     let mut lookup = Lookup::new();
-    if let Err(e) = plain_ready(setup, frames, book, procs, number, fits, &mut lookup) {
+    if let Err(e) = plain_ready(setup, frames, book, &procs, number, fits, &mut lookup) {
         return refused(procs, e);
     }
     if top % 16 != 0 {

@@ -30,14 +30,14 @@ fn replace_plan<'a>(
     setup: Setup,
     frames: &[u8],
     book: &[u64],
-    procs: Procs,
+    procs: &Procs,
     number: u64,
     form: Form,
     image: &'a [u8],
     lookup: &mut Lookup,
 ) -> Result<Plan<'a>, Refusal>
     requires { Zeros lookup.old }
-    ensures value { number_of result ≡ replace_number (state_of setup frames.now book.now procs) number form image.now }
+    ensures value { number_of result ≡ replace_number (state_of setup frames.now book.now procs.now) number form image.now }
     ensures planned { IfOk result (λ plan. SameImage plan.image setup form image.now) }
     ensures ready { OnOk result (Ready book.now number lookup.new) }
 {
@@ -100,7 +100,7 @@ pub fn replace(
     ensures { Does (state_of setup frames.old book.old procs) (call number (replace form image.now name.now argv)) (state_of setup frames.new book.new result.procs) (plainly result.answer) }
 {
     let mut lookup = Lookup::new();
-    match replace_plan(setup, frames, book, procs, number, form, image, &mut lookup) {
+    match replace_plan(setup, frames, book, &procs, number, form, image, &mut lookup) {
         Ok(plan) => enter_argv(frames, book, &lookup, procs, number, &plan, name, argv),
         Err(e) => refused(procs, e),
     }

@@ -45,14 +45,14 @@ fn start_plan<'a>(
     setup: Setup,
     frames: &[u8],
     book: &[u64],
-    procs: Procs,
+    procs: &Procs,
     number: u64,
     form: Form,
     image: &'a [u8],
     bytes: &[u8],
     lengths: &[u64],
 ) -> Result<Plan<'a>, Refusal>
-    ensures value { number_of result ≡ start_number (state_of setup frames.now book.now procs) number form image.now bytes.now lengths.now }
+    ensures value { number_of result ≡ start_number (state_of setup frames.now book.now procs.now) number form image.now bytes.now lengths.now }
     ensures planned { IfOk result (λ plan. SameImage plan.image setup form image.now) }
 {
     let fits = exec_args::lengths_fit(bytes, lengths);
@@ -84,7 +84,7 @@ pub fn start(
     ensures { Does (state_of setup frames.old book.old procs) (call number (start form image.now name.now bytes.now lengths.now)) (state_of setup frames.new book.new result.procs) (plainly result.answer) }
 {
     match start_plan(
-        setup, frames, book, procs, number, form, image, bytes, lengths,
+        setup, frames, book, &procs, number, form, image, bytes, lengths,
     ) {
         Ok(plan) => {
             let regs = install_with(frames, book, number, &plan, bytes, lengths);

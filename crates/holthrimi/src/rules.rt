@@ -316,7 +316,7 @@ fn book_error(setup: Setup, frames: &[u8], book: &[u64], procs: &Procs) -> Resul
     if !call_front::sizes_ok(frames, book) {
         return Err(Refusal::Sizes);
     }
-    sound::check(setup, book, *procs)
+    sound::check(setup, book, procs)
 }
 
 // The number that frames, book and records are refused with by every call, 1, 38, 39 or 2, or 0.

@@ -25,6 +25,12 @@ impl Display for Told {
     }
 }
 
+// The hex digit of a number below 16, in lower case; of another, that of its last four bits.
+fn digit(n: u8) -> u8 {
+    let digits = b"0123456789abcdef";
+    digits[usize::from(n % 16)]
+}
+
 // Bytes: two hex digits each, or `-` for none.
 #[derive(Clone, Copy)]
 pub(crate) struct Hex<'a>(pub(crate) &'a [u8]);
@@ -34,10 +40,17 @@ impl<'a> Display for Hex<'a> {
         if self.0.is_empty() {
             return write!(f, "-");
         }
-        for b in self.0 {
-            let high = char::from_digit(u32::from(*b / 16), 16).unwrap();
-            let low = char::from_digit(u32::from(*b % 16), 16).unwrap();
-            write!(f, "{high}{low}")?;
+        // By parts, since what is written at once is one write to standard output.
+        for part in self.0.chunks(2048) {
+            let mut text = [b'0'; 4096];
+            for (pair, b) in text.chunks_exact_mut(2).zip(part) {
+                pair[0] = digit(b / 16);
+                pair[1] = digit(*b);
+            }
+            let Ok(text) = str::from_utf8(&text[..text.len().min(2 * part.len())]) else {
+                return Err(fmt::Error);
+            };
+            write!(f, "{text}")?;
         }
         Ok(())
     }

@@ -20,16 +20,17 @@ impl<'a> Display for Name<'a> {
         let Some(last) = name.iter().rposition(|b| *b != 0) else {
             return Ok(());
         };
-        write!(f, " ")?;
-        for b in &name[..last + 1] {
-            let sign = if b.is_ascii_graphic() {
-                char::from(*b)
-            } else {
-                '.'
-            };
-            write!(f, "{sign}")?;
+        let mut signs = [b'.'; 28];
+        for (sign, b) in signs.iter_mut().zip(name) {
+            if b.is_ascii_graphic() {
+                *sign = *b;
+            }
         }
-        Ok(())
+        // At once, since each part that is written is one write to standard output.
+        match str::from_utf8(&signs[..last + 1]) {
+            Ok(text) => write!(f, " {text}"),
+            Err(_) => Err(fmt::Error),
+        }
     }
 }
 
@@ -131,7 +132,7 @@ impl<'a> Map<'a> {
         if !call_front::is_number(self.number) {
             return Err(Refusal::Number);
         }
-        if !call_front::lives(*self.procs, self.number) {
+        if !call_front::lives(self.procs, self.number) {
             return Err(Refusal::Dead);
         }
         Ok(self.procs.all[(self.number - 1) as usize])

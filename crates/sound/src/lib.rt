@@ -65,16 +65,16 @@ fn is_sound(setup: Setup, book: &[u64], procs: Procs, number: u64, lookup: &mut 
 pub fn prepare(
     setup: Setup,
     book: &[u64],
-    procs: Procs,
+    procs: &Procs,
     number: u64,
     lookup: &mut Lookup,
 ) -> Result<(), Refusal>
     requires { (length book.now ≤ 17408) × Zeros lookup.old }
-    ensures value { number_of result ≡ sound_error setup book.now procs }
-    ensures leaves { Leaves (number_of result) book.now procs number lookup.new }
+    ensures value { number_of result ≡ sound_error setup book.now procs.now }
+    ensures leaves { Leaves (number_of result) book.now procs.now number lookup.new }
 {
     setup::check(setup)?;
-    if !is_sound(setup, book, procs, number, lookup) {
+    if !is_sound(setup, book, *procs, number, lookup) {
         *lookup = Lookup::new();
         return Err(Refusal::Torn);
     }
@@ -82,9 +82,9 @@ pub fn prepare(
 }
 
 // The same for a call that looks up no page.
-pub fn check(setup: Setup, book: &[u64], procs: Procs) -> Result<(), Refusal>
+pub fn check(setup: Setup, book: &[u64], procs: &Procs) -> Result<(), Refusal>
     requires { length book.now ≤ 17408 }
-    ensures { number_of result ≡ sound_error setup book.now procs }
+    ensures { number_of result ≡ sound_error setup book.now procs.now }
 {
     let mut lookup = Lookup::new();
     prepare(setup, book, procs, 0, &mut lookup)

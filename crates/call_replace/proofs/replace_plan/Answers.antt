@@ -15,7 +15,7 @@ use Rattle.call_replace.proofs.replace_plan.Goals as goal
 use Rattle.call_replace.proofs.replace_plan.Goals.{After-plain_ready}
 
 abbrev state : After-plain_ready → State
-state c = state_of c.args.setup c.args.frames.now c.args.book.now c.args.procs
+state c = state_of c.args.setup c.args.frames.now c.args.book.now c.args.procs.now
 
 pub returns-in_err-plain_ready-clause-value : goal.returns-in_err-plain_ready-clause-value
 returns-in_err-plain_ready-clause-value c =

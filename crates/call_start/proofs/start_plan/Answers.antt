@@ -27,7 +27,7 @@ use Rattle.call_start.proofs.start_plan.Goals as goal
 use Rattle.call_start.proofs.start_plan.Goals.{After-begin_ready, In_ok-begin_ready, In_ok-args_size, In_ok-plan}
 
 abbrev state : After-begin_ready → State
-state c = state_of c.args.setup c.args.frames.now c.args.book.now c.args.procs
+state c = state_of c.args.setup c.args.frames.now c.args.book.now c.args.procs.now
 
 first : (c : After-begin_ready) → number_of c.begin_ready.result ≡ begins (state c) c.args.number c.args.form c.args.image.now c.args.bytes.now c.args.lengths.now
 first c = c.begin_ready.ensures.value ∙ ap (begin_error (state c) c.args.number) c.lengths_fit-fits.ensures

@@ -20,7 +20,7 @@ returns-in_err-prepare-clause-value c =
     let e : Refusal = c.in_err-prepare.field-0.0 in
     let r = err_from_is_err_and c.from_residual.result c.from_residual.ensures.1 in
     let told : number_of c.from_residual.result ≡ refusal_number e = ap number_of (r.1 ∙ ap Err r.2) in
-    let s : State = state_of a.setup a.frames.now a.book.now a.procs in
+    let s : State = state_of a.setup a.frames.now a.book.now a.procs.now in
     let sizes : sized (store a.frames.now a.book.now) ≡ true = sym c.sizes_ok.ensures ∙ c.if-not-sizes_ok.false in
     rw (sizes, c.if-not-fits.false) (told ∙ sound-given s (refusal_number e) _ c.in_err-prepare.ensures.value (refused-not-0 e))
 

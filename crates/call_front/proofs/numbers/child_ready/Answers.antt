@@ -16,10 +16,10 @@ returns-in_err-alive c =
     let e : Refusal = c.in_err-alive.field-0.0 in
     let r = err_from_is_err_and c.from_residual-in_err-alive.result c.from_residual-in_err-alive.ensures.1 in
     let told : number_of c.from_residual-in_err-alive.result ≡ refusal_number e = ap number_of (r.1 ∙ ap Err r.2) in
-    told ∙ further true (valid a.child) 3 _ _ (sym (none_here (valid a.child) 3 0 refl (sym c.in_ok-number_ok.ensures)).0) refl (given_still (not (valid a.parent && lives (proc_at a.procs a.parent))) 4 _ _ (refused-not-0 e) c.in_err-alive.ensures)
+    told ∙ further true (valid a.child) 3 _ _ (sym (none_here (valid a.child) 3 0 refl (sym c.in_ok-number_ok.ensures)).0) refl (given_still (not (valid a.parent && lives (proc_at a.procs.now a.parent))) 4 _ _ (refused-not-0 e) c.in_err-alive.ensures)
 
 pub returns : goal.returns
 returns c =
     let a = c.args in
     further true (valid a.child) 3 _ _ (sym (none_here (valid a.child) 3 0 refl (sym c.in_ok-number_ok.ensures)).0) refl
-    (further true _ 4 _ _ (sym (none_here (valid a.parent && lives (proc_at a.procs a.parent)) 4 0 refl (sym c.in_ok-alive.ensures)).0) refl c.vacant.ensures)
+    (further true _ 4 _ _ (sym (none_here (valid a.parent && lives (proc_at a.procs.now a.parent)) 4 0 refl (sym c.in_ok-alive.ensures)).0) refl c.vacant.ensures)
