@@ -24,7 +24,7 @@ pub fn copy_from_user(
 {
     let mut lookup = Lookup::new();
     if let Err(e) = plain_ready(setup, frames, book, &procs, number, true, &mut lookup) {
-        return refused(procs, e);
+        return refused(&procs, e);
     }
     let pages = UserPages {
         setup,
@@ -33,7 +33,7 @@ pub fn copy_from_user(
         number,
     };
     if let Err(address) = pages.user_range_ok(src, dst.len() as u64, false) {
-        return bad_address(book, procs, number, address);
+        return bad_address(book, &procs, number, address);
     }
     pages.read_user(frames, src, dst);
     Left {

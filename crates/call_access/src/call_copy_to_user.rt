@@ -25,7 +25,7 @@ pub fn copy_to_user(
 {
     let mut lookup = Lookup::new();
     if let Err(e) = plain_ready(setup, frames, book, &procs, number, true, &mut lookup) {
-        return refused(procs, e);
+        return refused(&procs, e);
     }
     let pages = UserPages {
         setup,
@@ -34,7 +34,7 @@ pub fn copy_to_user(
         number,
     };
     if let Err(address) = pages.user_range_ok(dst, bytes.len() as u64, true) {
-        return bad_address(book, procs, number, address);
+        return bad_address(book, &procs, number, address);
     }
     pages.write_user(frames, dst, bytes);
     Left {

@@ -32,12 +32,12 @@ fn move_pages(frames: &mut [u8], book: &mut [u64], number: u64, old: u64, new: u
 }
 
 // The bss of process `number` ends at `top`: its pages and its record.
-fn move_break(frames: &mut [u8], book: &mut [u64], procs: Procs, number: u64, top: u64) -> Procs
+fn move_break(frames: &mut [u8], book: &mut [u64], procs: &Procs, number: u64, top: u64) -> Procs
     requires frames_len { (length frames.old ≡ 4096 * frame_count book.old) × (valid number ≡ true) }
-    requires number_value { ((proc_at procs number).bss.end % 4096 ≡ 0) × (top % 4096 ≡ 0) × (top < 2 ^ 63) }
-    ensures { (setup : Setup) → state_of setup frames.new book.new result ≡ brk (state_of setup frames.old book.old procs) number (proc_at procs number) top }
+    requires number_value { ((proc_at procs.now number).bss.end % 4096 ≡ 0) × (top % 4096 ≡ 0) × (top < 2 ^ 63) }
+    ensures { (setup : Setup) → state_of setup frames.new book.new result ≡ brk (state_of setup frames.old book.old procs.now) number (proc_at procs.now number) top }
 {
-    let mut p = call_front::record::proc_at(&procs, number);
+    let mut p = call_front::record::proc_at(procs, number);
     move_pages(frames, book, number, p.bss.end, top);
     p.bss.end = top;
     call_front::record::with_proc(procs, number, p)
@@ -57,18 +57,18 @@ pub fn brk(
 {
     let mut lookup = Lookup::new();
     if let Err(e) = plain_ready(setup, frames, book, &procs, number, true, &mut lookup) {
-        return refused(procs, e);
+        return refused(&procs, e);
     }
     let bss = call_front::record::proc_at(&procs, number).bss;
     let free = book::free_count(book) as u64;
     let moved = match segment::ibrk(setup, Some(bss), addr, free) {
         Ok(moved) => moved,
-        Err(e) => return refused(procs, e),
+        Err(e) => return refused(&procs, e),
     };
     let answer = Answer::Value(moved.value);
     if addr == 0 {
         return Left { procs, answer };
     }
-    let procs = move_break(frames, book, procs, number, moved.bss.end);
+    let procs = move_break(frames, book, &procs, number, moved.bss.end);
     Left { procs, answer }
 }

@@ -18,9 +18,9 @@ pub fn end(setup: Setup, frames: &mut [u8], book: &mut [u64], procs: Procs, numb
 {
     let mut lookup = Lookup::new();
     if let Err(e) = plain_ready(setup, frames, book, &procs, number, true, &mut lookup) {
-        return refused(procs, e);
+        return refused(&procs, e);
     }
-    let after = forget(book, procs, number);
+    let after = forget(book, &procs, number);
     Left {
         procs: after,
         answer: Answer::Done,

@@ -107,10 +107,10 @@ pub fn fork_list(
             book::share_pages(book, number as usize, child as usize);
             crate::copy::copy_segments(frames, book, &lookup, number, child, segments, p.bss);
             Left {
-                procs: with_proc(procs, child, p),
+                procs: with_proc(&procs, child, p),
                 answer: Answer::Done,
             }
         }
-        Err(e) => call_front::refused(procs, e),
+        Err(e) => call_front::refused(&procs, e),
     }
 }

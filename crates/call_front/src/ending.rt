@@ -10,28 +10,28 @@ ghost use Rattle.spec.specs.declared.Answer.TheVariants.{Refused, EndedAt};
 use spec::{Answer, Left, Procs, Refusal};
 
 // A process ends, as `bad_address` ends it: its frames lose a holder and keep their bytes, and its record is zero.
-pub fn forget(book: &mut [u64], procs: Procs, number: u64) -> Procs
+pub fn forget(book: &mut [u64], procs: &Procs, number: u64) -> Procs
     requires { valid number ≡ true }
-    ensures { (setup : Setup) (frames : List ℕ) → state_of setup frames book.new result ≡ forget (state_of setup frames book.old procs) number }
+    ensures { (setup : Setup) (frames : List ℕ) → state_of setup frames book.new result ≡ forget (state_of setup frames book.old procs.now) number }
 {
     book::release_owner(book, number as usize);
     crate::record::with_proc(procs, number, crate::record::zero_proc())
 }
 
 // What a call leaves that is refused: the records as they were.
-pub fn refused(procs: Procs, e: Refusal) -> Left
-    ensures { result ≡ record { procs = procs; answer = Refused (refusal_number e) } }
+pub fn refused(procs: &Procs, e: Refusal) -> Left
+    ensures { result ≡ record { procs = procs.now; answer = Refused (refusal_number e) } }
 {
     Left {
-        procs,
+        procs: *procs,
         answer: Answer::from(e),
     }
 }
 
 // What a call leaves that meets a bad address, 35: the process has ended.
-pub fn bad_address(book: &mut [u64], procs: Procs, number: u64, address: u64) -> Left
+pub fn bad_address(book: &mut [u64], procs: &Procs, number: u64, address: u64) -> Left
     requires { valid number ≡ true }
-    ensures ends { (setup : Setup) (frames : List ℕ) → state_of setup frames book.new result.procs ≡ forget (state_of setup frames book.old procs) number }
+    ensures ends { (setup : Setup) (frames : List ℕ) → state_of setup frames book.new result.procs ≡ forget (state_of setup frames book.old procs.now) number }
     ensures says { result.answer ≡ EndedAt address }
 {
     Left {

@@ -24,12 +24,13 @@ pub fn proc_at(procs: &Procs, number: u64) -> Proc
 }
 
 // The records with that of process `number` set.
-pub fn with_proc(mut procs: Procs, number: u64, p: Proc) -> Procs
+pub fn with_proc(procs: &Procs, number: u64, p: Proc) -> Procs
     requires { valid number ≡ true }
-    ensures { result ≡ set_proc procs number p }
+    ensures { result ≡ set_proc procs.now number p }
 {
-    procs.all[(number - 1) as usize] = p;
-    procs
+    let mut after = *procs;
+    after.all[(number - 1) as usize] = p;
+    after
 }
 
 // The record of no process: all zero.

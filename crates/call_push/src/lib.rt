@@ -34,14 +34,14 @@ pub fn push(
     let fits = exec_args::lengths_fit(bytes, lengths);
     let mut lookup = Lookup::new();
     if let Err(e) = plain_ready(setup, frames, book, &procs, number, fits, &mut lookup) {
-        return refused(procs, e);
+        return refused(&procs, e);
     }
     if top % 16 != 0 {
-        return refused(procs, Refusal::Top);
+        return refused(&procs, Refusal::Top);
     }
     let size = match exec_args::args_size(setup, bytes, lengths) {
         Ok(size) => size,
-        Err(e) => return refused(procs, e),
+        Err(e) => return refused(&procs, e),
     };
     let pages = UserPages {
         setup,
@@ -50,7 +50,7 @@ pub fn push(
         number,
     };
     if let Err(address) = push_ok(&pages, top, size, lengths) {
-        return bad_address(book, procs, number, address);
+        return bad_address(book, &procs, number, address);
     }
     let regs = push_args(&pages, frames, pc, top, bytes, lengths);
     Left {

@@ -18,7 +18,7 @@ use spec::{Answer, Left, Procs, Refusal};
 pub fn enter(
     frames: &mut [u8],
     book: &mut [u64],
-    procs: Procs,
+    procs: &Procs,
     number: u64,
     plan: &Plan,
     name: &[u8],
@@ -28,7 +28,7 @@ pub fn enter(
 ) -> Left
     requires enterable { Enterable (store frames.old book.old) number plan.now }
     requires by_index { (args : List (List ℕ)) × Fitting plan.now.image.setup args buf.now size nargs }
-    ensures { (args : List (List ℕ)) → Fitting plan.now.image.setup args buf.now size nargs → (state_of plan.now.image.setup frames.new book.new result.procs ≡ entered (state_of plan.now.image.setup frames.old book.old procs) number (program plan.now.image) name.now args) × (result.answer ≡ entering (state_of plan.now.image.setup frames.old book.old procs) number (program plan.now.image) args) }
+    ensures { (args : List (List ℕ)) → Fitting plan.now.image.setup args buf.now size nargs → (state_of plan.now.image.setup frames.new book.new result.procs ≡ entered (state_of plan.now.image.setup frames.old book.old procs.now) number (program plan.now.image) name.now args) × (result.answer ≡ entering (state_of plan.now.image.setup frames.old book.old procs.now) number (program plan.now.image) args) }
 {
     let own = book::alone_count(book, number) as u64;
     let free = book::free_count(book) as u64;
@@ -42,7 +42,7 @@ pub fn enter(
     }
     let regs = exec_load::install(frames, book, number, plan, buf, size, nargs);
     Left {
-        procs: with_proc(ended, number, exec_load::record_of(plan, name)),
+        procs: with_proc(&ended, number, exec_load::record_of(plan, name)),
         answer: Answer::Regs(regs),
     }
 }

@@ -52,7 +52,7 @@ fn enter_argv(
     frames: &mut [u8],
     book: &mut [u64],
     lookup: &Lookup,
-    procs: Procs,
+    procs: &Procs,
     number: u64,
     plan: &Plan,
     name: &[u8],
@@ -60,7 +60,7 @@ fn enter_argv(
 ) -> Left
     requires ready { Ready book.old number lookup.now }
     requires enterable { Enterable (store frames.old book.old) number plan.now }
-    ensures { Became (state_of plan.now.image.setup frames.old book.old procs) number (program plan.now.image) name.now (copy_argv plan.now.image.setup (mem_of (store frames.old book.old) number) argv) (state_of plan.now.image.setup frames.new book.new result.procs) result.answer }
+    ensures { Became (state_of plan.now.image.setup frames.old book.old procs.now) number (program plan.now.image) name.now (copy_argv plan.now.image.setup (mem_of (store frames.old book.old) number) argv) (state_of plan.now.image.setup frames.new book.new result.procs) result.answer }
 {
     let setup = plan.image.setup();
     let pages = UserPages {
@@ -101,7 +101,7 @@ pub fn replace(
 {
     let mut lookup = Lookup::new();
     match replace_plan(setup, frames, book, &procs, number, form, image, &mut lookup) {
-        Ok(plan) => enter_argv(frames, book, &lookup, procs, number, &plan, name, argv),
-        Err(e) => refused(procs, e),
+        Ok(plan) => enter_argv(frames, book, &lookup, &procs, number, &plan, name, argv),
+        Err(e) => refused(&procs, e),
     }
 }

@@ -89,10 +89,10 @@ pub fn start(
         Ok(plan) => {
             let regs = install_with(frames, book, number, &plan, bytes, lengths);
             Left {
-                procs: with_proc(procs, number, exec_load::record_of(&plan, name)),
+                procs: with_proc(&procs, number, exec_load::record_of(&plan, name)),
                 answer: Answer::Regs(regs),
             }
         }
-        Err(e) => call_front::refused(procs, e),
+        Err(e) => call_front::refused(&procs, e),
     }
 }

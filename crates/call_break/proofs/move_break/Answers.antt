@@ -16,6 +16,6 @@ move_pages-requires c =
 pub returns : goal.returns
 returns c setup =
     let a = c.args in
-    let from = state_of setup a.frames.now a.book.now a.procs in
+    let from = state_of setup a.frames.now a.book.now a.procs.now in
     state-is _ _ _ _ _ c.move_pages.ensures c.with_proc.ensures
     ∙ ap (λ (p : Proc). brk from a.number p a.top) c.proc_at-p.ensures

@@ -40,7 +40,7 @@ module _ (c : After-free_count-free) where
   its = program c.args.plan.now.image
 
   abbrev s : State
-  s = state_of setup c.args.frames.now c.args.book.now c.args.procs
+  s = state_of setup c.args.frames.now c.args.book.now c.args.procs.now
 
   abbrev gone : State
   gone = forget s c.args.number
