@@ -100,7 +100,16 @@ pub fn replace(
     ensures { Does (state_of setup frames.old book.old procs) (call number (replace form image.now name.now argv)) (state_of setup frames.new book.new result.procs) (plainly result.answer) }
 {
     let mut lookup = Lookup::new();
-    match replace_plan(setup, frames, book, &procs, number, form, image, &mut lookup) {
+    match replace_plan(
+        setup,
+        frames,
+        book,
+        &procs,
+        number,
+        form,
+        image,
+        &mut lookup,
+    ) {
         Ok(plan) => enter_argv(frames, book, &lookup, &procs, number, &plan, name, argv),
         Err(e) => refused(&procs, e),
     }

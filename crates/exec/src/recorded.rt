@@ -1,7 +1,7 @@
 // The segments of a process's record that an image's pages make, as r9's exec.rs records them. The data's pages end where the bss
 // begins, and there are at most fifteen, or refusal 31.
 
-ghost use Rattle.std.specs.Prelude.{◌≡◌, ◌+◌, ◌-◌, ◌*◌, ◌^◌, ◌≤◌, ◌<◌};
+ghost use Rattle.std.specs.Prelude.{◌≡◌, ◌+◌, ◌-◌, ◌*◌, ◌^◌, ◌≤◌, ◌<◌, MatchOption, Some, None};
 ghost use Rattle.spec.specs.Exec.{kept};
 ghost use Rattle.image.specs.Images.{program};
 ghost use Rattle.exec.specs.Pages.{pages_in, pushed, all_recorded};
@@ -38,9 +38,10 @@ pub fn user_segment(bss: VirtRange, g: Segment) -> UserSegment
 }
 
 impl Recorded {
-    // One more segment behind those recorded, or none if that would be the sixteenth. An empty one is dropped.
-    fn push(mut self, u: UserSegment) -> Option<Self>
-        ensures { result ≡ pushed self u }
+    // One more segment behind those recorded, or none if that would be the sixteenth. An empty one is dropped. By reference: handed on by
+    // value, what is recorded would be copied for each segment.
+    fn push(&mut self, u: UserSegment) -> Option<()>
+        ensures { MatchOption result (None ≡ pushed self.old u) (λ _. Some self.new ≡ pushed self.old u) }
     {
         if u.range.start < u.range.end {
             if self.count >= 15 {
@@ -49,7 +50,7 @@ impl Recorded {
             self.segments[self.count] = u;
             self.count += 1;
         }
-        Some(self)
+        Some(())
     }
 }
 
@@ -64,7 +65,7 @@ pub fn segments(image: &Image, bss: VirtRange) -> Option<Recorded>
     };
     for i in 0..image.places() {
         if let Some(g) = image.segment(i) {
-            seen = seen.push(user_segment(bss, g))?;
+            seen.push(user_segment(bss, g))?;
         }
     }
     Some(seen)

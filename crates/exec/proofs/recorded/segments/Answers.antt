@@ -16,7 +16,7 @@ use Rattle.exec.specs.Pages.{pages_in, pushed, recorded_with, all_recorded}
 use Rattle.exec.specs.declared.recorded.Recorded.{Recorded}
 use Rattle.exec.proofs.Kept.{added, kept-front, record-front, few, some-recorded, none-recorded}
 use Rattle.exec.proofs.recorded.segments.Goals as goal
-use Rattle.exec.proofs.recorded.segments.Goals.{In-loop-i, in-Some+in_ok-seen, in_default}
+use Rattle.exec.proofs.recorded.segments.Goals.{In-loop-i, in-Some+in_ok-push, in_default}
 
 pub loop-i-init : goal.loop-i-init
 loop-i-init c =
@@ -56,12 +56,12 @@ module _ (c : In-loop-i) where
 read : (bss : VirtRange) (before : Recorded) (u : UserSegment) (g : Held) (here : Option Held) (r : Option Recorded) → r ≡ pushed before u → u ≡ pages_in bss g → Some g ≡ here → r ≡ recorded_with bss before here
 read bss before u g here r e v h = e ∙ ap (pushed before) v ∙ ap (recorded_with bss before) h
 
-pub returns-in_err-seen : goal.returns-in_err-seen
-returns-in_err-seen c =
-    let s = (goal.at.returns-in_err-seen c).In-loop-i in
+pub returns-in_err-push : goal.returns-in_err-push
+returns-in_err-push c =
+    let s = (goal.at.returns-in_err-push c).In-loop-i in
     let u = c.user_segment in
     c.from_residual.ensures
-    ∙ none-recorded _ _ (turn s None (read c.args.bss c.loop-i.seen u.result c.in-Some.g (here s) None c.in_err-seen.ensures u.ensures c.in-Some.ensures.value))
+    ∙ none-recorded _ _ (turn s None (read c.args.bss c.loop-i.seen u.result c.in-Some.g (here s) None c.in_err-push.ensures u.ensures c.in-Some.ensures.value))
     ∙ ap all_recorded (sym (whole s))
 
 pub loop-i-preserved : goal.loop-i-preserved
@@ -70,7 +70,7 @@ loop-i-preserved c =
     let next = c.match-segment.seen in
     let e : Some next ≡ recorded_with c.args.bss c.loop-i.seen (here s) =
     elim c.match-segment.branch [
-      | in-Some+in_ok-seen w ↦ ap Some w.seen-is ∙ read c.args.bss c.loop-i.seen w.user_segment.result w.in-Some.g (here s) (Some w.in_ok-seen.seen) w.in_ok-seen.ensures w.user_segment.ensures (sym w.in-Some.is ∙ c.segment.ensures.value)
+      | in-Some+in_ok-push w ↦ ap Some w.seen-is ∙ read c.args.bss c.loop-i.seen w.user_segment.result w.in-Some.g (here s) (Some w.push.new.self) w.in_ok-push.ensures w.user_segment.ensures (sym w.in-Some.is ∙ c.segment.ensures.value)
       | in_default w ↦ ap Some w.seen-is ∙ ap (recorded_with c.args.bss c.loop-i.seen) (sym w.in_default.is ∙ c.segment.ensures.value)
     ] in
     let r = some-recorded _ next (turn s (Some next) e) in
