@@ -3,21 +3,31 @@
 
 #![tactic(auto)]
 
-ghost use Rattle.std.specs.Prelude.{◌≡◌, ◌≤◌, ◌⊎◌, ℕ, length, take, IfOk};
+ghost use Rattle.std.specs.Prelude.{◌≡◌, ◌≤◌, ◌⊎◌, ℕ, length, take, MatchResult};
 ghost use Rattle.std.specs.Process.{exit_status};
 
 use std::io;
 use std::io::{Eprint, Print, Read};
 use std::process::ExitCode;
 
+// Why a read failed, and how many bytes were read before.
+#[derive(Clone, Copy)]
+pub struct ReadError {
+    pub count: usize,
+    pub why: io::Error,
+}
+
 // Reads to the end of the file, or until `dst` is full, and answers how many bytes there were.
-pub fn read<R: Read>(file: &mut R, dst: &mut [u8]) -> io::Result<usize>
-    ensures { IfOk result (λ n. n ≤ length dst.new) }
+pub fn read<R: Read>(file: &mut R, dst: &mut [u8]) -> Result<usize, ReadError>
+    ensures { MatchResult result (λ n. n ≤ length dst.new) (λ e. e.count ≤ length dst.new) }
 {
     let mut n = 0;
     // By `while`: how far a turn goes on, one read tells.
     while n < dst.len() {
-        let more = file.read(&mut dst[n..])?;
+        let more = match file.read(&mut dst[n..]) {
+            Ok(more) => more,
+            Err(why) => return Err(ReadError { count: n, why }),
+        };
         if more == 0 {
             break;
         }
@@ -45,7 +55,7 @@ pub fn print_text<F: FnOnce(&[u8], &mut [u8]) -> usize>(
 {
     let n = match read(file, bytes) {
         Ok(n) => n,
-        Err(why) => {
+        Err(ReadError { why, .. }) => {
             let _ = eprintln!(rt; "{name}: standard input: {why}");
             return ExitCode::FAILURE;
         }

@@ -3,9 +3,10 @@
 
 #![tactic(auto)]
 
+use files::ReadError;
+use std::fs;
 use std::io::{Eprint, Print, Read};
 use std::process::ExitCode;
-use std::{fs, io};
 
 // Why no further image is listed: there is none that is whole, or reading or writing failed.
 #[derive(Clone, Copy)]
@@ -18,9 +19,9 @@ enum Stop {
 const MOST: usize = 32769;
 
 // Whether n bytes were read; if not, a line on standard error says why.
-fn filled(rt: &impl Eprint, got: io::Result<usize>, n: usize) -> Result<(), Stop> {
+fn filled(rt: &impl Eprint, got: Result<usize, ReadError>, n: usize) -> Result<(), Stop> {
     match got {
-        Err(why) => {
+        Err(ReadError { why, .. }) => {
             let _ = eprintln!(rt; "listing_cases: cases: {why}");
             Err(Stop::Failed)
         }
