@@ -12,7 +12,7 @@
  *   - a bool is 0 or 1.
  * The library keeps nothing between calls, allocates nothing, and needs memcpy, memmove and memset. It follows the System V calling
  * convention of x86-64, with its red zone and SSE registers. Of stack, replace was measured to use 80 KiB, fork 79,
- * fork with a list 71, start 68, push 66, break, end and the copies from and to a process 56, and the other calls 36
+ * fork with a list 65, push 58, start 54, break, end and the copies from and to a process 36, and the other calls 29
  * (bench/run "" stack).
  *
  * Numbers. A page is 4,096 bytes. The machine's four numbers and the flag table are handed to every call, by value
