@@ -20,7 +20,8 @@ pub fn end(setup: Setup, frames: &mut [u8], book: &mut [u64], procs: Procs, numb
     if let Err(e) = plain_ready(setup, frames, book, &procs, number, true, &mut lookup) {
         return refused(&procs, e);
     }
-    let after = forget(book, &procs, number);
+    let mut after = procs;
+    forget(book, &mut after, number);
     Left {
         procs: after,
         answer: Answer::Done,

@@ -21,7 +21,6 @@ use Rattle.spec.specs.declared.Refusal.{Refusal}
 use Rattle.spec.proofs.Bools.{split}
 use Rattle.spec_laws.proofs.Checks.{or-else}
 use Rattle.call_front.specs.Numbers.{number_error, fork_error}
-use Rattle.spec.specs.declared.Left.{Left}
 use Rattle.call_front.proofs.Answers.{or_refuse, in_order, refused-first, goes_on}
 use Rattle.call_front.proofs.FirstNumbers.{fork-none}
 use Rattle.call_fork.specs.ByList.{list_error, fork_number}
@@ -111,8 +110,8 @@ module _ (s : State) (n child : ℕ) (gs : List UserSegment) where
       (p.0, p.1 (fork-none s n child p.0).passed.number)
 
   -- a fork that is refused, and one that isn't
-  pub list-refused : (e : Refusal) → refusal_number e ≡ fork_number s n child alike_of → (t : State) (r : Left) → t ≡ s → r.answer ≡ Refused (refusal_number e) → Does s (call n asked) t (plainly r.answer)
-  list-refused e number t r f h = subst (λ (x : State). Does s (call n asked) x (plainly r.answer)) (sym f)
+  pub list-refused : (e : Refusal) → refusal_number e ≡ fork_number s n child alike_of → (t : State) (r : Answer) → t ≡ s → r ≡ Refused (refusal_number e) → Does s (call n asked) t (plainly r)
+  list-refused e number t r f h = subst (λ (x : State). Does s (call n asked) x (plainly r)) (sym f)
       (subst (λ (x : Answer). Does s (call n asked) s (plainly x)) (sym h) (refused-first s n asked _ _ answer-number e number))
 
   pub list_done : 0 ≡ fork_number s n child alike_of → (t : State) → t ≡ copy s n child (proc_at s.procs n) → Does s (call n asked) t (plainly Done)

@@ -1,16 +1,17 @@
 // Fork with its list: the parent's recorded segments are lent as a slice of records, as r9's `copy_segments` takes them, and a list
 // unlike the record is refused with 2.
 
-ghost use Rattle.std.specs.Prelude.{◌≡◌, not, ◌&&◌, ◌||◌, IfOk, OnOk};
+ghost use Rattle.std.specs.Prelude.{◌≡◌, true, not, ◌&&◌, ◌||◌, IfOk, OnOk};
 ghost use Rattle.spec.specs.Tests.{◌is◌, ◌⇒◌else◌, same};
 ghost use Rattle.spec.specs.Book.{valid, same_segment, used, proc_at};
 ghost use Rattle.spec.specs.Machine.{fork, plainly, call};
+ghost use Rattle.spec.specs.History.{typed};
 ghost use Rattle.spec.specs.Refusals.{refusal_number, number_of};
 ghost use Rattle.spec.specs.World.{Does, state_of};
 ghost use Rattle.sound.specs.Table.{Zeros, Ready};
 ghost use Rattle.call_fork.specs.ByList.{fork_number};
 
-use call_front::record::{is_number, with_proc, zero_proc};
+use call_front::record::{is_number, set_proc, zero_proc};
 use sound::Lookup;
 use spec::{Answer, Left, Proc, Procs, Refusal, Setup, UserSegment};
 
@@ -53,29 +54,64 @@ fn list_checked(first: Result<(), Refusal>, torn: bool) -> Result<(), Refusal>
 }
 
 // The parent's record and the call's lookup, or what the fork is refused with: 1, 38, 39, 2 to 5, with 2 for a list unlike the record, and
-// then 33.
+// then 33. The lengths of the records' arrays, which their type tells where they are owned, are told here by `typed`.
 fn list_ready(
     setup: Setup,
     frames: &[u8],
     book: &[u64],
-    procs: Procs,
+    procs: &Procs,
     number: u64,
     child: u64,
     segments: &[UserSegment],
     lookup: &mut Lookup,
 ) -> Result<Proc, Refusal>
-    requires { Zeros lookup.old }
-    ensures value { number_of result ≡ fork_number (state_of setup frames.now book.now procs) number child (same same_segment segments.now (used (proc_at procs number).segments)) }
-    ensures record_is { IfOk result (λ p. p ≡ proc_at procs number) }
+    requires zeros { Zeros lookup.old }
+    requires types { typed (state_of setup frames.now book.now procs.now) ≡ true }
+    ensures value { number_of result ≡ fork_number (state_of setup frames.now book.now procs.now) number child (same same_segment segments.now (used (proc_at procs.now number).segments)) }
+    ensures record_is { IfOk result (λ p. p ≡ proc_at procs.now number) }
     ensures ready { OnOk result (Ready book.now number lookup.new) }
 {
-    let p = recorded(&procs, number);
-    let first = call_front::numbers::fork_ready(setup, frames, book, &procs, number, child, lookup);
+    let p = recorded(procs, number);
+    let first = call_front::numbers::fork_ready(setup, frames, book, procs, number, child, lookup);
     list_checked(first, is_torn(number, segments, &p))?;
     if crate::count::data_pages(p) > book::free_count(book) as u64 {
         return Err(Refusal::NoMemory);
     }
     Ok(p)
+}
+
+// A fork as `fork` and `fork_list` make it, in the records where they stand.
+pub(crate) fn fork_by(
+    setup: Setup,
+    frames: &mut [u8],
+    book: &mut [u64],
+    procs: &mut Procs,
+    number: u64,
+    child: u64,
+    segments: &[UserSegment],
+) -> Answer
+    requires { typed (state_of setup frames.old book.old procs.old) ≡ true }
+    ensures { Does (state_of setup frames.old book.old procs.old) (call number (fork child segments.now)) (state_of setup frames.new book.new procs.new) (plainly result) }
+{
+    let mut lookup = Lookup::new();
+    match list_ready(
+        setup,
+        frames,
+        book,
+        procs,
+        number,
+        child,
+        segments,
+        &mut lookup,
+    ) {
+        Ok(p) => {
+            book::share_pages(book, number as usize, child as usize);
+            crate::copy::copy_segments(frames, book, &lookup, number, child, segments, p.bss);
+            set_proc(procs, child, p);
+            Answer::Done
+        }
+        Err(e) => Answer::from(e),
+    }
 }
 
 // Forks process `number` as `child`, whose record is its parent's from now on its own, and which sees what its parent sees: text and
@@ -92,25 +128,10 @@ pub fn fork_list(
 ) -> Left
     ensures { Does (state_of setup frames.old book.old procs) (call number (fork child segments.now)) (state_of setup frames.new book.new result.procs) (plainly result.answer) }
 {
-    let mut lookup = Lookup::new();
-    match list_ready(
-        setup,
-        frames,
-        book,
-        procs,
-        number,
-        child,
-        segments,
-        &mut lookup,
-    ) {
-        Ok(p) => {
-            book::share_pages(book, number as usize, child as usize);
-            crate::copy::copy_segments(frames, book, &lookup, number, child, segments, p.bss);
-            Left {
-                procs: with_proc(&procs, child, p),
-                answer: Answer::Done,
-            }
-        }
-        Err(e) => call_front::refused(&procs, e),
+    let mut after = procs;
+    let answer = fork_by(setup, frames, book, &mut after, number, child, segments);
+    Left {
+        procs: after,
+        answer,
     }
 }

@@ -30,13 +30,18 @@ pub fn fork(
     ensures { Does (state_of setup frames.old book.old procs) (call number (fork child (used (proc_at procs number).segments))) (state_of setup frames.new book.new result.procs) (plainly result.answer) }
 {
     let p = by_list::recorded(&procs, number);
-    fork_list(
+    let mut after = procs;
+    let answer = by_list::fork_by(
         setup,
         frames,
         book,
-        procs,
+        &mut after,
         number,
         child,
         list::used(&p.segments),
-    )
+    );
+    Left {
+        procs: after,
+        answer,
+    }
 }

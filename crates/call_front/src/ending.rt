@@ -10,12 +10,12 @@ ghost use Rattle.spec.specs.declared.Answer.TheVariants.{Refused, EndedAt};
 use spec::{Answer, Left, Procs, Refusal};
 
 // A process ends, as `bad_address` ends it: its frames lose a holder and keep their bytes, and its record is zero.
-pub fn forget(book: &mut [u64], procs: &Procs, number: u64) -> Procs
+pub fn forget(book: &mut [u64], procs: &mut Procs, number: u64)
     requires { valid number ≡ true }
-    ensures { (setup : Setup) (frames : List ℕ) → state_of setup frames book.new result ≡ forget (state_of setup frames book.old procs.now) number }
+    ensures { (setup : Setup) (frames : List ℕ) → state_of setup frames book.new procs.new ≡ forget (state_of setup frames book.old procs.old) number }
 {
     book::release_owner(book, number as usize);
-    crate::record::with_proc(procs, number, crate::record::zero_proc())
+    crate::record::set_proc(procs, number, crate::record::zero_proc());
 }
 
 // What a call leaves that is refused: the records as they were.
@@ -34,8 +34,10 @@ pub fn bad_address(book: &mut [u64], procs: &Procs, number: u64, address: u64) -
     ensures ends { (setup : Setup) (frames : List ℕ) → state_of setup frames book.new result.procs ≡ forget (state_of setup frames book.old procs.now) number }
     ensures says { result.answer ≡ EndedAt address }
 {
+    let mut after = *procs;
+    forget(book, &mut after, number);
     Left {
-        procs: forget(book, procs, number),
+        procs: after,
         answer: Answer::EndedAt(address),
     }
 }

@@ -1,9 +1,9 @@
-// What the ten calls share: records by value, the numbers that come first in every call, a record's pages, and a process that
+// What the ten calls share: the records, the numbers that come first in every call, a record's pages, and a process that
 // ends. Every call begins here, so that the order of numbers 1 to 5 is written once.
 
 #![tactic(auto)]
 
-// The records of processes, by value.
+// The records of processes.
 pub mod record;
 
 // 1, 38, 39, 2 and 3, with the check of the book.

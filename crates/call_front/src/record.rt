@@ -1,5 +1,5 @@
-// The records of processes by value: whether one lives, one read and set, and the pages of its bss. Every call takes all records and
-// hands them back, so that what a call does to them is one equation.
+// The records of processes: whether one lives, one read and set, and the pages of its bss. Every call takes all records by value and
+// hands them back, so that what a call does to them is one equation; within a call they go by reference.
 
 ghost use Rattle.std.specs.Prelude.{◌≡◌, ◌&&◌, true, ◌^◌, ◌<◌};
 ghost use Rattle.spec.specs.Numbers.{page_up};
@@ -23,13 +23,22 @@ pub fn proc_at(procs: &Procs, number: u64) -> Proc
     procs.all[(number - 1) as usize]
 }
 
+// Sets the record of process `number`, where the records stand.
+pub fn set_proc(procs: &mut Procs, number: u64, p: Proc)
+    requires { valid number ≡ true }
+    ensures { procs.new ≡ set_proc procs.old number p }
+{
+    let at = (number - 1) as usize;
+    procs.all[at] = p;
+}
+
 // The records with that of process `number` set.
 pub fn with_proc(procs: &Procs, number: u64, p: Proc) -> Procs
     requires { valid number ≡ true }
     ensures { result ≡ set_proc procs.now number p }
 {
     let mut after = *procs;
-    after.all[(number - 1) as usize] = p;
+    set_proc(&mut after, number, p);
     after
 }
 

@@ -17,11 +17,11 @@ ghost use Rattle.exec.specs.Plan.{SameImage};
 ghost use Rattle.call_replace.specs.Entering.{Enterable};
 ghost use Rattle.call_replace.specs.Becoming.{replace_number, Became};
 
-use call_front::{bad_address, refused};
+use call_front::ending::forget;
 use exec::Plan;
 use exec_argv::ArgvError;
 use sound::Lookup;
-use spec::{Form, Left, Procs, Refusal, Setup};
+use spec::{Answer, Form, Left, Procs, Refusal, Setup};
 use uaccess::UserPages;
 
 // The plan of a replace, with the call's lookup, or what it is refused with before its arguments are read: 1, 38, 39 or 2 to 4, then 30 or
@@ -52,15 +52,15 @@ fn enter_argv(
     frames: &mut [u8],
     book: &mut [u64],
     lookup: &Lookup,
-    procs: &Procs,
+    procs: &mut Procs,
     number: u64,
     plan: &Plan,
     name: &[u8],
     argv: u64,
-) -> Left
+) -> Answer
     requires ready { Ready book.old number lookup.now }
     requires enterable { Enterable (store frames.old book.old) number plan.now }
-    ensures { Became (state_of plan.now.image.setup frames.old book.old procs.now) number (program plan.now.image) name.now (copy_argv plan.now.image.setup (mem_of (store frames.old book.old) number) argv) (state_of plan.now.image.setup frames.new book.new result.procs) result.answer }
+    ensures { Became (state_of plan.now.image.setup frames.old book.old procs.old) number (program plan.now.image) name.now (copy_argv plan.now.image.setup (mem_of (store frames.old book.old) number) argv) (state_of plan.now.image.setup frames.new book.new procs.new) result }
 {
     let setup = plan.image.setup();
     let pages = UserPages {
@@ -77,8 +77,11 @@ fn enter_argv(
             exec_args::pointers_behind(&mut buf, setup.ustktop, used, count);
             crate::enter::enter(frames, book, procs, number, plan, name, &buf, used, count)
         }
-        Err(ArgvError::Bad(address)) => bad_address(book, procs, number, address),
-        Err(ArgvError::Over) => refused(procs, Refusal::NoMemory),
+        Err(ArgvError::Bad(address)) => {
+            forget(book, procs, number);
+            Answer::EndedAt(address)
+        }
+        Err(ArgvError::Over) => Answer::from(Refusal::NoMemory),
     }
 }
 
@@ -100,17 +103,22 @@ pub fn replace(
     ensures { Does (state_of setup frames.old book.old procs) (call number (replace form image.now name.now argv)) (state_of setup frames.new book.new result.procs) (plainly result.answer) }
 {
     let mut lookup = Lookup::new();
-    match replace_plan(
+    let mut after = procs;
+    let answer = match replace_plan(
         setup,
         frames,
         book,
-        &procs,
+        &after,
         number,
         form,
         image,
         &mut lookup,
     ) {
-        Ok(plan) => enter_argv(frames, book, &lookup, &procs, number, &plan, name, argv),
-        Err(e) => refused(&procs, e),
+        Ok(plan) => enter_argv(frames, book, &lookup, &mut after, number, &plan, name, argv),
+        Err(e) => Answer::from(e),
+    };
+    Left {
+        procs: after,
+        answer,
     }
 }

@@ -1,15 +1,13 @@
 -- `enter_argv` meets its contract: the arguments are read, and the pointers put behind them, before pages are freed.
 use Prim.Native.Nat.{ℕ}
 use native.Mathlib.Omega.{arith}
-use mathlib.Core.Path.{◌≡◌, sym, ap, ◌∙◌}
+use mathlib.Core.Path.{◌≡◌, refl, sym, ap, ◌∙◌}
 use mathlib.Core.List.{List}
 use lib.ListN.{length, take, replicate}
 use Rattle.std.specs.Prelude.{Err}
 use Rattle.spec.specs.Frames.{mem_of, store}
 use Rattle.spec.specs.Exec.{strings, Argv, read, copy_argv, args_error}
-use Rattle.spec.specs.World.{state_of}
 use Rattle.spec.specs.declared.Answer.TheVariants.{EndedAt}
-use Rattle.spec.specs.declared.Left.{Left}
 use Rattle.spec.specs.declared.Setup.{Setup}
 use Rattle.spec.proofs.Args.{args-means}
 use Rattle.spec_laws.proofs.Argv.{argv-fits}
@@ -97,15 +95,15 @@ returns-in-Ok c =
     let left = c.enter.ensures (args d) (fitting (goal.at.returns-in-Ok c).After-pointers_behind) in
     enters (args d) (were d).1 left.0 left.1
 
-pub bad_address-requires : goal.bad_address-requires
-bad_address-requires c = c.requires.enterable.number
+pub forget-requires : goal.forget-requires
+forget-requires c = c.requires.enterable.number
 
 pub returns-in-Err-Bad : goal.returns-in-Err-Bad
 returns-in-Err-Bad c =
     let d = (goal.at.returns-in-Err-Bad c).After-copy_argv in
-    ends c.in-Err-Bad.address (was-bad (argv d) _ (sym (told d).said ∙ c.in-Err-Bad.is ∙ ap Err c.in-Err-Bad.field-0-is)) (c.bad_address.ensures.ends (setup d) c.args.frames.now) (c.bad_address.ensures.says ∙ ap EndedAt c.in-Err-Bad.address-is)
+    ends c.in-Err-Bad.address (was-bad (argv d) _ (sym (told d).said ∙ c.in-Err-Bad.is ∙ ap Err c.in-Err-Bad.field-0-is)) (c.forget.ensures (setup d) c.args.frames.now) (ap EndedAt c.in-Err-Bad.address-is)
 
 pub returns-in-Err-Over : goal.returns-in-Err-Over
 returns-in-Err-Over c =
     let d = (goal.at.returns-in-Err-Over c).After-copy_argv in
-    stays (was-over (argv d) (sym (told d).said ∙ c.in-Err-Over.is ∙ ap Err c.in-Err-Over.field-0-is)) (ap (λ (r : Left). state_of (setup d) c.args.frames.now c.args.book.now r.procs) c.refused.ensures) (ap (λ (r : Left). r.answer) c.refused.ensures)
+    stays (was-over (argv d) (sym (told d).said ∙ c.in-Err-Over.is ∙ ap Err c.in-Err-Over.field-0-is)) refl c.from.ensures

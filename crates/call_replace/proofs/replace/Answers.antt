@@ -33,9 +33,9 @@ module _ (c : In-Ok) where
   program-is : program c.in-Ok.plan.image ≡ program_of c.args.setup c.args.form c.args.image.now
   program-is = same-program c.in-Ok.plan.image c.args.setup c.args.form c.args.image.now c.in-Ok.ensures.planned
 
-pub enter_argv-requires : goal.enter_argv-requires
-enter_argv-requires c =
-    let d = (goal.at.enter_argv-requires c).In-Ok in
+pub enter_argv-answer-requires : goal.enter_argv-answer-requires
+enter_argv-answer-requires c =
+    let d = (goal.at.enter_argv-answer-requires c).In-Ok in
     record {
       ready = c.in-Ok.ensures.ready;
       enterable = enterable c.args.setup c.args.frames.now c.args.book.now c.args.procs c.args.number (whole d) (or-else (plain_error (state d) c.args.number true) _ (sym c.in-Ok.ensures.value)).0 c.in-Ok.plan (setup-is d);
@@ -45,12 +45,12 @@ pub returns-in-Ok : goal.returns-in-Ok
 returns-in-Ok c =
     let a = c.args in
     let d = (goal.at.returns-in-Ok c).In-Ok in
-    let r = c.enter_argv.result in
-    let became : Setup → Program → Type 0 = λ u p. Became (state_of u a.frames.now a.book.now a.procs) a.number p a.name.now (copy_argv u (mem_of (store a.frames.now a.book.now) a.number) a.argv) (state_of u c.enter_argv.new.frames c.enter_argv.new.book r.procs) r.answer in
+    let r = c.enter_argv-answer in
+    let became : Setup → Program → Type 0 = λ u p. Became (state_of u a.frames.now a.book.now a.procs) a.number p a.name.now (copy_argv u (mem_of (store a.frames.now a.book.now) a.number) a.argv) (state_of u r.new.frames r.new.book r.new.procs) r.result in
     replace-goes (state d) a.number a.form a.image.now a.name.now a.argv c.in-Ok.ensures.value _ _
-    (subst (λ (u : Setup). became u (program_of a.setup a.form a.image.now)) (setup-is d) (subst (λ (p : Program). became c.in-Ok.plan.image.setup p) (program-is d) c.enter_argv.ensures))
+    (subst (λ (u : Setup). became u (program_of a.setup a.form a.image.now)) (setup-is d) (subst (λ (p : Program). became c.in-Ok.plan.image.setup p) (program-is d) r.ensures))
 
 pub returns-in-Err : goal.returns-in-Err
 returns-in-Err c =
     let a = c.args in
-    rw c.refused.ensures (replace-refused (state_of a.setup a.frames.now a.book.now a.procs) a.number a.form a.image.now a.name.now a.argv c.in-Err.e c.in-Err.ensures.value)
+    rw c.from-answer.ensures (replace-refused (state_of a.setup a.frames.now a.book.now a.procs) a.number a.form a.image.now a.name.now a.argv c.in-Err.e c.in-Err.ensures.value)

@@ -13,8 +13,7 @@ use Rattle.spec.specs.declared.UserSegment.{UserSegment}
 use Rattle.spec.specs.declared.Proc.{Proc}
 use Rattle.spec.proofs.Refused.{refused-not-0}
 use Rattle.spec.proofs.Setups.{setup-means}
-use Rattle.spec_laws.proofs.Record.{Whole}
-use Rattle.sound_records.proofs.Whole.{whole-procs}
+use Rattle.spec_laws.proofs.Record.{Whole, typed-whole}
 use Rattle.sound.proofs.LookedUp.{ready_of}
 use Rattle.call_front.proofs.FirstNumbers.{Forks, fork-none}
 use Rattle.call_front.proofs.Living.{living-shape}
@@ -27,10 +26,10 @@ use Rattle.call_fork.proofs.by_list.list_ready.Goals.{After-list_checked, In_ok-
 -- the number of a fork's first checks and its list's
 module _ (c : After-list_checked) where
   abbrev state : State
-  state = state_of c.args.setup c.args.frames.now c.args.book.now c.args.procs
+  state = state_of c.args.setup c.args.frames.now c.args.book.now c.args.procs.now
 
   abbrev alike : Bool
-  alike = same same_segment c.args.segments.now (used (proc_at c.args.procs c.args.number).segments)
+  alike = same same_segment c.args.segments.now (used (proc_at c.args.procs.now c.args.number).segments)
 
   torn-is : c.is_torn.result ≡ (valid c.args.number && not alike)
   torn-is = c.is_torn.ensures ∙ ap (λ (p : Proc). valid c.args.number && not (same same_segment c.args.segments.now (used p.segments))) c.recorded-p.ensures
@@ -52,18 +51,18 @@ module _ (c : In_ok-list_checked) where
   forks : Forks (state at) c.args.number c.args.child
   forks = fork-none (state at) c.args.number c.args.child (list-none (state at) c.args.number c.args.child (alike at) (sym none))
 
-  whole : Whole c.args.procs
-  whole = let g = c.well_formed.1.1.1.0.1.1.0 in whole-procs c.args.procs g.0 g.1.1 g.1.0.1
+  whole : Whole c.args.procs.now
+  whole = typed-whole (state at) c.requires.types
 
-  shape : (image : List UserSegment) × Shape c.args.setup (proc_at c.args.procs c.args.number) image
+  shape : (image : List UserSegment) × Shape c.args.setup (proc_at c.args.procs.now c.args.number) image
   shape = living-shape (state at) c.args.number true whole forks.passed forks.parent
 
 -- the count is the specification's
-counted : (c : After-data_pages) → c.data_pages.result ≡ page_count (data_only (pieces_of (proc_at c.args.procs c.args.number)))
+counted : (c : After-data_pages) → c.data_pages.result ≡ page_count (data_only (pieces_of (proc_at c.args.procs.now c.args.number)))
 counted c =
     let h = shape (goal.at.After-data_pages c).In_ok-list_checked in
     c.data_pages.ensures ∙ ap (λ (p : Proc). page_count (data_only (p.segments ++ bss_segment p.bss ∷ []))) c.recorded-p.ensures
-    ∙ ap page_count (data-own (proc_at c.args.procs c.args.number) h.0 h.1)
+    ∙ ap page_count (data-own (proc_at c.args.procs.now c.args.number) h.0 h.1)
 
 pub returns-in_err-list_checked-clause-value : goal.returns-in_err-list_checked-clause-value
 returns-in_err-list_checked-clause-value c =
