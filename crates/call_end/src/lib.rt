@@ -20,8 +20,7 @@ pub fn end(setup: Setup, frames: &mut [u8], book: &mut [u64], procs: Procs, numb
     if let Err(e) = plain_ready(setup, frames, book, &procs, number, true, &mut lookup) {
         return refused(&procs, e);
     }
-    let mut after = procs;
-    forget(book, &mut after, number);
+    let after = forget(book, &procs, number);
     Left {
         procs: after,
         answer: Answer::Done,

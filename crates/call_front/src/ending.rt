@@ -9,13 +9,24 @@ ghost use Rattle.spec.specs.declared.Answer.TheVariants.{Refused, EndedAt};
 
 use spec::{Answer, Left, Procs, Refusal};
 
-// A process ends, as `bad_address` ends it: its frames lose a holder and keep their bytes, and its record is zero.
-pub fn forget(book: &mut [u64], procs: &mut Procs, number: u64)
+// A process ends, as `bad_address` ends it, in the records where they stand: its frames lose a holder and keep their bytes, and its record
+// is zero.
+pub fn end_process(book: &mut [u64], procs: &mut Procs, number: u64)
     requires { valid number ≡ true }
     ensures { (setup : Setup) (frames : List ℕ) → state_of setup frames book.new procs.new ≡ forget (state_of setup frames book.old procs.old) number }
 {
     book::release_owner(book, number as usize);
     crate::record::set_proc(procs, number, crate::record::zero_proc());
+}
+
+// The same, with the records handed back by value.
+pub fn forget(book: &mut [u64], procs: &Procs, number: u64) -> Procs
+    requires { valid number ≡ true }
+    ensures { (setup : Setup) (frames : List ℕ) → state_of setup frames book.new result ≡ forget (state_of setup frames book.old procs.now) number }
+{
+    let mut after = *procs;
+    end_process(book, &mut after, number);
+    after
 }
 
 // What a call leaves that is refused: the records as they were.
@@ -34,10 +45,8 @@ pub fn bad_address(book: &mut [u64], procs: &Procs, number: u64, address: u64) -
     ensures ends { (setup : Setup) (frames : List ℕ) → state_of setup frames book.new result.procs ≡ forget (state_of setup frames book.old procs.now) number }
     ensures says { result.answer ≡ EndedAt address }
 {
-    let mut after = *procs;
-    forget(book, &mut after, number);
     Left {
-        procs: after,
+        procs: forget(book, procs, number),
         answer: Answer::EndedAt(address),
     }
 }

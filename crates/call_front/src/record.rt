@@ -1,5 +1,5 @@
 // The records of processes: whether one lives, one read and set, and the pages of its bss. Every call takes all records by value and
-// hands them back, so that what a call does to them is one equation; within a call they go by reference.
+// hands them back, so that what a call does to them is one equation; its steps take them by reference.
 
 ghost use Rattle.std.specs.Prelude.{◌≡◌, ◌&&◌, true, ◌^◌, ◌<◌};
 ghost use Rattle.spec.specs.Numbers.{page_up};

@@ -8,7 +8,7 @@ ghost use Rattle.image.specs.Images.{program};
 ghost use Rattle.exec_load.specs.Installing.{Fitting};
 ghost use Rattle.call_replace.specs.Entering.{Enterable, entered, entering};
 
-use call_front::ending::forget;
+use call_front::ending::end_process;
 use call_front::record::set_proc;
 use exec::Plan;
 use spec::{Answer, Procs, Refusal};
@@ -33,7 +33,7 @@ pub fn enter(
     let own = book::alone_count(book, number) as u64;
     let free = book::free_count(book) as u64;
     let room = own + free;
-    forget(book, procs, number);
+    end_process(book, procs, number);
     if plan.pages > room {
         return Answer::Ended(u64::from(Refusal::NoMemory));
     }

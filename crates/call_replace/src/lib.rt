@@ -17,7 +17,7 @@ ghost use Rattle.exec.specs.Plan.{SameImage};
 ghost use Rattle.call_replace.specs.Entering.{Enterable};
 ghost use Rattle.call_replace.specs.Becoming.{replace_number, Became};
 
-use call_front::ending::forget;
+use call_front::ending::end_process;
 use exec::Plan;
 use exec_argv::ArgvError;
 use sound::Lookup;
@@ -78,7 +78,7 @@ fn enter_argv(
             crate::enter::enter(frames, book, procs, number, plan, name, &buf, used, count)
         }
         Err(ArgvError::Bad(address)) => {
-            forget(book, procs, number);
+            end_process(book, procs, number);
             Answer::EndedAt(address)
         }
         Err(ArgvError::Over) => Answer::from(Refusal::NoMemory),

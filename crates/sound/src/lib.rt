@@ -52,7 +52,7 @@ fn is_sound(setup: Setup, book: &[u64], procs: Procs, number: u64, lookup: &mut 
     if !sound_records::records_ok(setup, &procs) {
         return false;
     }
-    let total = lookup.plan.lay_all(procs);
+    let total = lookup.plan.lay_all(&procs);
     let places = 16 * (book.len() / 17) as u64;
     if places < total {
         return false;

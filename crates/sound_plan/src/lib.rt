@@ -56,13 +56,13 @@ impl Plan {
     }
 
     // Lays the parts of all processes, and gives the count of all pages, which is also the last base.
-    pub fn lay_all(&mut self, procs: Procs) -> u64
-        requires { (i : ℕ) → i < 16 → SmallParts (proc_at procs (i + 1)) }
-        ensures { LaidAll procs self.new.tags self.new.bases result }
+    pub fn lay_all(&mut self, procs: &Procs) -> u64
+        requires { (i : ℕ) → i < 16 → SmallParts (proc_at procs.now (i + 1)) }
+        ensures { LaidAll procs.now self.new.tags self.new.bases result }
     {
         let mut t = 0;
-        for (n, p) in procs.all.iter().enumerate() {
-            t = self.lay(p, n, t);
+        for n in 0..16 {
+            t = self.lay(&procs.all[n], n, t);
         }
         self.bases[272] = t;
         t

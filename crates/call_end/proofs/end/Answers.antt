@@ -9,8 +9,8 @@ use Rattle.call_end.proofs.end.Goals as goal
 pub returns-in-Err : goal.returns-in-Err
 returns-in-Err c = rw c.refused.ensures (plain-refused _ _ end refl c.in-Err.e c.in-Err.ensures.value)
 
-pub forget-requires : goal.forget-requires
-forget-requires c = (plain-none _ _ _ (sym c.in_default.ensures.value)).0.number
+pub forget-after-requires : goal.forget-after-requires
+forget-after-requires c = (plain-none _ _ _ (sym c.in_default.ensures.value)).0.number
 
 pub returns : goal.returns
-returns c = plain-goes _ _ end refl c.in_default.ensures.value _ (plainly Done) refl (c.forget.ensures _ _)
+returns c = plain-goes _ _ end refl c.in_default.ensures.value _ (plainly Done) refl (c.forget-after.ensures _ _)

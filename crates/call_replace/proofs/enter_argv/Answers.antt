@@ -95,13 +95,13 @@ returns-in-Ok c =
     let left = c.enter.ensures (args d) (fitting (goal.at.returns-in-Ok c).After-pointers_behind) in
     enters (args d) (were d).1 left.0 left.1
 
-pub forget-requires : goal.forget-requires
-forget-requires c = c.requires.enterable.number
+pub end_process-requires : goal.end_process-requires
+end_process-requires c = c.requires.enterable.number
 
 pub returns-in-Err-Bad : goal.returns-in-Err-Bad
 returns-in-Err-Bad c =
     let d = (goal.at.returns-in-Err-Bad c).After-copy_argv in
-    ends c.in-Err-Bad.address (was-bad (argv d) _ (sym (told d).said ∙ c.in-Err-Bad.is ∙ ap Err c.in-Err-Bad.field-0-is)) (c.forget.ensures (setup d) c.args.frames.now) (ap EndedAt c.in-Err-Bad.address-is)
+    ends c.in-Err-Bad.address (was-bad (argv d) _ (sym (told d).said ∙ c.in-Err-Bad.is ∙ ap Err c.in-Err-Bad.field-0-is)) (c.end_process.ensures (setup d) c.args.frames.now) (ap EndedAt c.in-Err-Bad.address-is)
 
 pub returns-in-Err-Over : goal.returns-in-Err-Over
 returns-in-Err-Over c =

@@ -24,7 +24,7 @@ use Rattle.exec_load.proofs.Installed.{plan-record}
 use Rattle.call_front.proofs.States.{state-is}
 use Rattle.call_replace.specs.Entering.{short}
 use Rattle.call_replace.proofs.enter.enter.Goals as goal
-use Rattle.call_replace.proofs.enter.enter.Goals.{After-free_count-free, After-forget, Else-plan-room}
+use Rattle.call_replace.proofs.enter.enter.Goals.{After-free_count-free, Else-plan-room}
 
 -- no more numbers pass a test than there are
 count_most : (t : ℕ → Bool) (c : ℕ) → count_below t c ≤ c
@@ -56,8 +56,8 @@ module _ (c : Else-plan-room) where
   abbrev k : After-free_count-free
   k = (goal.at.Else-plan-room c).After-free_count-free
 
-  left : state_of (setup k) c.args.frames.now c.forget.new.book c.forget.new.procs ≡ gone k
-  left = c.forget.ensures (setup k) c.args.frames.now
+  left : state_of (setup k) c.args.frames.now c.end_process.new.book c.end_process.new.procs ≡ gone k
+  left = c.end_process.ensures (setup k) c.args.frames.now
 
   enough : page_count (start_pieces (setup k) (its k)) ≤ alone c.args.book.now c.args.number + free c.args.book.now
   enough = omega (arith, pages k, c.alone_count-own.ensures, c.free_count-free.ensures, c.if-plan-room.false)
@@ -65,15 +65,15 @@ module _ (c : Else-plan-room) where
   room : short (s k) c.args.number (its k) ≡ false
   room = le-ltb (alone c.args.book.now c.args.number + free c.args.book.now) (page_count (start_pieces (setup k) (its k))) enough
 
-  installable : Installable (store c.args.frames.now c.forget.new.book) c.args.number c.args.plan.now
+  installable : Installable (store c.args.frames.now c.end_process.new.book) c.args.number c.args.plan.now
   installable =
       let e = c.requires.enterable in
       let n = c.args.number in
       let m = (s k).store in
-      let at : store c.args.frames.now c.forget.new.book ≡ (gone k).store = ap (λ (x : State). x.store) left in
-      let l : length c.forget.new.book ≡ length c.args.book.now = ap (λ (x : Store). length x.book) at ∙ release_length m n (λ page. true) e.number in
-      let f : frame_count c.forget.new.book ≡ frame_count c.args.book.now = ap (λ (x : ℕ). x / 17) l in
-      let rise : free c.forget.new.book ≡ free c.args.book.now + alone c.args.book.now n = ap (λ (x : Store). free x.book) at ∙ all-free k in
+      let at : store c.args.frames.now c.end_process.new.book ≡ (gone k).store = ap (λ (x : State). x.store) left in
+      let l : length c.end_process.new.book ≡ length c.args.book.now = ap (λ (x : Store). length x.book) at ∙ release_length m n (λ page. true) e.number in
+      let f : frame_count c.end_process.new.book ≡ frame_count c.args.book.now = ap (λ (x : ℕ). x / 17) l in
+      let rise : free c.end_process.new.book ≡ free c.args.book.now + alone c.args.book.now n = ap (λ (x : Store). free x.book) at ∙ all-free k in
       record {
         sizes = e.sizes ∙ ap (λ (x : ℕ). 4096 * x) (sym f);
         words = l ∙ e.words ∙ ap (λ (x : ℕ). 17 * x) (sym f);
@@ -93,14 +93,14 @@ overflow_add-room c =
     let k = (goal.at.overflow_add-room c).After-free_count-free in
     omega (arith, c.alone_count-own.ensures, c.free_count-free.ensures, all-free k, count_most (is_free (gone k).store.book) (frame_count (gone k).store.book), release-count (s k).store n (λ page. true) c.requires.enterable.number, c.requires.enterable.most)
 
-pub forget-requires : goal.forget-requires
-forget-requires c = c.requires.enterable.number
+pub end_process-requires : goal.end_process-requires
+end_process-requires c = c.requires.enterable.number
 
 pub returns-then-plan-room : goal.returns-then-plan-room
 returns-then-plan-room c =
     let k = (goal.at.returns-then-plan-room c).After-free_count-free in
     let n = c.args.number in
-    let left = c.forget.ensures (setup k) c.args.frames.now in
+    let left = c.end_process.ensures (setup k) c.args.frames.now in
     let over : short (s k) n (its k) ≡ true = lt-ltb (alone c.args.book.now n + free c.args.book.now) (page_count (start_pieces (setup k) (its k))) (omega (arith, pages k, c.alone_count-own.ensures, c.free_count-free.ensures, c.if-plan-room.true)) in
     λ args f. (here (short (s k) n (its k)) _ _ _ over left, here (short (s k) n (its k)) _ _ _ over (ap Ended c.from.ensures))
 
@@ -118,7 +118,7 @@ returns c =
     λ args f.
     let i = c.install-regs.ensures args f in (
       past b _ _ _ (room d)
-          (state-is (setup (k d)) _ _ c.set_proc.new.procs _ i.0 (c.set_proc.ensures ∙ ap (set_proc c.forget.new.procs n) (c.record_of.ensures ∙ plan-record c.args.plan.now c.args.name.now))
+          (state-is (setup (k d)) _ _ c.set_proc.new.procs _ i.0 (c.set_proc.ensures ∙ ap (set_proc c.end_process.new.procs n) (c.record_of.ensures ∙ plan-record c.args.plan.now c.args.name.now))
           ∙ ap (λ (x : State). load x n (its (k d)) c.args.name.now args) (left d)),
       past b _ _ _ (room d) (ap Regs i.1),
     )

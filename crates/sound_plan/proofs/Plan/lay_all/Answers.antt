@@ -14,17 +14,17 @@ loop-n-init c = laidto-none _ _ _ (search rules) (search rules)
 pub lay-t-requires : goal.lay-t-requires
 lay-t-requires c =
     let l = c.loop-n in
-    let e : length c.args.procs.all ≡ 16 = search (rules, length-mapped) in (
+    let e : length c.args.procs.now.all ≡ 16 = search (rules, length-mapped) in (
       omega arith,
-      rw (proc-is c.args.procs l.n (omega arith)) (c.requires l.n (omega arith)),
+      rw (proc-is c.args.procs.now l.n (omega arith)) (c.requires l.n (omega arith)),
       l.invariant.bound,
     )
 
 pub loop-n-preserved : goal.loop-n-preserved
 loop-n-preserved c =
     let l = c.loop-n in
-    let e : length c.args.procs.all ≡ 16 = search (rules, length-mapped) in
-    laidto-more _ l.n _ _ _ _ _ _ _ (proc-is c.args.procs l.n (omega arith)) l.invariant c.lay-t.ensures
+    let e : length c.args.procs.now.all ≡ 16 = search (rules, length-mapped) in
+    laidto-more _ l.n _ _ _ _ _ _ _ (proc-is c.args.procs.now l.n (omega arith)) l.invariant c.lay-t.ensures
 
 pub returns : goal.returns
 returns c = laid-all _ _ _ _ c.loop-n.n (omega arith) c.loop-n.invariant
