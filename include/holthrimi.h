@@ -11,8 +11,8 @@
  *   - what is not const overlaps nothing else that the call is given, and nothing else touches it until the call returns;
  *   - a bool is 0 or 1.
  * The library keeps nothing between calls, allocates nothing, and needs memcpy, memmove and memset. It follows the System V calling
- * convention of x86-64, with its red zone and SSE registers. Of stack, push was measured to use 56 KiB, start 52, replace 51,
- * fork 36, break, end and the copies from and to a process 33, fork with a list 28, and the other calls 26
+ * convention of x86-64, with its red zone and SSE registers. Of stack, push was measured to use 49 KiB, start 45, replace 44,
+ * fork 29, break, end and the copies from and to a process 26, fork with a list 22, and the other calls 19
  * (bench/run "" stack).
  *
  * Numbers. A page is 4,096 bytes. The machine's four numbers and the flag table are handed to every call, by value

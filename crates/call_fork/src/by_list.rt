@@ -1,11 +1,10 @@
 // Fork with its list: the parent's recorded segments are lent as a slice of records, as r9's `copy_segments` takes them, and a list
 // unlike the record is refused with 2.
 
-ghost use Rattle.std.specs.Prelude.{◌≡◌, true, not, ◌&&◌, ◌||◌, IfOk, OnOk};
+ghost use Rattle.std.specs.Prelude.{◌≡◌, not, ◌&&◌, ◌||◌, IfOk, OnOk};
 ghost use Rattle.spec.specs.Tests.{◌is◌, ◌⇒◌else◌, same};
 ghost use Rattle.spec.specs.Book.{valid, same_segment, used, proc_at};
 ghost use Rattle.spec.specs.Machine.{fork, plainly, call};
-ghost use Rattle.spec.specs.History.{typed};
 ghost use Rattle.spec.specs.Refusals.{refusal_number, number_of};
 ghost use Rattle.spec.specs.World.{Does, state_of};
 ghost use Rattle.sound.specs.Table.{Zeros, Ready};
@@ -54,7 +53,7 @@ fn list_checked(first: Result<(), Refusal>, torn: bool) -> Result<(), Refusal>
 }
 
 // The parent's record and the call's lookup, or what the fork is refused with: 1, 38, 39, 2 to 5, with 2 for a list unlike the record, and
-// then 33. The lengths of the records' arrays, which their type tells where they are owned, are told here by `typed`.
+// then 33.
 fn list_ready(
     setup: Setup,
     frames: &[u8],
@@ -65,12 +64,12 @@ fn list_ready(
     segments: &[UserSegment],
     lookup: &mut Lookup,
 ) -> Result<Proc, Refusal>
-    requires zeros { Zeros lookup.old }
-    requires types { typed (state_of setup frames.now book.now procs.now) ≡ true }
+    requires { Zeros lookup.old }
     ensures value { number_of result ≡ fork_number (state_of setup frames.now book.now procs.now) number child (same same_segment segments.now (used (proc_at procs.now number).segments)) }
     ensures record_is { IfOk result (λ p. p ≡ proc_at procs.now number) }
     ensures ready { OnOk result (Ready book.now number lookup.new) }
 {
+    sound_records::lengths(*procs);
     let p = recorded(procs, number);
     let first = call_front::numbers::fork_ready(setup, frames, book, procs, number, child, lookup);
     list_checked(first, is_torn(number, segments, &p))?;
@@ -80,7 +79,7 @@ fn list_ready(
     Ok(p)
 }
 
-// A fork as `fork` and `fork_list` make it, in the records where they stand.
+// A fork as `fork` and `fork_list` make it, with the records changed in place.
 pub(crate) fn fork_by(
     setup: Setup,
     frames: &mut [u8],
@@ -90,9 +89,9 @@ pub(crate) fn fork_by(
     child: u64,
     segments: &[UserSegment],
 ) -> Answer
-    requires { typed (state_of setup frames.old book.old procs.old) ≡ true }
     ensures { Does (state_of setup frames.old book.old procs.old) (call number (fork child segments.now)) (state_of setup frames.new book.new procs.new) (plainly result) }
 {
+    sound_records::lengths(*procs);
     let mut lookup = Lookup::new();
     match list_ready(
         setup,

@@ -9,8 +9,7 @@ ghost use Rattle.spec.specs.declared.Answer.TheVariants.{Refused, EndedAt};
 
 use spec::{Answer, Left, Procs, Refusal};
 
-// A process ends, as `bad_address` ends it, in the records where they stand: its frames lose a holder and keep their bytes, and its record
-// is zero.
+// A process ends, as `bad_address` ends it: its frames lose a holder and keep their bytes, and its record is zero, in place.
 pub fn end_process(book: &mut [u64], procs: &mut Procs, number: u64)
     requires { valid number ≡ true }
     ensures { (setup : Setup) (frames : List ℕ) → state_of setup frames book.new procs.new ≡ forget (state_of setup frames book.old procs.old) number }
@@ -19,7 +18,7 @@ pub fn end_process(book: &mut [u64], procs: &mut Procs, number: u64)
     crate::record::set_proc(procs, number, crate::record::zero_proc());
 }
 
-// The same, with the records handed back by value.
+// The same, but it hands back the records, and leaves those that it took.
 pub fn forget(book: &mut [u64], procs: &Procs, number: u64) -> Procs
     requires { valid number ≡ true }
     ensures { (setup : Setup) (frames : List ℕ) → state_of setup frames book.new result ≡ forget (state_of setup frames book.old procs.now) number }

@@ -1,5 +1,5 @@
 // The records of processes: whether one lives, one read and set, and the pages of its bss. Every call takes all records by value and
-// hands them back, so that what a call does to them is one equation; its steps take them by reference.
+// hands them back, so that what a call does to them is one equation; most of its steps take them by reference.
 
 ghost use Rattle.std.specs.Prelude.{◌≡◌, ◌&&◌, true, ◌^◌, ◌<◌};
 ghost use Rattle.spec.specs.Numbers.{page_up};
@@ -23,7 +23,7 @@ pub fn proc_at(procs: &Procs, number: u64) -> Proc
     procs.all[(number - 1) as usize]
 }
 
-// Sets the record of process `number`, where the records stand.
+// Sets the record of process `number`, in place.
 pub fn set_proc(procs: &mut Procs, number: u64, p: Proc)
     requires { valid number ≡ true }
     ensures { procs.new ≡ set_proc procs.old number p }

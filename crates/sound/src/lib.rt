@@ -43,16 +43,17 @@ impl Lookup {
 
 // Is the book sound? If so, `lookup` holds the plan and the frame of each page of process `number`, for the rest of the call; if not,
 // what it holds means nothing, and `prepare` clears it. It comes in as zeros.
-fn is_sound(setup: Setup, book: &[u64], procs: Procs, number: u64, lookup: &mut Lookup) -> bool
+fn is_sound(setup: Setup, book: &[u64], procs: &Procs, number: u64, lookup: &mut Lookup) -> bool
     requires book_len_bound { (length book.now ≤ 17408) × Zeros lookup.old }
     requires setup_ok { SetupOk setup }
-    ensures value { result ≡ sound_book setup book.now procs }
-    ensures filled { result ≡ true → Filled book.now procs number lookup.new }
+    ensures value { result ≡ sound_book setup book.now procs.now }
+    ensures filled { result ≡ true → Filled book.now procs.now number lookup.new }
 {
-    if !sound_records::records_ok(setup, &procs) {
+    sound_records::lengths(*procs);
+    if !sound_records::records_ok(setup, procs) {
         return false;
     }
-    let total = lookup.plan.lay_all(&procs);
+    let total = lookup.plan.lay_all(procs);
     let places = 16 * (book.len() / 17) as u64;
     if places < total {
         return false;
@@ -74,7 +75,7 @@ pub fn prepare(
     ensures leaves { Leaves (number_of result) book.now procs.now number lookup.new }
 {
     setup::check(setup)?;
-    if !is_sound(setup, book, *procs, number, lookup) {
+    if !is_sound(setup, book, procs, number, lookup) {
         *lookup = Lookup::new();
         return Err(Refusal::Torn);
     }

@@ -60,9 +60,10 @@ impl Plan {
         requires { (i : ℕ) → i < 16 → SmallParts (proc_at procs.now (i + 1)) }
         ensures { LaidAll procs.now self.new.tags self.new.bases result }
     {
+        sound_records::lengths(*procs);
         let mut t = 0;
-        for n in 0..16 {
-            t = self.lay(&procs.all[n], n, t);
+        for (n, p) in procs.all.iter().enumerate() {
+            t = self.lay(p, n, t);
         }
         self.bases[272] = t;
         t

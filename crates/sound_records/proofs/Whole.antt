@@ -49,3 +49,7 @@ whole-procs ps us s l = record {
       (λ q. each-whole ps.all us s i (ltb-true _ _ q))
       (λ q. rw (get_or-eq_default ps.all zero_proc (ltb-false _ _ q)) zero-whole);
 }
+
+-- as `lengths` tells it
+pub whole-told : (ps : Procs) → length ps.all ≡ 16 → ((i : ℕ) → (length (get_or ps.all i zero_proc).segments ≡ 16) × (length (get_or ps.all i zero_proc).text ≡ 28)) → Whole ps
+whole-told ps long each = record { records = long; each = λ i. record { segments = (each i).0; text = (each i).1 } }

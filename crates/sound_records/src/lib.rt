@@ -3,13 +3,21 @@
 
 #![tactic(auto)]
 
-ghost use Rattle.std.specs.Prelude.{◌≡◌, not};
+ghost use Rattle.std.specs.Prelude.{◌≡◌, not, ℕ, length, get_or};
 ghost use Rattle.spec.specs.Tests.{◌is◌, all};
-ghost use Rattle.spec.specs.Book.{unused, lives as livesOf};
+ghost use Rattle.spec.specs.Book.{unused, lives as livesOf, zero_proc};
 ghost use Rattle.spec.specs.Sound.{bss_ok};
 ghost use Rattle.sound_records.specs.Records.{image_test, shaped, passes};
 
 use spec::{DATA, Proc, Procs, Setup, TEXT, UserSegment, VirtRange};
+
+// How long the records' arrays are. It does nothing: an owned value's type tells it to a proof, and a reference's does not.
+pub fn lengths(procs: Procs)
+    ensures records { length procs.all ≡ 16 }
+    ensures each { (i : ℕ) → (length (get_or procs.all i zero_proc).segments ≡ 16) × (length (get_or procs.all i zero_proc).text ≡ 28) }
+{
+    let _ = procs;
+}
 
 // Whether all of some places of a record are unused.
 fn all_unused(segments: &[UserSegment]) -> bool

@@ -6,15 +6,7 @@ use Rattle.spec.specs.Machine.{fork, plainly, call}
 use Rattle.spec.specs.World.{Does, state_of}
 use Rattle.spec.specs.declared.Proc.{Proc}
 use Rattle.spec.specs.declared.UserSegment.{UserSegment}
-use Rattle.spec_laws.proofs.Record.{whole_typed}
-use Rattle.sound_records.proofs.Whole.{whole-procs}
 use Rattle.call_fork.proofs.fork.Goals as goal
-
-pub fork_by-answer-requires : goal.fork_by-answer-requires
-fork_by-answer-requires c =
-    let a = c.args in
-    let g = c.well_formed.1.1.1.0.1.1.0 in
-    whole_typed (state_of a.setup a.frames.now a.book.now a.procs) (whole-procs a.procs g.0 g.1.1 g.1.0.1)
 
 pub returns : goal.returns
 returns c =

@@ -6,7 +6,8 @@ use Rattle.spec.specs.Book.{same_segment, used, proc_at}
 use Rattle.spec.specs.Frames.{store}
 use Rattle.spec.specs.World.{State, state_of, set_proc}
 use Rattle.spec_laws.proofs.Held.{valid-low, valid-high}
-use Rattle.spec_laws.proofs.Record.{Whole, typed-whole}
+use Rattle.spec_laws.proofs.Record.{Whole}
+use Rattle.sound_records.proofs.Whole.{whole-told}
 use Rattle.call_front.specs.Numbers.{fork_error}
 use Rattle.call_front.proofs.FirstNumbers.{Forks, fork-none}
 use Rattle.call_front.proofs.States.{state-is}
@@ -35,7 +36,7 @@ module _ (c : In-Ok) where
   forks = fork-none state c.args.number c.args.child none.0
 
   whole : Whole c.args.procs.now
-  whole = typed-whole state c.requires
+  whole = whole-told c.args.procs.now c.lengths.ensures.records c.lengths.ensures.each
 
 pub share_pages-requires : goal.share_pages-requires
 share_pages-requires c =

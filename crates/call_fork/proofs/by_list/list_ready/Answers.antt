@@ -13,7 +13,8 @@ use Rattle.spec.specs.declared.UserSegment.{UserSegment}
 use Rattle.spec.specs.declared.Proc.{Proc}
 use Rattle.spec.proofs.Refused.{refused-not-0}
 use Rattle.spec.proofs.Setups.{setup-means}
-use Rattle.spec_laws.proofs.Record.{Whole, typed-whole}
+use Rattle.spec_laws.proofs.Record.{Whole}
+use Rattle.sound_records.proofs.Whole.{whole-told}
 use Rattle.sound.proofs.LookedUp.{ready_of}
 use Rattle.call_front.proofs.FirstNumbers.{Forks, fork-none}
 use Rattle.call_front.proofs.Living.{living-shape}
@@ -52,7 +53,7 @@ module _ (c : In_ok-list_checked) where
   forks = fork-none (state at) c.args.number c.args.child (list-none (state at) c.args.number c.args.child (alike at) (sym none))
 
   whole : Whole c.args.procs.now
-  whole = typed-whole (state at) c.requires.types
+  whole = whole-told c.args.procs.now c.lengths.ensures.records c.lengths.ensures.each
 
   shape : (image : List UserSegment) × Shape c.args.setup (proc_at c.args.procs.now c.args.number) image
   shape = living-shape (state at) c.args.number true whole forks.passed forks.parent
